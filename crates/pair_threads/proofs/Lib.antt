@@ -1,4 +1,5 @@
 pub mod Serving
+pub mod Carrying
 pub mod Screens
 pub mod Repeating
 pub mod Leading

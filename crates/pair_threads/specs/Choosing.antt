@@ -1,5 +1,5 @@
 -- What the workers choose: what comes next, how much of it, and when.
-use Rattle.std.specs.Prelude.{◌≡◌, ℕ, zero, suc, ◌+◌, ◌-◌, ◌/◌, ◌%◌, ◌^◌, ◌==◌, ◌||◌, ◌&&◌, not, nat_lt, nat_le, min, Bool, true, false, if◌then◌else◌, Option, Some, None, is_some, is_none, option_map, option_and_then, Result, Ok, Err, List, vec_len, length}
+use Rattle.std.specs.Prelude.{ℕ, zero, suc, ◌+◌, ◌-◌, ◌/◌, ◌%◌, ◌^◌, ◌==◌, ◌||◌, ◌&&◌, not, nat_lt, nat_le, min, Bool, true, false, if◌then◌else◌, Option, Some, None, is_some, is_none, option_map, option_and_then, Result, Ok, Err, List, vec_len, length}
 use Rattle.std.specs.List.{find}
 use Rattle.disk_dcdd.specs.declared.address.SectorAddress.{SectorAddress}
 use Rattle.disk_dcdd.specs.declared.sector.SectorWrite.{SectorWrite}
@@ -15,6 +15,7 @@ use Rattle.pair_threads.specs.declared.chore.Chore.{Chore}
 use Rattle.pair_threads.specs.declared.chore.Chore.TheVariants.{See, Emit, Count, Accept, Key, Ask, Answer, Complete, Post, Run}
 use Rattle.pair_threads.specs.declared.gate.Who.{Who}
 use Rattle.pair_threads.specs.declared.gate.Who.TheVariants.{Primary, Backup}
+use Rattle.pair_threads.specs.declared.port_inputs.PortInputs.{PortInputs}
 use Rattle.pair_threads.specs.declared.primary.PrimaryWorker.{PrimaryWorker}
 use Rattle.pair_threads.specs.declared.worker.Turn.{Turn}
 use Rattle.pair_threads.specs.declared.worker.Turn.TheVariants.{Moved, Looks, Waits}
@@ -114,6 +115,19 @@ may_emit M s port w = is_covered w && is_some (due_byte M s port (counted_of por
 -- of how many accepted bytes of a port its guest was told
 abbrev pub accepted_of : {B : Type 0} → ℕ → PrimaryWorker B → ℕ
 accepted_of port w = if port == 0 then w.port0.accepted else w.port1.accepted
+
+-- the byte to give at a port, with its number
+abbrev pub to_emit : {B S : Type 0} → Machine S → S → ℕ → PrimaryWorker B → Option (ℕ × ℕ)
+to_emit M s port w = if is_covered w then due_byte M s port (counted_of port w) else None
+
+-- which byte of a port it has given last
+abbrev pub emitted_of : {B : Type 0} → ℕ → PrimaryWorker B → ℕ
+emitted_of port w = if port == 0 then w.emitted0 else w.emitted1
+
+-- what it keeps of the other port: what its guest took there, how many bytes it saw accepted, and which it has given last
+abbrev pub at_other : {B : Type 0} → ℕ → PrimaryWorker B → PortInputs × ℕ × ℕ
+at_other port w =
+    if port == 0 then (w.port1, w.counted1, w.emitted1) else (w.port0, w.counted0, w.emitted0)
 
 -- the acceptance of a byte is taken at once: only while an entry waits for the list, while a byte of the port may be given,
 -- if no more bytes were seen accepted than the guest was told of, or if the guest has sent none

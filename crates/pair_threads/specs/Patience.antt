@@ -3,13 +3,14 @@ use Rattle.std.specs.Prelude.{◌≡◌, ◌⊎◌, ◌↔◌, ℕ, ◌+◌, ◌
 use Rattle.std.specs.Time.{instant_nanos}
 use Rattle.std.specs.declared.time.Instant.{Instant}
 use Rattle.pair_threads.specs.declared.gate.Who.{Who}
-use Rattle.pair_threads.specs.declared.gate.Who.TheVariants.{Link}
+use Rattle.pair_threads.specs.declared.gate.Who.TheVariants.{Primary, Backup, Link}
 use Rattle.pair_threads.specs.declared.pace.Pace.{Pace}
 use Rattle.pair_threads.specs.declared.port_inputs.PortInputs.{PortInputs}
 use Rattle.pair_threads.specs.declared.primary.PrimaryWorker.{PrimaryWorker}
 use Rattle.pair_threads.specs.declared.recording.Recording.{Recording}
 use Rattle.pair_threads.specs.declared.rest.Rest.{Rest}
 use Rattle.pair_threads.specs.declared.rest.Rest.TheVariants.{Yield, Sleep}
+use Rattle.pair_threads.specs.declared.signals.Told.{Told}
 use Rattle.pair_threads.specs.declared.worker.Turn.{Turn}
 use Rattle.pair_threads.specs.declared.worker.Turn.TheVariants.{Moved, Looks, Waits, Ends}
 use Rattle.pair_threads.specs.declared.yields.LongYield.{LongYield}
@@ -31,6 +32,16 @@ is_held_up w = w.held_up || has_keys w.port0 || has_keys w.port1
 abbrev pub is_progress : Who → Bool
 is_progress Link = false
 is_progress who = true
+
+-- the mark that a worker sets when it is at its end, one for each of the nodes; the others set none
+abbrev pub end_mark : Who → ℕ
+end_mark Primary = 1
+end_mark Backup = 2
+end_mark who = 0
+
+-- who is at its end, by the marks of all that are
+abbrev pub told_by : ℕ → Told
+told_by marks = record { primary_ended = marks % 2 == 1; backup_ended = (marks / 2) % 2 == 1 }
 
 -- a worker says that it made progress when it goes on after a wait, and once in 64 of its turns
 abbrev pub is_noted : Bool → ℕ → Bool

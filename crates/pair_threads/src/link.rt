@@ -1,9 +1,10 @@
 //! The link's worker: it delivers packets, loses them, and delivers them twice.
-ghost use Rattle.std.specs.Prelude.{◌≡◌, ◌<◌, ◌^◌, IsTrue, Some};
+ghost use Rattle.std.specs.Prelude.{◌≡◌, ◌<◌, ◌^◌, false, is_some, None, Some};
 ghost use Rattle.pair_rule.specs.Seats.{swaps_at};
-ghost use Rattle.pair_rule.specs.declared.mailbox.Mailbox.TheVariants.{Inbox};
+ghost use Rattle.pair_rule.specs.declared.mailbox.Mailbox.TheVariants.{Inbox, Outbox};
 ghost use Rattle.pair_rule.specs.declared.payload.Packet.{Packet};
-ghost use Rattle.pair_threads.specs.Fates.{IsDealtWith, fate_at};
+ghost use Rattle.pair_threads.specs.Fates.{HasTaken, IsDealtWith, fate_at};
+ghost use Rattle.pair_threads.specs.Turns.{turn_by};
 
 use crate::signals::Told;
 use crate::worker::{Turn, Worker};
@@ -34,7 +35,7 @@ pub(crate) struct LinkWorker {
 
 impl LinkWorker {
     pub(crate) fn new(seat: LinkSeat, fates: Vec<Fate>) -> LinkWorker
-        ensures { result.seat ≡ seat }
+        ensures { (result.seat ≡ seat) × (result.fates ≡ fates) × (result.packets ≡ 0) × (result.fate ≡ None) }
     {
         LinkWorker {
             seat,
@@ -44,11 +45,29 @@ impl LinkWorker {
         }
     }
 
+    // Takes the next packet out, if one lies in the outbox.
+    fn take(&mut self, fabric: &Fabric) -> Turn
+        requires table { self.old.seat.table ≡ fabric.now }
+        requires few { swaps_at self.old.seat.core.empties Outbox < 2 ^ 40 }
+        requires none { (self.old.fate ≡ None) × (self.old.seat.hand ≡ None) }
+        ensures table { self.new.seat.table ≡ self.old.seat.table }
+        ensures taken { HasTaken self.old self.new }
+        ensures turn { result ≡ turn_by false (is_some self.new.fate) }
+    {
+        if !self.seat.carry_out(fabric) {
+            return Turn::Waits;
+        }
+        self.fate = Some(fate_of(&self.fates, self.packets));
+        self.packets = self.packets.saturating_add(1);
+        Turn::Moved
+    }
+
     // Does with the packet in the seat's hand what its fate says.
     fn deal(&mut self, fabric: &Fabric, fate: Fate)
         requires table { self.old.seat.table ≡ fabric.now }
         requires few { swaps_at self.old.seat.core.fills Inbox < 2 ^ 40 }
         ensures table { self.new.seat.table ≡ self.old.seat.table }
+        ensures same { (self.new.fates ≡ self.old.fates) × (self.new.packets ≡ self.old.packets) }
         ensures dealt { (p : Packet) → self.old.seat.hand ≡ Some p
             → IsDealtWith fate p self.old.seat self.new.seat self.new.fate }
     {
@@ -75,11 +94,11 @@ fn fate_of(fates: &[Fate], packet: usize) -> Fate
 
 impl Worker for LinkWorker {
     ghost use Rattle.std.specs.Prelude.{◌≡◌, ◌&&◌, is_some, false};
-    ghost use Rattle.pair_threads.specs.Turns.{turn_by};
+    ghost use Rattle.pair_threads.specs.Fates.{HasCarried};
 
     ghost table = { λ w. w.seat.table };
 
-    ghost ready = { λ w. Unit {0} };
+    ghost ready = { λ w. is_some w.fate ≡ is_some w.seat.hand };
 
     ghost came = { λ first w. Unit {0} };
 
@@ -87,7 +106,7 @@ impl Worker for LinkWorker {
 
     ghost asks = { λ old number new. Unit {0} };
 
-    ghost turned = { λ old number new turn. turn ≡ turn_by (is_some old.fate) (is_some new.fate) };
+    ghost turned = { λ old number new turn. HasCarried old new turn };
 
     ghost ends_by = { λ w told. told.primary_ended && told.backup_ended };
 
@@ -97,16 +116,13 @@ impl Worker for LinkWorker {
         if !self.seat.has_swaps_left() {
             return Err(Fault::Stalled);
         }
-        let Some(fate) = self.fate else {
-            if !self.seat.carry_out(fabric) {
-                return Ok(Turn::Waits);
+        match self.fate {
+            Some(fate) => {
+                self.deal(fabric, fate);
+                Ok(Turn::Moved)
             }
-            self.fate = Some(fate_of(&self.fates, self.packets));
-            self.packets = self.packets.saturating_add(1);
-            return Ok(Turn::Moved);
-        };
-        self.deal(fabric, fate);
-        Ok(Turn::Moved)
+            None => Ok(self.take(fabric)),
+        }
     }
 
     fn may_end(&self, told: Told) -> bool {

@@ -31,7 +31,8 @@ pub(crate) struct PrimaryWorker<B> {
     full: bool,
     // How many entries were posted once, and which byte of each port was given last.
     posted: u64,
-    emitted: [u64; 2],
+    emitted0: u64,
+    emitted1: u64,
     // Whether the disk was asked and its answer has not come, and what it answered and the guest has not taken.
     asked: bool,
     answer: Option<DiskAnswer>,
@@ -40,6 +41,7 @@ pub(crate) struct PrimaryWorker<B> {
     // How many steps the guest was at when it took its last key.
     key_count: u64,
     chore: Chore,
+    // Whether it is port 1's turn, and how many turns changed nothing in a row.
     second: bool,
     fruitless: u8,
     // Whether its guest was held up after its last run.

@@ -1,9 +1,9 @@
 //! What the workers tell each other besides the table. No contract rests on it.
 ghost use Rattle.std.specs.Prelude.{◌≡◌, nat_le};
-ghost use Rattle.pair_threads.specs.Patience.{is_progress};
+ghost use Rattle.pair_threads.specs.Patience.{end_mark, is_progress, told_by};
 
 use crate::gate::Who;
-use std::sync::atomic::{AtomicBool, AtomicU64, Ordering};
+use std::sync::atomic::{AtomicBool, AtomicU8, AtomicU64, Ordering};
 
 // How many workers there are.
 const WORKERS: u64 = 5;
@@ -13,8 +13,8 @@ const WORKERS: u64 = 5;
 #[derive(Drop)]
 pub struct Signals {
     begun: AtomicU64,
-    primary: AtomicBool,
-    backup: AtomicBool,
+    // The marks of those that are at their ends.
+    ended: AtomicU8,
     held_up: AtomicBool,
     failed: AtomicBool,
     moves: AtomicU64,
@@ -32,8 +32,7 @@ impl Signals {
     pub fn new() -> Signals {
         Signals {
             begun: AtomicU64::new(0),
-            primary: AtomicBool::new(false),
-            backup: AtomicBool::new(false),
+            ended: AtomicU8::new(0),
             held_up: AtomicBool::new(false),
             failed: AtomicBool::new(false),
             moves: AtomicU64::new(0),
@@ -52,10 +51,7 @@ impl Signals {
 
     /// Which of the nodes are at their ends.
     pub fn told(&self) -> Told {
-        Told {
-            primary_ended: self.primary.load(Ordering::SeqCst),
-            backup_ended: self.backup.load(Ordering::SeqCst),
-        }
+        told_by(self.ended.load(Ordering::SeqCst))
     }
 
     /// A guest is held up, or is no longer.
@@ -75,11 +71,7 @@ impl Signals {
 
     /// A worker is at its end. The others need not know this of link, terminals and disk.
     pub fn ends(&self, who: Who) {
-        match who {
-            Who::Primary => self.primary.store(true, Ordering::SeqCst),
-            Who::Backup => self.backup.store(true, Ordering::SeqCst),
-            Who::Link | Who::Terminal | Who::Disk => {}
-        }
+        let _ = self.ended.fetch_or(end_mark(who), Ordering::SeqCst);
     }
 
     /// The run has failed.
@@ -105,6 +97,27 @@ fn are_all(begun: u64) -> bool
     ensures { result ≡ nat_le 5 begun }
 {
     begun >= WORKERS
+}
+
+// The mark of a worker that is at its end.
+fn end_mark(who: Who) -> u8
+    ensures { result ≡ end_mark who }
+{
+    match who {
+        Who::Primary => 1,
+        Who::Backup => 2,
+        Who::Link | Who::Terminal | Who::Disk => 0,
+    }
+}
+
+// Which of the nodes are at their ends, by the marks of all that are.
+fn told_by(marks: u8) -> Told
+    ensures { result ≡ told_by marks }
+{
+    Told {
+        primary_ended: marks % 2 == 1,
+        backup_ended: marks / 2 % 2 == 1,
+    }
 }
 
 // Whether what a worker does is progress.

@@ -1,7 +1,8 @@
 //! What all workers have in common, and the loop that serves each of them.
-ghost use Rattle.std.specs.Prelude.{◌≡◌, IfErr, IfOk, IsTrue, OnOk};
+ghost use Rattle.std.specs.Prelude.{◌≡◌, ◌<◌, ℕ, IfErr, IfOk, IsTrue, OnOk};
 ghost use Rattle.pair_threads.specs.Choosing.{turns_of};
 ghost use Rattle.pair_threads.specs.Ending.{IsEnding};
+ghost use Rattle.pair_threads.specs.Served.{HasGoneOn, HasHadTurns, LeavesAs, next_after};
 ghost use Rattle.pair_threads.specs.Turns.{Leaves};
 
 use crate::gate::{Gate, Who};
@@ -105,6 +106,63 @@ fn turns_of(who: Who, turns: u64) -> u64
     }
 }
 
+/// What a worker does after a turn.
+#[derive(Clone, Copy, PartialEq, Eq)]
+pub(crate) enum Next {
+    /// It has another turn.
+    GoesOn,
+    /// It is at its end.
+    Ends,
+    /// It gives the run up.
+    GivesUp,
+}
+
+// What a worker does after such a turn, by whether it goes on.
+fn next_after(turn: Turn, goes_on: bool) -> Next
+    ensures { result ≡ next_after turn goes_on }
+{
+    match (turn, goes_on) {
+        (Turn::Ends, _) => Next::Ends,
+        (_, true) => Next::GoesOn,
+        (_, false) => Next::GivesUp,
+    }
+}
+
+// Has the turn of this number, tells the others whether the worker's guest is held up if that has changed, and goes on as after
+// such a turn.
+fn take_turn<C: Clock, W: Worker, G: Gate>(
+    clock: &C,
+    worker: &mut W,
+    pace: &mut Pace,
+    held_up: &mut bool,
+    who: Who,
+    number: u64,
+    fabric: &Fabric,
+    gate: &G,
+    signals: &Signals,
+    contested: bool,
+) -> R<Next>
+    requires left { 0 < pace.old.left }
+    requires table { W.table worker.old ≡ fabric.now }
+    requires ready { W.ready worker.old }
+    ensures table { W.table worker.new ≡ fabric.now }
+    ensures came { (first : W) → W.came first worker.old → OnOk result (W.came first worker.new) }
+    ensures leaves { IfOk result (λ next. LeavesAs next (W.ready worker.new) (W.ended worker.new)) }
+    ensures turned { IfOk result (HasGoneOn W.turned contested number worker.old worker.new pace.old pace.new) }
+    ensures held_up { OnOk result (held_up.new ≡ W.needs_others worker.new) }
+    ensures refused { IfErr result IsEnding }
+{
+    let turn = worker.turn(fabric, number);
+    gate.leave(who, number);
+    if worker.is_held_up() != *held_up {
+        *held_up = !*held_up;
+        signals.holds_up(*held_up);
+    }
+    let turn = turn?;
+    let goes_on = pace.goes_on(clock, signals, who, contested, turn);
+    Ok(next_after(turn, goes_on))
+}
+
 /// Lets a worker have its turns, until it is at its end. `Stalled` if it is not at its end after all of them, if no worker
 /// makes progress, if the gate ends the run, or if another worker has failed; `OutOfMemory` if the others have no threads.
 pub(crate) fn serve<C: Clock, W: Worker, G: Gate>(
@@ -123,6 +181,7 @@ pub(crate) fn serve<C: Clock, W: Worker, G: Gate>(
     ensures table { W.table result.0 ≡ fabric.now }
     ensures came { OnOk result.1 (W.came worker result.0) }
     ensures ended { OnOk result.1 (W.ended result.0) }
+    ensures turns { OnOk result.1 ((n : ℕ) × HasHadTurns W.turned worker n result.0) }
     ensures refused { IfErr result.1 IsEnding }
 {
     signals.begins();
@@ -143,22 +202,24 @@ pub(crate) fn serve<C: Clock, W: Worker, G: Gate>(
         if !gate.enter(who, number) {
             break;
         }
-        let turn = worker.turn(fabric, number);
-        gate.leave(who, number);
-        if worker.is_held_up() != held_up {
-            held_up = !held_up;
-            signals.holds_up(held_up);
-        }
-        match turn {
-            Ok(Turn::Ends) => {
+        match take_turn(
+            clock,
+            &mut worker,
+            &mut pace,
+            &mut held_up,
+            who,
+            number,
+            fabric,
+            gate,
+            signals,
+            contested,
+        ) {
+            Ok(Next::GoesOn) => {}
+            Ok(Next::Ends) => {
                 signals.ends(who);
                 return (worker, Ok(()));
             }
-            Ok(turn) => {
-                if !pace.goes_on(clock, signals, who, contested, turn) {
-                    break;
-                }
-            }
+            Ok(Next::GivesUp) => break,
             Err(fault) => {
                 signals.fails();
                 return (worker, Err(fault));

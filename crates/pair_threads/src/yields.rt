@@ -1,6 +1,5 @@
 //! How a worker finds out that the machine is busy: its yields take long.
-ghost use Rattle.std.specs.Prelude.{◌≡◌, None, Option};
-ghost use Rattle.std.specs.declared.time.Instant.{Instant};
+ghost use Rattle.std.specs.Prelude.{◌≡◌, None};
 ghost use Rattle.pair_threads.specs.Patience.{is_busy, micros_between, yields_after};
 
 use crate::rest::Rest;

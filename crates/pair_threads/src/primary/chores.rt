@@ -1,14 +1,14 @@
 //! The chores of a primary's worker at its guest, the link and the terminals.
-ghost use Rattle.std.specs.Prelude.{◌≡◌, ◌⊎◌, ◌≢◌, ◌+◌, ◌<◌, ◌≤◌, ◌↔◌, ◌&&◌, cond, false, true, nat_lt, if◌then◌else◌, is_some, IfErr, IfSome, IsSome, IsTrue, None, OnOk, Some, length};
+ghost use Rattle.std.specs.Prelude.{◌≡◌, ◌⊎◌, ◌≢◌, ◌+◌, ◌<◌, ◌≤◌, ◌↔◌, ◌&&◌, ◌==◌, cond, false, true, nat_lt, if◌then◌else◌, is_some, IfErr, IfSome, IsSome, IsTrue, None, OnOk, Some, length};
 ghost use Rattle.event_callbacks.specs.declared.devices.TheConstants.{PORTS};
 ghost use Rattle.event_callbacks.specs.declared.operations.OpId.TheVariants as id;
 ghost use Rattle.event_callbacks.specs.declared.operations.Operation.TheVariants.{Byte};
 ghost use Rattle.guest_lockstep.specs.Lockstep.{step_refusal};
 ghost use Rattle.i8080_words.specs.declared.refusal.Fault.TheVariants.{OutOfMemory, Stalled};
 ghost use Rattle.pair_rule.specs.Seats.{HasSwapsLeft};
-ghost use Rattle.pair_threads.specs.Choosing.{accepted_of, counted_of, due_byte, in_flight, may_accept, may_emit, post_next, steps_by};
+ghost use Rattle.pair_threads.specs.Choosing.{accepted_of, at_other, counted_of, due_byte, in_flight, may_accept, may_emit, post_next, steps_by, to_emit};
 ghost use Rattle.pair_threads.specs.Patience.{guest_is_held_up};
-ghost use Rattle.pair_threads.specs.Primary.{IsAtRest, Works};
+ghost use Rattle.pair_threads.specs.Primary.{Emits, HasTakenKeys, IsAtRest, Works};
 ghost use Rattle.pair_threads.specs.Turns.{RunsFor};
 
 use super::PrimaryWorker;
@@ -121,6 +121,7 @@ impl<B: Lockstep> PrimaryWorker<B> {
     pub(super) fn take_key(&mut self, port: u8) -> bool
         requires port { port < PORTS }
         ensures works { Works B.state B.machine self.old self.new }
+        ensures taken { HasTakenKeys port self.old self.new (cond result 1 0) }
         ensures time { result ≡ true → self.old.key_count ≤ B.machine.count (B.state self.old.guest.board) }
         ensures next { result ≡ true
             → self.new.key_count ≡ B.machine.count (B.state self.old.guest.board) + 300 }
@@ -151,6 +152,7 @@ impl<B: Lockstep> PrimaryWorker<B> {
         requires free { self.old.guest.waiting ≡ None }
         requires port { port < PORTS }
         ensures works { Works B.state B.machine self.old self.new }
+        ensures taken { HasTakenKeys port self.old self.new (cond result 1 0) }
     {
         if port == 0 {
             self.take_key0()
@@ -163,6 +165,7 @@ impl<B: Lockstep> PrimaryWorker<B> {
     fn take_key0(&mut self) -> bool
         requires free { self.old.guest.waiting ≡ None }
         ensures works { Works B.state B.machine self.old self.new }
+        ensures taken { HasTakenKeys 0 self.old self.new (cond result 1 0) }
     {
         let Some(byte) = self.port0.next() else {
             return false;
@@ -178,6 +181,7 @@ impl<B: Lockstep> PrimaryWorker<B> {
     fn take_key1(&mut self) -> bool
         requires free { self.old.guest.waiting ≡ None }
         ensures works { Works B.state B.machine self.old self.new }
+        ensures taken { HasTakenKeys 1 self.old self.new (cond result 1 0) }
     {
         let Some(byte) = self.port1.next() else {
             return false;
@@ -196,6 +200,7 @@ impl<B: Lockstep> PrimaryWorker<B> {
         requires swaps { HasSwapsLeft self.old.seat.core }
         requires port { port < PORTS }
         ensures works { Works B.state B.machine self.old self.new }
+        ensures given { Emits (to_emit B.machine (B.state self.old.guest.board) port self.old) port self.old self.new result }
     {
         match self.due_byte(port) {
             Some((number, byte)) if self.is_covered() => self.give(fabric, port, number, byte),
@@ -223,11 +228,25 @@ impl<B: Lockstep> PrimaryWorker<B> {
         requires due { B.machine.find (B.state self.old.guest.board) (id.Byte port number) ≡ Some (Byte port number byte) }
         requires covered { (self.old.guest.waiting ≡ None) × (self.old.seen ≡ length self.old.list.items) }
         ensures works { Works B.state B.machine self.old self.new }
+        ensures given { Emits (Some (number, byte)) port self.old self.new result }
     {
+        let (is_new, emitted0, emitted1) = self.emitted_with(port, number);
         self.seat.emit(fabric, port, number, byte);
-        let is_new = number > self.emitted[port as usize];
-        self.emitted[port as usize] = number;
+        self.emitted0 = emitted0;
+        self.emitted1 = emitted1;
         is_new
+    }
+
+    // Whether the byte of this number is new at a port, and which byte of each port is then the last one given.
+    fn emitted_with(&self, port: u8, number: u64) -> (bool, u64, u64)
+        ensures { result ≡ (if port == 0 then (nat_lt self.now.emitted0 number, number, self.now.emitted1)
+            else (nat_lt self.now.emitted1 number, self.now.emitted0, number)) }
+    {
+        if port == 0 {
+            (self.emitted0 < number, number, self.emitted1)
+        } else {
+            (self.emitted1 < number, self.emitted0, number)
+        }
     }
 
     // How many bytes of a port are accepted, as last seen.
@@ -247,6 +266,8 @@ impl<B: Lockstep> PrimaryWorker<B> {
         requires before { self.old.seat.core.known.primary.winner ≡ 0 }
         requires port { port < PORTS }
         ensures works { Works B.state B.machine self.old self.new }
+        ensures changed { IsTrue result ↔ (counted_of port self.new ≢ counted_of port self.old) }
+        ensures other { at_other port self.new ≡ at_other port self.old }
     {
         if self.guest.board.due_byte(port).is_none() {
             return false;
@@ -263,6 +284,7 @@ impl<B: Lockstep> PrimaryWorker<B> {
         requires table { self.old.seat.table ≡ fabric.now }
         requires before { self.old.seat.core.known.primary.winner ≡ 0 }
         ensures works { Works B.state B.machine self.old self.new }
+        ensures other { at_other 0 self.new ≡ at_other 0 self.old }
         ensures changed { IsTrue result ↔ (self.new.counted0 ≢ self.old.counted0) }
     {
         let before = self.counted0;
@@ -275,6 +297,7 @@ impl<B: Lockstep> PrimaryWorker<B> {
         requires table { self.old.seat.table ≡ fabric.now }
         requires before { self.old.seat.core.known.primary.winner ≡ 0 }
         ensures works { Works B.state B.machine self.old self.new }
+        ensures other { at_other 1 self.new ≡ at_other 1 self.old }
         ensures changed { IsTrue result ↔ (self.new.counted1 ≢ self.old.counted1) }
     {
         let before = self.counted1;
@@ -289,6 +312,7 @@ impl<B: Lockstep> PrimaryWorker<B> {
         ensures works { Works B.state B.machine self.old self.new }
         ensures taken { result ≡ may_accept B.machine (B.state self.old.guest.board) port self.old }
         ensures told { accepted_of port self.new ≡ accepted_of port self.old + cond result 1 0 }
+        ensures other { at_other port self.new ≡ at_other port self.old }
     {
         if self.guest.waiting.is_some() {
             return false;
@@ -318,6 +342,7 @@ impl<B: Lockstep> PrimaryWorker<B> {
         ensures taken { result ≡ (nat_lt self.old.port0.accepted self.old.counted0
             && is_some (B.machine.due_byte (B.state self.old.guest.board) 0)) }
         ensures told { self.new.port0.accepted ≡ self.old.port0.accepted + cond result 1 0 }
+        ensures other { at_other 0 self.new ≡ at_other 0 self.old }
     {
         if self.port0.accepted >= self.counted0 {
             return false;
@@ -336,6 +361,7 @@ impl<B: Lockstep> PrimaryWorker<B> {
         ensures taken { result ≡ (nat_lt self.old.port1.accepted self.old.counted1
             && is_some (B.machine.due_byte (B.state self.old.guest.board) 1)) }
         ensures told { self.new.port1.accepted ≡ self.old.port1.accepted + cond result 1 0 }
+        ensures other { at_other 1 self.new ≡ at_other 1 self.old }
     {
         if self.port1.accepted >= self.counted1 {
             return false;

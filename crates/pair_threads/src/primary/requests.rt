@@ -1,5 +1,5 @@
 //! The chores of a primary's worker at the disk.
-ghost use Rattle.std.specs.Prelude.{◌≡◌, ◌≢◌, ◌<◌, ◌↔◌, Some, IfSome, IsTrue};
+ghost use Rattle.std.specs.Prelude.{◌≡◌, ◌≢◌, ◌<◌, ◌↔◌, true, Some, IfSome, IsTrue};
 ghost use Rattle.disk_dcdd.specs.declared.controller.TheConstants.{DRIVES};
 ghost use Rattle.disk_dcdd.specs.declared.sector.TheConstants.{SECTORS};
 ghost use Rattle.event_callbacks.specs.declared.operations.OpId.TheVariants as id;
@@ -113,7 +113,7 @@ impl<B: Lockstep> PrimaryWorker<B> {
         ensures works { Works B.state B.machine self.old self.new }
         ensures next { self.new.sector ≡ next_sector self.old.sector }
         ensures same { (self.new.seat ≡ self.old.seat) × (self.new.guest ≡ self.old.guest) × (self.new.list ≡ self.old.list)
-            × (self.new.asked ≡ self.old.asked) }
+            × (self.new.asked ≡ self.old.asked) × (self.new.answer ≡ self.old.answer) }
     {
         self.sector = (self.sector + 1) % SECTORS;
     }
@@ -163,6 +163,7 @@ impl<B: Lockstep> PrimaryWorker<B> {
     // Takes the disk's answer. A sector that is no longer under the head is dropped.
     pub(super) fn complete(&mut self) -> bool
         ensures works { Works B.state B.machine self.old self.new }
+        ensures taken { result ≡ true → self.new.answer ≢ self.old.answer }
     {
         if self.guest.waiting.is_some() {
             return false;

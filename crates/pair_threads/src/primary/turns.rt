@@ -1,11 +1,13 @@
 //! The turns of a primary's worker: it appends the entry that waits, and otherwise does its chores in rotation.
-ghost use Rattle.std.specs.Prelude.{◌≡◌, ◌≤◌, ◌⊎◌, ◌↔◌, [], length, vec_len, None, Some, IfErr, IfOk, IfSome, IsTrue, OnOk};
+ghost use Rattle.std.specs.Prelude.{◌≡◌, ◌<◌, ◌≤◌, ◌⊎◌, ◌↔◌, false, [], length, vec_len, None, Some, IfErr, IfOk, IfSome, IsTrue, OnOk};
+ghost use Rattle.event_callbacks.specs.declared.devices.TheConstants.{PORTS};
 ghost use Rattle.event_callbacks.specs.declared.operations.OpId.{OpId};
 ghost use Rattle.pair_rule.specs.Seats.{HasSwapsLeft};
 ghost use Rattle.pair_threads.specs.Choosing.{fruitless_after, is_covered, to_append, turn_after};
 ghost use Rattle.pair_threads.specs.Ending.{IsEnding};
 ghost use Rattle.pair_threads.specs.Leading.{Leads, Says, by_port};
-ghost use Rattle.pair_threads.specs.Primary.{HasAppended, HasDone, IsAtRest, WorkerKeeps, WorkerLeads, Works, keys_taken};
+ghost use Rattle.pair_threads.specs.Primary.{Does, HasAppended, HasDone, IsAtRest, WorkerKeeps, WorkerLeads, Works, has_work_at_1, keys_taken, second_after};
+ghost use Rattle.pair_threads.specs.Screens.{port_of};
 ghost use Rattle.pair_threads.specs.Turns.{Leaves};
 
 use super::PrimaryWorker;
@@ -38,6 +40,7 @@ impl<B: Lockstep> PrimaryWorker<B> {
         ensures seat { result.seat ≡ seat }
         ensures board { result.guest.board ≡ board }
         ensures plan { (result.plan ≡ plan) × (result.port0.typed ≡ typed0) × (result.port1.typed ≡ typed1) }
+        ensures first { result.second ≡ false }
         ensures leads { WorkerLeads B.state B.machine (B.state board) result }
         ensures keeps { WorkerKeeps B.machine (B.state board) result }
     {
@@ -53,7 +56,8 @@ impl<B: Lockstep> PrimaryWorker<B> {
             next: 0,
             full: false,
             posted: 0,
-            emitted: [0; 2],
+            emitted0: 0,
+            emitted1: 0,
             asked: false,
             answer: None,
             sector: 0,
@@ -83,6 +87,7 @@ impl<B: Lockstep> PrimaryWorker<B> {
         ensures seat { result.seat ≡ seat }
         ensures board { result.guest.board ≡ board }
         ensures plan { (result.plan ≡ plan) × (result.port0 ≡ ports.0) × (result.port1 ≡ ports.1) }
+        ensures first { result.second ≡ false }
         ensures leads { (boot : B.State)
             → Leads B.machine boot seat.core.known.primary.list [] seat.core.known.primary (B.state board)
             → Says seat.core.known.primary.list (by_port (keys_taken ports.0) (keys_taken ports.1) [])
@@ -105,7 +110,8 @@ impl<B: Lockstep> PrimaryWorker<B> {
             next: length,
             full: false,
             posted: length,
-            emitted: [counted0, counted1],
+            emitted0: counted0,
+            emitted1: counted1,
             asked: false,
             answer: None,
             sector: 0,
@@ -172,20 +178,41 @@ impl<B: Lockstep> PrimaryWorker<B> {
     }
 
     // Whether port 1 has a key that is not taken, or a byte that is not accepted. Otherwise each rotation is port 0's.
-    fn has_work_at_1(&self) -> bool {
+    fn has_work_at_1(&self) -> bool
+        ensures { result ≡ has_work_at_1 B.state B.machine self.now }
+    {
         !self.port1.is_taken() || self.guest.board.due_byte(1).is_some()
     }
 
-    // Does one chore. Returns whether it changed anything.
-    fn attempt(&mut self, fabric: &Fabric) -> R<bool>
+    // The port whose turn it is.
+    fn port(&self) -> u8
+        ensures is { result ≡ port_of self.now.second }
+        ensures port { result < PORTS }
+    {
+        if self.second { 1 } else { 0 }
+    }
+
+    // Whether it is port 1's turn after this chore.
+    fn is_second_after(&self, chore: Chore) -> bool
+        ensures { result ≡ second_after chore self.now.second (has_work_at_1 B.state B.machine self.now) }
+    {
+        match chore {
+            Chore::Complete => !self.second && self.has_work_at_1(),
+            _ => self.second,
+        }
+    }
+
+    // Does one chore, at this port if it is a port's. Returns whether it changed anything.
+    fn attempt(&mut self, fabric: &Fabric, port: u8) -> R<bool>
         requires table { self.old.seat.table ≡ fabric.now }
         requires before { self.old.seat.core.known.primary.winner ≡ 0 }
         requires swaps { HasSwapsLeft self.old.seat.core }
+        requires port { port < PORTS }
         ensures works { OnOk result (Works B.state B.machine self.old self.new) }
         ensures table { self.new.seat.table ≡ self.old.seat.table }
+        ensures does { IfOk result (Does B.state B.machine self.old.chore port self.old self.new) }
         ensures refused { IfErr result IsEnding }
     {
-        let port = if self.second { 1 } else { 0 };
         match self.chore {
             Chore::Post => Ok(self.post(fabric)),
             Chore::See => Ok(self.see(fabric)),
@@ -196,10 +223,7 @@ impl<B: Lockstep> PrimaryWorker<B> {
             Chore::Accept => Ok(self.accept(port)),
             Chore::Ask => Ok(self.ask(fabric)),
             Chore::Answer => Ok(self.hear(fabric)),
-            Chore::Complete => {
-                self.second = !self.second && self.has_work_at_1();
-                Ok(self.complete())
-            }
+            Chore::Complete => Ok(self.complete()),
         }
     }
 
@@ -211,14 +235,17 @@ impl<B: Lockstep> PrimaryWorker<B> {
         ensures works { OnOk result (Works B.state B.machine self.old self.new) }
         ensures table { self.new.seat.table ≡ self.old.seat.table }
         ensures leaves { Leaves result (Unit {0}) (IsAtRest B.state B.machine self.new) }
-        ensures turn { IfOk result (λ turn. HasDone self.old self.new turn) }
+        ensures turn { IfOk result (λ turn. HasDone B.state B.machine self.old self.new turn) }
         ensures refused { IfErr result IsEnding }
     {
         let (chore, fruitless) = (self.chore, self.fruitless);
         if chore == Chore::Run && self.is_at_its_end() {
             return Ok(Turn::Ends);
         }
-        let moved = self.attempt(fabric)?;
+        let port = self.port();
+        let second = self.is_second_after(chore);
+        let moved = self.attempt(fabric, port)?;
+        self.second = second;
         self.chore = chore.next();
         self.fruitless = fruitless_after(moved, fruitless);
         Ok(turn_after(moved, fruitless, chore))
@@ -273,7 +300,7 @@ impl<B: Lockstep> Worker for PrimaryWorker<B> {
     ghost asks = { λ old number new.
         AsksAt old.plan.contests_at number old.seat.core.known.primary.winner new.seat.core.known.primary.winner };
 
-    ghost turned = { λ old number new turn. HasHadTurn old number new turn };
+    ghost turned = { λ old number new turn. HasHadTurn B.state B.machine old number new turn };
 
     ghost ends_by = { λ w told. w.plan.contested && told.backup_ended };
 

@@ -3,16 +3,14 @@ use Rattle.std.proofs.Common.{refl, sym}
 use Rattle.pair_threads.proofs.Ports.{key_of_second}
 use Rattle.pair_threads.proofs.primary.PrimaryWorker.take_key1.Goals as goal
 
-pub returns : goal.returns
-returns g c = record {
-  works = (
-    refl,
-    refl,
-    refl,
-    refl,
-    refl,
-    λ boot leads. key_of_second g.B.Lockstep.state g.B.Lockstep.machine c.args.self.now c.key.new.self boot leads
-        c.in-Some.byte (sym c.in-Some.ensures) (c.key.ensures.onward c.if-not-key.false),
-    λ boot leads kept. kept,
-  );
-}
+pub returns-clause-works : goal.returns-clause-works
+returns-clause-works g c = (
+  refl,
+  refl,
+  refl,
+  refl,
+  refl,
+  λ boot leads. key_of_second g.B.Lockstep.state g.B.Lockstep.machine c.args.self.now c.key.new.self boot leads
+      c.in-Some.byte (sym c.in-Some.ensures) (c.key.ensures.onward c.if-not-key.false),
+  λ boot leads kept. kept,
+)
