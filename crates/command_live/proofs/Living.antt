@@ -12,7 +12,7 @@ use Rattle.guest_board.specs.Guest.{guest_at_boot}
 use Rattle.guest_board.specs.Inputs.{some_altair}
 use Rattle.guest_lockstep.specs.Machine.{booted_from}
 use Rattle.log_entry.specs.declared.entry.Entry.{Entry}
-use Rattle.command_live.specs.Living.{AreBooted, AreTyped, BeginsAs, EndsOf, HasEnded, PrintsLive, PrintsNone, Tells, TellsEnd, end_text, typed_by, typed_in, with_byte}
+use Rattle.command_live.specs.Living.{AreBooted, AreTyped, BeginsAs, EndsOf, HasEnded, PrintsLive, PrintsNone, PrintsScreens, Tells, TellsEnd, TellsScreens, end_text, typed_by, typed_in, with_byte}
 use Rattle.command_live.specs.Saving.{images_of}
 use Rattle.command_ending.specs.Reports.{AddsLine}
 use Rattle.command_ending.specs.declared.failure.Failure.{Failure}
@@ -27,8 +27,34 @@ use Rattle.shared_disk.specs.declared.store.Record.{Record}
 use Rattle.script_language.specs.declared.line.Line.{Line}
 use Rattle.script_language.specs.declared.setup.ScriptSetup.{ScriptSetup}
 
+-- the screens are printed, and the images are those of the disk
+pub tells_screens : (winner : Option Who) (screens : List (List ℕ)) (records : List Record) (saved images first second : List ℕ)
+    (old new : Option (List ℕ)) → screens ≡ first ∷ second ∷ [] → images ≡ images_of records saved
+    → AddsLine (Some (end_text first second winner)) old new
+    → PrintsScreens winner screens records saved images old new
+tells_screens winner screens records saved images first second old new are images_are one =
+    record { first = first; second = second; screens_are = are; images_are = images_are; printed = one }
+
+-- a line that is not handed in
+tells_none : (e : Failure) (old new : Option (List ℕ)) → (e ≡ failure.OutOfMemory → Keeps old new)
+    → (e ≡ failure.OutOfMemory) ⊎ (e ≡ failure.InputOrOutput) → PrintsNone e old new
+tells_none e old new kept (inl is) = subst (λ f. PrintsNone f old new) (sym is) (kept is)
+tells_none e old new kept (inr is) = subst (λ f. PrintsNone f old new) (sym is) tt
+
+pub tells_residual : (winner : Option Who) (screens : List (List ℕ)) (records : List Record) (saved : List ℕ)
+    (result : Result (Vec ℕ) Failure) (told : Result (Unit {0}) Failure) (e : Failure)
+    (old new : Option (List ℕ)) → IsErrAnd result (λ k. k ≡ e) → told ≡ Err e
+    → (told ≡ Err failure.OutOfMemory → Keeps old new)
+    → IfErr told (λ e. (e ≡ failure.OutOfMemory) ⊎ (e ≡ failure.InputOrOutput))
+    → TellsScreens winner screens records saved result old new
+tells_residual winner screens records saved (Ok images) told e old new is was kept why = absurd is
+tells_residual winner screens records saved (Err k) told e old new is was kept why =
+    subst (λ f. PrintsNone f old new) (sym is)
+    (tells_none e old new (λ out. kept (was ∙ ap (λ f. Err f) out))
+    (subst (λ r. IfErr r (λ e. (e ≡ failure.OutOfMemory) ⊎ (e ≡ failure.InputOrOutput))) was why))
+
 module _ (setup : ScriptSetup) (given : List SectorWrite) (typed0 typed1 : List ℕ) (order : LiveOrder) where
-  -- the end is printed, or it is not
+  -- the end is printed
   pub tells_end : (old new : Option (List ℕ)) (first second images : List ℕ) (winner : Option Who)
       → WonBy order.primary_asks order.backup_asks winner
       → EndsOf setup given typed0 typed1 order.saved.items winner (first ∷ second ∷ []) images
@@ -36,23 +62,6 @@ module _ (setup : ScriptSetup) (given : List SectorWrite) (typed0 typed1 : List 
       → TellsEnd setup given typed0 typed1 order images old new
   tells_end old new first second images winner won ends one =
       record { first = first; second = second; winner = winner; won = won; ends = ends; printed = one }
-
-  -- a line that is not handed in
-  tells_none : (e : Failure) (old new : Option (List ℕ)) → (e ≡ failure.OutOfMemory → Keeps old new)
-      → (e ≡ failure.OutOfMemory) ⊎ (e ≡ failure.InputOrOutput) → PrintsNone e old new
-  tells_none e old new kept (inl is) = subst (λ f. PrintsNone f old new) (sym is) (kept is)
-  tells_none e old new kept (inr is) = subst (λ f. PrintsNone f old new) (sym is) tt
-
-  pub tells_residual : (result : Result (Vec ℕ) Failure) (told : Result (Unit {0}) Failure) (e : Failure)
-      (old new : Option (List ℕ)) → IsErrAnd result (λ k. k ≡ e) → told ≡ Err e
-      → (told ≡ Err failure.OutOfMemory → Keeps old new)
-      → IfErr told (λ e. (e ≡ failure.OutOfMemory) ⊎ (e ≡ failure.InputOrOutput))
-      → Tells setup given typed0 typed1 order result old new
-  tells_residual (Ok images) told e old new is was kept why = absurd is
-  tells_residual (Err k) told e old new is was kept why =
-      subst (λ f. PrintsNone f old new) (sym is)
-      (tells_none e old new (λ out. kept (was ∙ ap (λ f. Err f) out))
-      (subst (λ r. IfErr r (λ e. (e ≡ failure.OutOfMemory) ⊎ (e ≡ failure.InputOrOutput))) was why))
 
   -- if a report has no lines at first, and all that is handed in is then written, that is what the writer got
   module _ (a b c : Option (List ℕ)) (first rest : List ℕ) (none : first ≡ []) (q : Appends b c rest) where
@@ -194,3 +203,18 @@ ends_of setup given lines saved drives winner screens records images h are all =
   ends = h.ends;
   images_are = all ∙ ap (images_of records) are;
 }
+
+-- the end of a script's generation is printed as its screens and its disk say
+pub tells_of : (setup : ScriptSetup) (given : List SectorWrite) (lines : List Line) (order : LiveOrder) (saved : List ℕ)
+    (winner : Option Who) (screens : List (List ℕ)) (records : List Record) (result : Result (Vec ℕ) Failure)
+    (old new : Option (List ℕ)) → HasEnded setup given lines winner screens records
+    → WonBy order.primary_asks order.backup_asks winner → saved ≡ order.saved.items
+    → TellsScreens winner screens records saved result old new
+    → Tells setup given (typed_in 0 lines) (typed_in 1 lines) order result old new
+tells_of setup given lines order saved winner screens records (Ok images) old new ended won are told =
+    tells_end setup given (typed_in 0 lines) (typed_in 1 lines) order old new told.first told.second images.items winner won
+    (subst (λ s. EndsOf setup given (typed_in 0 lines) (typed_in 1 lines) order.saved.items winner s images.items)
+    told.screens_are
+    (ends_of setup given lines order.saved.items saved winner screens records images.items ended are told.images_are))
+    told.printed
+tells_of setup given lines order saved winner screens records (Err failure) old new ended won are told = told

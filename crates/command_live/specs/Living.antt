@@ -112,6 +112,20 @@ PrintsNone Stalled old new = Keeps old new
 PrintsNone InputOrOutput old new = Unit {0}
 PrintsNone failure old new = ⊥
 
+-- an end with these screens and this disk is printed, and these are the images of the disks that are saved
+pub record PrintsScreens (winner : Option Who) (screens : List (List ℕ)) (records : List Record) (saved images : List ℕ)
+    (old new : Option (List ℕ)) : Type 0 where
+  pub first : List ℕ
+  pub second : List ℕ
+  pub screens_are : screens ≡ first ∷ second ∷ []
+  pub images_are : images ≡ images_of records saved
+  pub printed : AddsLine (Some (end_text first second winner)) old new
+
+abbrev pub TellsScreens : Option Who → List (List ℕ) → List Record → List ℕ → Result (Vec ℕ) Failure
+    → Option (List ℕ) → Option (List ℕ) → Type 0
+TellsScreens winner screens records saved result old new = MatchResult result
+    (λ images. PrintsScreens winner screens records saved images.items old new) (λ failure. PrintsNone failure old new)
+
 -- the end is printed, and these are the images
 abbrev pub Tells : ScriptSetup → List SectorWrite → List ℕ → List ℕ → LiveOrder → Result (Vec ℕ) Failure
     → Option (List ℕ) → Option (List ℕ) → Type 0

@@ -1,9 +1,9 @@
 //! A pair on threads, from its boot to its end.
-ghost use Rattle.std.specs.Prelude.{◌≡◌, ◌∷◌, [], IfOk, map};
+ghost use Rattle.std.specs.Prelude.{◌≡◌, ◌∷◌, [], ℕ, IfOk, List, Option, map};
 ghost use Rattle.event_callbacks.specs.declared.devices.TheConstants.{SENT, SECTOR, WRITTEN};
 ghost use Rattle.event_callbacks.specs.Keeping.{Keeps};
 ghost use Rattle.command_ending.specs.Reports.{handed};
-ghost use Rattle.command_live.specs.Living.{EndsOf, HasEnded, Tells, end_text, typed_in};
+ghost use Rattle.command_live.specs.Living.{HasEnded, PrintsNone, Tells, TellsScreens, end_text, typed_in};
 ghost use Rattle.pair_threads.specs.Ending.{WonBy};
 
 use crate::beginning::{Asked, workers_of};
@@ -14,6 +14,7 @@ use command_input::Input;
 use command_line::LiveOrder;
 use event_callbacks::Completes;
 use guest_board::Board;
+use guest_lockstep::Lockstep;
 use i8080_words::{Fault, R};
 use pair_events::Answer;
 use pair_threads::{Fate, GenerationEnd, OpenGate, Who, run_generation};
@@ -59,7 +60,7 @@ impl fmt::Display for EndText<'_> {
 /// Boots a pair whose completions are these closures, runs it on threads until it is at its end, and prints what its
 /// terminals have accepted. Nothing is printed of a pair that stalls. What is returned are the images of the disks that
 /// are saved; input or output has failed if one of them is not attached.
-#[tactic(auto, using(crate::proofs::Living::tells_end))]
+#[tactic(auto, using(crate::proofs::Living::tells_of))]
 pub fn run<
     H: Threads + Clock + Sync,
     T: Completes + Drop + Copy + Send,
@@ -84,11 +85,43 @@ pub fn run<
         (typed_in 1 input.now.script.lines.items) order result
         (handed (O.contents writer.old) report.old) (handed (O.contents writer.new) report.new) }
 {
-    let (end, images) = match live(rt, alloc, order, input, sent, sector, written) {
-        Ok(ended) => ended,
-        Err(Fault::Stalled) => return Err(Failure::Stalled),
-        Err(Fault::Unknown) => return Err(Failure::InputOrOutput),
-        Err(_) => return Err(Failure::OutOfMemory),
+    let asked = Asked {
+        turns: order.turns,
+        primary: order.primary_asks,
+        backup: order.backup_asks,
+    };
+    match generation(rt, alloc, asked, order.link, input, sent, sector, written) {
+        Ok(mut end) => tell(alloc, &mut end, &order.saved, report, writer),
+        Err(fault) => Err(failure_of(fault)),
+    }
+}
+
+// Why nothing is printed.
+fn failure_of(fault: Fault) -> Failure
+    ensures { (told : Option (List ℕ)) → PrintsNone result told told }
+{
+    match fault {
+        Fault::Stalled => Failure::Stalled,
+        Fault::Unknown => Failure::InputOrOutput,
+        _ => Failure::OutOfMemory,
+    }
+}
+
+// Prints what the terminals have accepted at the end of a generation, and returns the images of the disks that are saved.
+#[tactic(auto, using(crate::proofs::Living::tells_screens))]
+fn tell<B: Lockstep + Drop, O: Write + Drop>(
+    alloc: Global,
+    end: &mut GenerationEnd<B, MemoryStore>,
+    saved: &[u8],
+    report: &mut Report,
+    writer: &mut O,
+) -> Result<Vec<u8>, Failure>
+    ensures { TellsScreens end.old.winner (map (λ v. v.items) end.old.accepted) end.old.disk saved.now result
+        (handed (O.contents writer.old) report.old) (handed (O.contents writer.new) report.new) }
+{
+    let images = match images_of(alloc, &mut end.disk, saved) {
+        Ok(images) => images,
+        Err(fault) => return Err(failure_of(fault)),
     };
     let (first, second) = both(&end.accepted);
     let text = EndText {
@@ -106,40 +139,6 @@ fn both(accepted: &[Vec<u8>; 2]) -> (&[u8], &[u8])
 {
     let [first, second] = accepted;
     (first, second)
-}
-
-// The pair at its end, and the images of the disks that are saved.
-#[tactic(auto, using(crate::proofs::Living::ends_of))]
-fn live<
-    H: Threads + Clock + Sync,
-    T: Completes + Drop + Copy + Send,
-    S: Completes + Drop + Copy + Send,
-    W: Completes + Drop + Copy + Send,
->(
-    rt: &H,
-    alloc: Global,
-    order: LiveOrder,
-    input: &Input,
-    sent: T,
-    sector: S,
-    written: W,
-) -> R<(GenerationEnd<Board<T, S, W>, MemoryStore>, Vec<u8>)>
-    requires sent { Keeps (T.may sent) (T.gives sent) SENT }
-    requires sector { Keeps (S.may sector) (S.gives sector) SECTOR }
-    requires written { Keeps (W.may written) (W.gives written) WRITTEN }
-    ensures ends { IfOk result (λ ended. EndsOf input.now.script.setup input.now.sectors.items
-        (typed_in 0 input.now.script.lines.items) (typed_in 1 input.now.script.lines.items) order.saved.items
-        ended.0.winner (map (λ v. v.items) ended.0.accepted) ended.1.items) }
-    ensures won { IfOk result (λ ended. WonBy order.primary_asks order.backup_asks ended.0.winner) }
-{
-    let asked = Asked {
-        turns: order.turns,
-        primary: order.primary_asks,
-        backup: order.backup_asks,
-    };
-    let mut end = generation(rt, alloc, asked, order.link, input, sent, sector, written)?;
-    let images = images_of(alloc, &mut end.disk, &order.saved)?;
-    Ok((end, images))
 }
 
 // The pair at its end.

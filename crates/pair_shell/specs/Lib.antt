@@ -1,5 +1,6 @@
 pub mod Asked
 pub mod Backups
+pub mod Books
 pub mod Days
 pub mod Looking
 pub mod Playing

@@ -1,7 +1,9 @@
 //! Events that happen in a pair, one after another, and what was answered to each.
 ghost use Rattle.std.specs.Prelude.{◌≡◌, ◌<◌, [], ◌∷◌, ◌++◌, IfOk, cond, nat_lt, vec_capacity, vec_len};
-ghost use Rattle.ft_world.specs.Applies.{Happens};
+ghost use Rattle.ft_world.specs.Applies.{Happens, Shows};
+ghost use Rattle.ft_world.specs.Standing.{Course};
 ghost use Rattle.shared_disk.specs.Failing.{records_in};
+ghost use Rattle.pair_shell.specs.Books.{IsNoted, brings_in, brought_by, sent_in};
 ghost use Rattle.pair_shell.specs.Playing.{Lengthens, Plays};
 ghost use Rattle.shell_book.specs.Tapes.{played};
 
@@ -56,13 +58,15 @@ pub fn play_one<B: Copies<H> + Drop, H: Drop>(
 ) -> Result<R<Reply>, AllocError>
     ensures happened { Plays B.state B.copied B.machine world.old tape.new.items world.new }
     ensures alone { IfOk result (λ answer. tape.new.items ≡ played event answer ∷ []) }
+    ensures noted { IfOk result (λ answer. (c : Course B.State) → Shows B.state B.copied B.machine records_in world.new c
+        → IsNoted c.world.messages event answer book.old book.new) }
 {
     tape.clear();
     play_next(alloc, world, book, event, tape, past)
 }
 
-// One more event happens, unless memory for it is refused.
-#[tactic(auto, using(crate::proofs::Playing::lengthens, crate::proofs::Playing::lengthens_not))]
+// One more event happens, unless memory for it is refused; the book notes it then.
+#[tactic(auto, using(crate::proofs::Playing::lengthens, crate::proofs::Playing::lengthens_not, crate::proofs::Books::notes))]
 fn play_next<B: Copies<H> + Drop, H: Drop>(
     alloc: Global,
     world: &mut World<B, Disk, H>,
@@ -73,6 +77,8 @@ fn play_next<B: Copies<H> + Drop, H: Drop>(
 ) -> Result<R<Reply>, AllocError>
     ensures happened { Lengthens B.state B.copied B.machine world.old world.new tape.old.items tape.new.items }
     ensures taped { IfOk result (λ answer. tape.new.items ≡ tape.old.items ++ played event answer ∷ []) }
+    ensures noted { IfOk result (λ answer. (c : Course B.State) → Shows B.state B.copied B.machine records_in world.new c
+        → IsNoted c.world.messages event answer book.old book.new) }
 {
     tape.reserve(1)?;
     book.make_room()?;
@@ -97,11 +103,35 @@ fn keep(past: &mut Vec<Moment>, moment: Moment)
 fn sent_by<B: Copies<H> + Drop, H: Drop>(
     world: &World<B, Disk, H>,
     answer: R<Reply>,
-) -> Option<Brings> {
-    let Ok(Reply::Message { message }) = answer else {
-        return None;
-    };
-    let brings = match world.message(message)? {
+) -> Option<Brings>
+    ensures { (c : Course B.State) → Shows B.state B.copied B.machine records_in world.now c
+        → result ≡ sent_in c.world.messages answer }
+{
+    match answer {
+        Ok(Reply::Message { message }) => brought_by(world, message),
+        _ => None,
+    }
+}
+
+// What the message of a number brings, if there is one.
+#[tactic(auto, using(crate::proofs::Books::brings_some, crate::proofs::Books::brings_none))]
+fn brought_by<B: Copies<H> + Drop, H: Drop>(
+    world: &World<B, Disk, H>,
+    message: u64,
+) -> Option<Brings>
+    ensures { (c : Course B.State) → Shows B.state B.copied B.machine records_in world.now c
+        → result ≡ brought_by c.world.messages message }
+{
+    match world.message(message) {
+        Some(found) => Some(brings_in(found)),
+        None => None,
+    }
+}
+
+fn brings_in(message: &Message) -> Brings
+    ensures { result ≡ brings_in message.now }
+{
+    match message {
         Message::Log(_) => Brings::Entry,
         Message::Ack(_) => Brings::Acknowledgement,
         Message::Part(_) => Brings::Part,
@@ -109,8 +139,7 @@ fn sent_by<B: Copies<H> + Drop, H: Drop>(
         Message::Write(_) => Brings::Write,
         Message::Written(number) => Brings::Written { number: *number },
         Message::Sector(_) => Brings::Sector,
-    };
-    Some(brings)
+    }
 }
 
 // An event happens, and comes onto the tape with its answer.

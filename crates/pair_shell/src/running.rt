@@ -4,6 +4,7 @@ ghost use Rattle.ft_world.specs.Applies.{Shows};
 ghost use Rattle.ft_world.specs.Standing.{Course};
 ghost use Rattle.shared_disk.specs.Failing.{records_in};
 ghost use Rattle.pair_shell.specs.Backups.{FindsBackup, HasDay, IsFirstBackup};
+ghost use Rattle.pair_shell.specs.Books.{HasBook};
 ghost use Rattle.pair_shell.specs.Days.{ran_rows};
 ghost use Rattle.pair_shell.specs.Playing.{Plays};
 ghost use Rattle.shell_book.specs.Texts.{AddsSome, Prints};
@@ -45,8 +46,8 @@ impl Notes {
         }
     }
 
-    // The backup of a node's day, if it has one; or why the node has no day. One that is alone begins again.
-    #[tactic(auto, using(crate::proofs::Backups::day_of_none, crate::proofs::Backups::day_of_primary, crate::proofs::Backups::day_of_alone, crate::proofs::Backups::day_of_other))]
+    // The backup of a node's day, if it has one; or why the node has no day. The book of one that is alone begins again.
+    #[tactic(auto, using(crate::proofs::Backups::day_of_none, crate::proofs::Backups::day_of_primary, crate::proofs::Backups::day_of_alone, crate::proofs::Backups::day_of_other, crate::proofs::Books::book_of_none, crate::proofs::Books::book_of_primary, crate::proofs::Books::book_of_alone, crate::proofs::Books::book_of_other))]
     fn backup_for<B: Copies<H> + Drop, H: Drop>(
         &mut self,
         alloc: Global,
@@ -57,6 +58,8 @@ impl Notes {
         ensures tape { self.new.tape ≡ self.old.tape }
         ensures found { IfOk result (λ found. (c : Course B.State) → Shows B.state B.copied B.machine records_in world.now c
             → HasDay B.machine c.world.nodes opening.now.setup.hosts node found) }
+        ensures book { IfOk result (λ _. (c : Course B.State) → Shows B.state B.copied B.machine records_in world.now c
+            → HasBook B.machine c.world.nodes node self.old.book self.new.book) }
     {
         let Some(status) = world.node(node) else {
             return Ok(Err(Fault::Unknown));

@@ -1,14 +1,13 @@
 -- If the line is not handed in, the failure says so.
+use Rattle.std.proofs.Common.{map}
 use Rattle.command_ending.specs.Reports.{handed}
 use Rattle.command_live.proofs.Living.{tells_residual}
-use Rattle.command_live.specs.Living.{typed_in}
-use Rattle.command_live.proofs.live.run.Goals as goal
+use Rattle.command_live.proofs.live.tell.Goals as goal
 
 pub returns-in_err-line : goal.returns-in_err-line
 returns-in_err-line g c =
-    let input = c.args.input.now in
-    let lines = input.script.lines.items in
-    tells_residual input.script.setup input.sectors.items (typed_in 0 lines) (typed_in 1 lines) c.args.order
+    let end = c.args.end.now in
+    tells_residual end.winner (map (λ v. v.items) end.accepted) end.disk c.args.saved.now
     c.from_residual.result c.line.result c.in_err-line.field-0.0
     (handed (g.O.Write.contents c.args.writer.now) c.args.report.now)
     (handed (g.O.Write.contents c.line.new.writer) c.line.new.self)
