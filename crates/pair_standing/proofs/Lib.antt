@@ -3,3 +3,4 @@ pub mod Going
 pub mod Settling
 pub mod Choosing
 pub mod Altair
+pub mod Following

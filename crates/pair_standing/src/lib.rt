@@ -8,5 +8,5 @@ mod standing;
 mod winner;
 
 pub use finish::finish_alone;
-pub use laws::altairs_are_due;
+pub use laws::{altairs_are_due, standings_may_follow};
 pub use standing::Standing;

@@ -1,4 +1,5 @@
 //! What no contract says: that a pair on threads comes to its end, and that its threads run at once.
+mod finishing;
 mod gates;
 mod pairs;
 mod rests;

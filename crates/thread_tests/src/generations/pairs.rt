@@ -81,7 +81,7 @@ fn outcome_of<B: Lockstep + Drop>(mut end: GenerationEnd<B, Store>) -> R<Outcome
 }
 
 // A guest with one drive, whose memory begins with this program.
-fn setup_of(alloc: Global, program: &[u8]) -> R<Setup> {
+pub(super) fn setup_of(alloc: Global, program: &[u8]) -> R<Setup> {
     let mut memory = Vec::from_slice(alloc, program)?;
     memory.resize(65536, 0x00)?;
     if memory.len() != 65536 {
@@ -97,7 +97,7 @@ fn setup_of(alloc: Global, program: &[u8]) -> R<Setup> {
 }
 
 // A guest at boot.
-fn boot<T: Completes + Drop, S: Completes + Drop, W: Completes + Drop>(
+pub(super) fn boot<T: Completes + Drop, S: Completes + Drop, W: Completes + Drop>(
     alloc: Global,
     setup: &Setup,
     callbacks: Callbacks<T, S, W>,
@@ -111,7 +111,7 @@ fn boot<T: Completes + Drop, S: Completes + Drop, W: Completes + Drop>(
 }
 
 // An unwritten disk of one drive, whose access of this number fails.
-fn unwritten_disk(alloc: Global, fails: u64) -> R<SharedDisk<Store>>
+pub(super) fn unwritten_disk(alloc: Global, fails: u64) -> R<SharedDisk<Store>>
     ensures { IfOk result (λ disk. IsUnwritten disk.store) }
 {
     let store = MemoryStore::at_boot(alloc, 1, &[])?;
