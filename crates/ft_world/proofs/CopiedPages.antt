@@ -16,7 +16,7 @@ use Rattle.ft_world.specs.declared.station.Station.{Station}
 use Rattle.pair_protocol.proofs.Traces.Lists.{get_set, get_set_other}
 use Rattle.ft_world.proofs.AtNodes.{set_cases}
 
-pub same_pages : {B : Type 0} (stale : B → ℕ → Bool) (o : Option B) → PagesGoOn stale (SamePages stale) o o
+same_pages : {B : Type 0} (stale : B → ℕ → Bool) (o : Option B) → PagesGoOn stale (SamePages stale) o o
 same_pages stale None = tt
 same_pages stale (Some board) = refl
 

@@ -20,6 +20,7 @@ use std::alloc::Global;
 
 impl<B: Copies<H> + Drop, D: SectorStore, H: Drop> Pair<B, D, H> {
     /// A byte is typed at the terminal of a port.
+    #[tactic(auto, using(crate::proofs::CopiedPages::pages_kept_on))]
     pub(crate) fn type_byte(&mut self, port: u8, byte: u8) -> R<Reply>
         ensures row { Happens B.state B.copied B.machine D.records (running_of self.old) (happens.TypeByte port byte) result
             (running_of self.new) }
@@ -32,6 +33,7 @@ impl<B: Copies<H> + Drop, D: SectorStore, H: Drop> Pair<B, D, H> {
     }
 
     /// A node sends an outstanding operation to its device.
+    #[tactic(auto, using(crate::proofs::CopiedPages::pages_kept_on))]
     pub(crate) fn release(&mut self, alloc: Global, node: u64, id: OpId) -> R<Reply>
         ensures row { Happens B.state B.copied B.machine D.records (running_of self.old) (happens.Release node id) result
             (running_of self.new) }
@@ -47,6 +49,7 @@ impl<B: Copies<H> + Drop, D: SectorStore, H: Drop> Pair<B, D, H> {
     }
 
     /// A released byte arrives at its terminal.
+    #[tactic(auto, using(crate::proofs::CopiedPages::pages_kept_on))]
     pub(crate) fn arrive(&mut self, message: u64) -> R<Reply>
         ensures row { Happens B.state B.copied B.machine D.records (running_of self.old) (happens.Arrive message) result
             (running_of self.new) }
@@ -76,6 +79,7 @@ impl<B: Copies<H> + Drop, D: SectorStore, H: Drop> Pair<B, D, H> {
     }
 
     /// The terminal of a port is told how many of its keys a node has covered.
+    #[tactic(auto, using(crate::proofs::CopiedPages::pages_kept_on))]
     pub(crate) fn tell(&mut self, node: u64, port: u8) -> R<Reply>
         ensures row { Happens B.state B.copied B.machine D.records (running_of self.old) (happens.Told node port) result
             (running_of self.new) }
@@ -94,6 +98,7 @@ impl<B: Copies<H> + Drop, D: SectorStore, H: Drop> Pair<B, D, H> {
     }
 
     /// A released write arrives at the shared disk.
+    #[tactic(auto, using(crate::proofs::CopiedPages::pages_kept_on))]
     pub(crate) fn put(&mut self, message: u64) -> R<Reply>
         requires shown { ShowsSome B.state B.copied B.machine D.records (running_of self.old) }
         ensures row { Happens B.state B.copied B.machine D.records (running_of self.old) (happens.Put message) result
@@ -127,6 +132,7 @@ impl<B: Copies<H> + Drop, D: SectorStore, H: Drop> Pair<B, D, H> {
     }
 
     /// A node reads a sector of its selected drive.
+    #[tactic(auto, using(crate::proofs::CopiedPages::pages_kept_on))]
     pub(crate) fn get(&mut self, alloc: Global, node: u64, sector: u8) -> R<Reply>
         requires shown { ShowsSome B.state B.copied B.machine D.records (running_of self.old) }
         ensures row { Happens B.state B.copied B.machine D.records (running_of self.old) (happens.Get node sector) result

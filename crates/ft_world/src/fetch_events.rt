@@ -17,6 +17,7 @@ use std::alloc::Global;
 
 impl<B: Copies<H> + Drop, D: SectorStore, H: Drop> Pair<B, D, H> {
     /// A node that waits for the bytes of a sector asks the disk for it.
+    #[tactic(auto, using(crate::proofs::CopiedPages::pages_kept_on))]
     pub(crate) fn fetch(&mut self, alloc: Global, node: u64) -> R<Reply>
         requires shown { ShowsSome B.state B.copied B.machine D.records (running_of self.old) }
         ensures row { Happens B.state B.copied B.machine D.records (running_of self.old) (happens.Fetch node) result

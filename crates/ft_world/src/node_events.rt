@@ -77,6 +77,7 @@ impl<B: Copies<H> + Drop, D: SectorStore, H: Drop> Pair<B, D, H> {
     }
 
     /// A primary sends an entry of its log.
+    #[tactic(auto, using(crate::proofs::CopiedPages::pages_kept_on))]
     pub(crate) fn send(&mut self, alloc: Global, node: u64, index: u64) -> R<Reply>
         ensures row { Happens B.state B.copied B.machine D.records (running_of self.old) (happens.Send node index) result
             (running_of self.new) }
@@ -108,6 +109,7 @@ impl<B: Copies<H> + Drop, D: SectorStore, H: Drop> Pair<B, D, H> {
     }
 
     /// A backup sends an acknowledgement of all that it holds.
+    #[tactic(auto, using(crate::proofs::CopiedPages::pages_kept_on))]
     pub(crate) fn acknowledge(&mut self, alloc: Global, node: u64) -> R<Reply>
         ensures row { Happens B.state B.copied B.machine D.records (running_of self.old) (happens.Acknowledge node) result
             (running_of self.new) }

@@ -5,7 +5,6 @@ use Rattle.std.specs.Prelude.{slice_get}
 use Rattle.ft_world.specs.Messages.{byte_of}
 use Rattle.ft_world.specs.Pairs.{running_of}
 use Rattle.ft_world.proofs.AtTerminals.{arrives_applies, arrives_unknown}
-use Rattle.ft_world.proofs.CopiedPages.{pages_kept_on}
 use Rattle.ft_world.proofs.pair.Pair.arrive.Goals as goal
 
 pub returns-in_default-clause-row : goal.returns-in_default-clause-row
@@ -21,6 +20,3 @@ returns-clause-row g c = λ course h.
     arrives_applies g.B.Lockstep.state g.B.Copies.copied g.B.Lockstep.machine g.D.SectorStore.records (running_of c.args.self.now) course
     c.args.message c.in-Some.port c.in-Some.number c.in-Some.byte c.arrive.result c.arrive.new.terminals e h
     c.arrive.ensures
-
-pub returns-clause-pages : goal.returns-clause-pages
-returns-clause-pages g c = pages_kept_on g.B.Lockstep.stale c.arrive.result c.args.self.now.hosts.items

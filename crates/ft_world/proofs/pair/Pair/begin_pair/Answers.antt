@@ -1,7 +1,6 @@
 -- The hosts refuse it, or the node does, or the generation has begun.
 use Rattle.std.proofs.Common.{[], ap, is_ok}
 use Rattle.std.specs.Prelude.{slice_get}
-use Rattle.std.proofs.lemmas.Result.{IfOk-from_err}
 use Rattle.ft_world.specs.Opening.{host_refusal}
 use Rattle.ft_world.specs.Pairs.{running_of}
 use Rattle.ft_world.proofs.Applying.{hands_on}
@@ -87,12 +86,3 @@ returns-clause-pages g c =
     c.in_ok-station.station.now c.begin.new.self c.in_ok-station.ensures.found
     (c.station_mut.follows.holds c.begin.new.self (ap is_ok c.in_ok-station.was)) c.in_ok-opening.ensures.pages)
     c.join.ensures
-
-pub returns-in_err-check_pair-clause-pages : goal.returns-in_err-check_pair-clause-pages
-returns-in_err-check_pair-clause-pages g c = IfOk-from_err c.from_residual.result _ c.from_residual.ensures.0
-
-pub returns-in_err-station-clause-pages : goal.returns-in_err-station-clause-pages
-returns-in_err-station-clause-pages g c = IfOk-from_err c.from_residual-in_err-station.result _ c.from_residual-in_err-station.ensures.0
-
-pub returns-in_err-opening-clause-pages : goal.returns-in_err-opening-clause-pages
-returns-in_err-opening-clause-pages g c = IfOk-from_err c.from_residual-in_err-opening.result _ c.from_residual-in_err-opening.ensures.0

@@ -1,6 +1,5 @@
 -- There is no such node, or it refuses, or it moves by what it still holds, and is alone if none of it is left.
 use Rattle.std.proofs.Common.{ap, is_ok}
-use Rattle.std.proofs.lemmas.Result.{IfOk-from_err}
 use Rattle.ft_world.specs.Pairs.{running_of}
 use Rattle.ft_world.proofs.Applying.{hands_on}
 use Rattle.ft_world.proofs.AtHosts.{at_host, no_call}
@@ -45,9 +44,3 @@ returns-clause-pages g c =
     pages_keep g.B.Lockstep.stale c.args.self.now.hosts.items (c.station_mut.follows.lender c.drain.new.self).items c.args.node
     c.in_ok-station.station.now c.drain.new.self c.in_ok-station.ensures.found
     (c.station_mut.follows.holds c.drain.new.self (ap is_ok c.in_ok-station.was)) c.in_ok-drained.ensures.pages
-
-pub returns-in_err-station-clause-pages : goal.returns-in_err-station-clause-pages
-returns-in_err-station-clause-pages g c = IfOk-from_err c.from_residual.result _ c.from_residual.ensures.0
-
-pub returns-in_err-drained-clause-pages : goal.returns-in_err-drained-clause-pages
-returns-in_err-drained-clause-pages g c = IfOk-from_err c.from_residual-in_err-drained.result _ c.from_residual-in_err-drained.ensures.0

@@ -1,13 +1,11 @@
 -- No such sector, or no such node, or the node refuses, or the disk answers.
 use Rattle.std.proofs.Common.{◌<◌, ◌≤◌, arith}
-use Rattle.std.proofs.lemmas.Result.{IfOk-from_err}
 use Rattle.ft_world.proofs.Refusing.{get_stays}
 use Rattle.disk_dcdd.specs.declared.sector.TheConstants.{SECTORS}
 use Rattle.ft_world.specs.Pairs.{running_of}
 use Rattle.ft_world.proofs.Applying.{handed_on, hands_on}
 use Rattle.ft_world.proofs.AtHosts.{asks_nobody, asks_node}
 use Rattle.ft_world.proofs.DiskReads.{gets_applies, gets_no_failure, gets_refused, gets_unknown}
-use Rattle.ft_world.proofs.CopiedPages.{pages_kept_on}
 use Rattle.ft_world.proofs.pair.Pair.get.Goals as goal
 
 pub returns-then-sector-ge-SECTORS-clause-row : goal.returns-then-sector-ge-SECTORS-clause-row
@@ -60,12 +58,3 @@ returns-clause-unchanged g c =
     get_stays g.B.Lockstep.state g.B.Copies.copied g.B.Lockstep.machine g.D.SectorStore.records (running_of c.args.self.now) c.args.node
     c.args.sector c.in_ok-address.address c.get.result c.get.new.messages.items c.get.new.disk c.requires.shown low
     (asks_node c.requires.shown.shows c.in_ok-station.ensures.found c.in_ok-address.ensures) c.get.ensures.row c.get.ensures.untouched
-
-pub returns-in_err-station-clause-pages : goal.returns-in_err-station-clause-pages
-returns-in_err-station-clause-pages g c = IfOk-from_err c.from_residual.result _ c.from_residual.ensures.0
-
-pub returns-in_err-address-clause-pages : goal.returns-in_err-address-clause-pages
-returns-in_err-address-clause-pages g c = IfOk-from_err c.from_residual-in_err-address.result _ c.from_residual-in_err-address.ensures.0
-
-pub returns-clause-pages : goal.returns-clause-pages
-returns-clause-pages g c = pages_kept_on g.B.Lockstep.stale c.get.result c.args.self.now.hosts.items

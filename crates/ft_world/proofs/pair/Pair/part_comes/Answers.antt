@@ -2,7 +2,6 @@
 use Rattle.std.proofs.Common.{◌≡◌, Err, None, Ok, Some, ap, is_ok, sym}
 use Rattle.std.specs.Option.{option_and_then}
 use Rattle.std.specs.Prelude.{slice_get}
-use Rattle.std.proofs.lemmas.Result.{IfOk-from_err}
 use Rattle.ft_world.specs.Messages.{part_of}
 use Rattle.ft_world.specs.Pairs.{running_of}
 use Rattle.ft_world.specs.Shows.{IsStation}
@@ -66,9 +65,3 @@ returns-clause-pages g c =
     pages_keep g.B.Lockstep.stale c.args.self.now.hosts.items (c.station_mut.follows.lender c.part.new.self).items c.args.node
     c.in_ok-station.station.now c.part.new.self c.in_ok-station.ensures.found
     (c.station_mut.follows.holds c.part.new.self (ap is_ok c.in_ok-station.was)) c.in_ok-part.ensures.pages
-
-pub returns-in_err-station-clause-pages : goal.returns-in_err-station-clause-pages
-returns-in_err-station-clause-pages g c = IfOk-from_err c.from_residual.result _ c.from_residual.ensures.0
-
-pub returns-in_err-part-clause-pages : goal.returns-in_err-part-clause-pages
-returns-in_err-part-clause-pages g c = IfOk-from_err c.from_residual-in_err-part.result _ c.from_residual-in_err-part.ensures.0

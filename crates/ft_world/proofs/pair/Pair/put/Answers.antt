@@ -6,7 +6,6 @@ use Rattle.ft_world.specs.Messages.{write_of}
 use Rattle.ft_world.specs.Pairs.{running_of}
 use Rattle.ft_world.proofs.AtDisk.{puts_applies, puts_unknown}
 use Rattle.ft_world.proofs.Refusing.{put_stays}
-use Rattle.ft_world.proofs.CopiedPages.{pages_kept_on}
 use Rattle.ft_world.proofs.pair.Pair.put.Goals as goal
 
 pub returns-in_default-clause-row : goal.returns-in_default-clause-row
@@ -29,6 +28,3 @@ returns-clause-unchanged g c =
     put_stays g.B.Lockstep.state g.B.Copies.copied g.B.Lockstep.machine g.D.SectorStore.records (running_of c.args.self.now)
     c.args.message c.in-Some.write c.put.result c.put.new.messages.items c.put.new.disk c.requires.shown e
     c.put.ensures.row c.put.ensures.untouched
-
-pub returns-clause-pages : goal.returns-clause-pages
-returns-clause-pages g c = pages_kept_on g.B.Lockstep.stale c.put.result c.args.self.now.hosts.items

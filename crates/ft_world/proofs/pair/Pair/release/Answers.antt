@@ -1,10 +1,8 @@
 -- The device does not exist, or there is no such node, or it refuses, or the operation is sent.
-use Rattle.std.proofs.lemmas.Result.{IfOk-from_err}
 use Rattle.ft_world.specs.Pairs.{running_of}
 use Rattle.ft_world.proofs.Applying.{hands_on}
 use Rattle.ft_world.proofs.AtHosts.{asks_nobody, asks_node}
 use Rattle.ft_world.proofs.Releasing.{releases_applies, releases_nowhere, releases_refused}
-use Rattle.ft_world.proofs.CopiedPages.{pages_kept_on}
 use Rattle.ft_world.proofs.pair.Pair.release.Goals as goal
 
 pub returns-in_err-check_device-clause-row : goal.returns-in_err-check_device-clause-row
@@ -36,15 +34,3 @@ returns-clause-row g c = λ course h.
     course c.args.node c.args.id c.in_ok-check_device.field-0 c.in_ok-operation.operation c.say_released.result
     c.say_released.new.messages.items h c.in_ok-check_device.ensures
     (asks_node h c.in_ok-station.ensures.found c.in_ok-operation.ensures) c.say_released.ensures
-
-pub returns-in_err-check_device-clause-pages : goal.returns-in_err-check_device-clause-pages
-returns-in_err-check_device-clause-pages g c = IfOk-from_err c.from_residual.result _ c.from_residual.ensures.0
-
-pub returns-in_err-station-clause-pages : goal.returns-in_err-station-clause-pages
-returns-in_err-station-clause-pages g c = IfOk-from_err c.from_residual-in_err-station.result _ c.from_residual-in_err-station.ensures.0
-
-pub returns-in_err-operation-clause-pages : goal.returns-in_err-operation-clause-pages
-returns-in_err-operation-clause-pages g c = IfOk-from_err c.from_residual-in_err-operation.result _ c.from_residual-in_err-operation.ensures.0
-
-pub returns-clause-pages : goal.returns-clause-pages
-returns-clause-pages g c = pages_kept_on g.B.Lockstep.stale c.say_released.result c.args.self.now.hosts.items

@@ -1,10 +1,8 @@
 -- There is no such node, or it refuses, or its packet is sent.
-use Rattle.std.proofs.lemmas.Result.{IfOk-from_err}
 use Rattle.ft_world.specs.Pairs.{running_of}
 use Rattle.ft_world.proofs.Applying.{hands_on}
 use Rattle.ft_world.proofs.AtHosts.{asks_nobody, asks_node}
 use Rattle.ft_world.proofs.Sending.{sends_applies, sends_refused}
-use Rattle.ft_world.proofs.CopiedPages.{pages_kept_on}
 use Rattle.ft_world.proofs.pair.Pair.send.Goals as goal
 
 pub returns-in_err-station-clause-row : goal.returns-in_err-station-clause-row
@@ -26,12 +24,3 @@ returns-clause-row g c = λ course h.
     sends_applies g.B.Lockstep.state g.B.Copies.copied g.B.Lockstep.machine g.D.SectorStore.records (running_of c.args.self.now) course
     c.args.node c.args.index c.in_ok-bytes.bytes c.say.result c.say.new.messages.items h
     (asks_node h c.in_ok-station.ensures.found c.in_ok-bytes.ensures) c.say.ensures
-
-pub returns-in_err-station-clause-pages : goal.returns-in_err-station-clause-pages
-returns-in_err-station-clause-pages g c = IfOk-from_err c.from_residual.result _ c.from_residual.ensures.0
-
-pub returns-in_err-bytes-clause-pages : goal.returns-in_err-bytes-clause-pages
-returns-in_err-bytes-clause-pages g c = IfOk-from_err c.from_residual-in_err-bytes.result _ c.from_residual-in_err-bytes.ensures.0
-
-pub returns-clause-pages : goal.returns-clause-pages
-returns-clause-pages g c = pages_kept_on g.B.Lockstep.stale c.say.result c.args.self.now.hosts.items

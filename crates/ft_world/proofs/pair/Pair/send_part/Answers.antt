@@ -1,10 +1,8 @@
 -- There is no such node, or it has no such part, or the part is sent.
-use Rattle.std.proofs.lemmas.Result.{IfOk-from_err}
 use Rattle.ft_world.specs.Pairs.{running_of}
 use Rattle.ft_world.proofs.Applying.{hands_on}
 use Rattle.ft_world.proofs.AtHosts.{asks_nobody, asks_this_node}
 use Rattle.ft_world.proofs.AtParts.{sends_part_applies, sends_part_refused}
-use Rattle.ft_world.proofs.CopiedPages.{pages_kept_on}
 use Rattle.ft_world.proofs.pair.Pair.send_part.Goals as goal
 
 pub returns-in_err-station-clause-row : goal.returns-in_err-station-clause-row
@@ -28,12 +26,3 @@ returns-clause-row g c = λ course h.
     c.say.new.messages.items
     (asks_this_node h c.in_ok-station.ensures.found (λ x is. c.in_ok-bytes.ensures course.copying h.drives x is))
     c.say.ensures
-
-pub returns-in_err-station-clause-pages : goal.returns-in_err-station-clause-pages
-returns-in_err-station-clause-pages g c = IfOk-from_err c.from_residual.result _ c.from_residual.ensures.0
-
-pub returns-in_err-bytes-clause-pages : goal.returns-in_err-bytes-clause-pages
-returns-in_err-bytes-clause-pages g c = IfOk-from_err c.from_residual-in_err-bytes.result _ c.from_residual-in_err-bytes.ensures.0
-
-pub returns-clause-pages : goal.returns-clause-pages
-returns-clause-pages g c = pages_kept_on g.B.Lockstep.stale c.say.result c.args.self.now.hosts.items

@@ -1,6 +1,5 @@
 -- There is no such node, or it refuses, or its machine makes steps.
 use Rattle.std.proofs.Common.{ap, is_ok}
-use Rattle.std.proofs.lemmas.Result.{IfOk-from_err}
 use Rattle.ft_world.specs.Pairs.{running_of}
 use Rattle.ft_world.proofs.Applying.{hands_on}
 use Rattle.ft_world.proofs.AtHosts.{at_host, no_call}
@@ -48,9 +47,3 @@ returns-clause-pages g c =
     (c.station_mut.follows.holds c.step.new.self (ap is_ok c.in_ok-station.was))
     (StepsWrite g.B.Lockstep.state g.B.Lockstep.machine g.B.Lockstep.writes g.B.Lockstep.stale c.in_ok-ran.ran.steps)
     c.in_ok-ran.ensures.pages
-
-pub returns-in_err-station-clause-pages : goal.returns-in_err-station-clause-pages
-returns-in_err-station-clause-pages g c = IfOk-from_err c.from_residual.result _ c.from_residual.ensures.0
-
-pub returns-in_err-ran-clause-pages : goal.returns-in_err-ran-clause-pages
-returns-in_err-ran-clause-pages g c = IfOk-from_err c.from_residual-in_err-ran.result _ c.from_residual-in_err-ran.ensures.0

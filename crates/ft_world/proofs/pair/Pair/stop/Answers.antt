@@ -1,6 +1,5 @@
 -- There is no such node, or it refuses, or it halts.
 use Rattle.std.proofs.Common.{ap, is_ok}
-use Rattle.std.proofs.lemmas.Result.{IfOk-from_err}
 use Rattle.ft_world.specs.Pairs.{running_of}
 use Rattle.ft_world.proofs.Applying.{hands_on}
 use Rattle.ft_world.proofs.AtHosts.{at_host, no_call}
@@ -36,9 +35,3 @@ returns-clause-pages g c =
     pages_keep g.B.Lockstep.stale c.args.self.now.hosts.items (c.station_mut.follows.lender c.stop.new.self).items c.args.node
     c.in_ok-station.station.now c.stop.new.self c.in_ok-station.ensures.found
     (c.station_mut.follows.holds c.stop.new.self (ap is_ok c.in_ok-station.was)) c.in_ok-stop.ensures.pages
-
-pub returns-in_err-station-clause-pages : goal.returns-in_err-station-clause-pages
-returns-in_err-station-clause-pages g c = IfOk-from_err c.from_residual.result _ c.from_residual.ensures.0
-
-pub returns-in_err-stop-clause-pages : goal.returns-in_err-stop-clause-pages
-returns-in_err-stop-clause-pages g c = IfOk-from_err c.from_residual-in_err-stop.result _ c.from_residual-in_err-stop.ensures.0

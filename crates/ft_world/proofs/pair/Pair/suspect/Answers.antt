@@ -1,6 +1,5 @@
 -- There is no such node, or it refuses, or it has won, or it has lost.
 use Rattle.std.proofs.Common.{ap, is_ok, refl}
-use Rattle.std.proofs.lemmas.Result.{IfOk-from_err}
 use Rattle.ft_world.specs.Pairs.{running_of}
 use Rattle.ft_world.proofs.Applying.{hands_on}
 use Rattle.ft_world.proofs.AtHosts.{no_host, same_hosts, suspects_host}
@@ -50,9 +49,3 @@ returns-clause-pages g c =
     pages_keep g.B.Lockstep.stale c.args.self.now.hosts.items (c.station_mut.follows.lender c.suspect.new.self).items c.args.node
     c.in_ok-station.station.now c.suspect.new.self c.in_ok-station.ensures.found
     (c.station_mut.follows.holds c.suspect.new.self (ap is_ok c.in_ok-station.was)) c.in_ok-suspect.ensures.pages
-
-pub returns-in_err-station-clause-pages : goal.returns-in_err-station-clause-pages
-returns-in_err-station-clause-pages g c = IfOk-from_err c.from_residual.result _ c.from_residual.ensures.0
-
-pub returns-in_err-suspect-clause-pages : goal.returns-in_err-suspect-clause-pages
-returns-in_err-suspect-clause-pages g c = IfOk-from_err c.from_residual-in_err-suspect.result _ c.from_residual-in_err-suspect.ensures.0

@@ -1,5 +1,4 @@
 -- No such key was typed, or it is offered to the node.
-use Rattle.std.proofs.lemmas.Result.{IfOk-from_err}
 use Rattle.pair_events.specs.declared.event.Event.TheVariants as event
 use Rattle.ft_world.specs.Pairs.{running_of}
 use Rattle.ft_world.proofs.Applying.{hands_on}
@@ -17,6 +16,3 @@ returns-clause-row g c = λ course h.
     c.take.ensures.row course (event.TakeKey c.args.node c.args.port c.args.index)
     (key_offered g.B.Lockstep.state g.B.Copies.copied g.B.Lockstep.machine g.D.SectorStore.records (running_of c.args.self.now) course
     c.args.node c.args.port c.args.index c.in_ok-byte.byte h c.in_ok-byte.ensures.answer) h
-
-pub returns-in_err-byte-clause-pages : goal.returns-in_err-byte-clause-pages
-returns-in_err-byte-clause-pages g c = IfOk-from_err c.from_residual.result _ c.from_residual.ensures.0

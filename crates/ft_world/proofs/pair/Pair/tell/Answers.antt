@@ -1,12 +1,10 @@
 -- No such port, or no such node, or the node refuses, or the terminal is told.
 use Rattle.std.proofs.Common.{◌<◌, ◌≤◌, arith}
-use Rattle.std.proofs.lemmas.Result.{IfOk-from_err}
 use Rattle.event_callbacks.specs.declared.devices.TheConstants.{PORTS}
 use Rattle.ft_world.specs.Pairs.{running_of}
 use Rattle.ft_world.proofs.Applying.{hands_on}
 use Rattle.ft_world.proofs.AtHosts.{asks_nobody, asks_node}
 use Rattle.ft_world.proofs.Releasing.{tells_applies, tells_nowhere, tells_refused}
-use Rattle.ft_world.proofs.CopiedPages.{pages_kept}
 use Rattle.ft_world.proofs.pair.Pair.tell.Goals as goal
 
 pub returns-then-port-ge-PORTS-clause-row : goal.returns-then-port-ge-PORTS-clause-row
@@ -37,12 +35,3 @@ returns-clause-row g c = λ course h.
     tells_applies g.B.Lockstep.state g.B.Copies.copied g.B.Lockstep.machine g.D.SectorStore.records (running_of c.args.self.now) course
     c.args.node c.args.port c.in_ok-keys.keys c.tell.new.terminals h low
     (asks_node h c.in_ok-station.ensures.found c.in_ok-keys.ensures) c.tell.ensures
-
-pub returns-in_err-station-clause-pages : goal.returns-in_err-station-clause-pages
-returns-in_err-station-clause-pages g c = IfOk-from_err c.from_residual.result _ c.from_residual.ensures.0
-
-pub returns-in_err-keys-clause-pages : goal.returns-in_err-keys-clause-pages
-returns-in_err-keys-clause-pages g c = IfOk-from_err c.from_residual-in_err-keys.result _ c.from_residual-in_err-keys.ensures.0
-
-pub returns-clause-pages : goal.returns-clause-pages
-returns-clause-pages g c = pages_kept g.B.Lockstep.stale c.args.self.now.hosts.items

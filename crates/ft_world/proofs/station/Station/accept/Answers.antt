@@ -1,6 +1,5 @@
 -- The input is appended to the station's inputs, and the node takes it.
 use Rattle.std.proofs.Common.{refl}
-use Rattle.std.proofs.lemmas.Result.{IfOk-from_err}
 use Rattle.ft_world.proofs.Inputs.{accepts}
 use Rattle.ft_world.proofs.station.Station.accept.Goals as goal
 
@@ -9,9 +8,3 @@ returns-clause-answer g c = λ C drives x is.
     accepts g.B.Lockstep.state g.B.Lockstep.machine C drives c.args.input c.args.self.now
     (record c.args.self.now { node = c.accept.new.self; inputs = c.push.new.self }) x g.met.B.Lockstep.counts c.requires is
     (c.accept.ensures.node C drives x is.node) c.in_ok-push.ensures.ok refl
-
-pub returns-clause-pages : goal.returns-clause-pages
-returns-clause-pages g c = c.accept.ensures.pages
-
-pub returns-in_err-push-clause-pages : goal.returns-in_err-push-clause-pages
-returns-in_err-push-clause-pages g c = IfOk-from_err c.from_residual.result _ c.from_residual.ensures.0

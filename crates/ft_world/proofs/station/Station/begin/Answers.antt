@@ -1,5 +1,4 @@
 -- The node has begun, and the joining host is given what is of this station.
-use Rattle.std.proofs.lemmas.Result.{IfOk-from_err}
 use Rattle.ft_world.proofs.CopiedStations.{alone_role, begins_on, may_begin}
 use Rattle.ft_world.proofs.station.Station.begin.Goals as goal
 
@@ -9,15 +8,3 @@ returns-clause-answer g c = λ C drives x copies keys parts is.
     let alone = alone_role x (may_begin drives x c.in_ok-next.next may).0 in
     begins_on g.B.Lockstep.state g.B.Lockstep.machine C drives c.args.self.now c.begin.new.self c.in_ok-opening.opening c.in_ok-next.next
     c.in_ok-begin.field-0 x is may (c.in_ok-begin.ensures.answer C drives x copies (keys alone) is.node) c.in_ok-opening.ensures.ok
-
-pub returns-clause-pages : goal.returns-clause-pages
-returns-clause-pages g c = c.in_ok-begin.ensures.pages
-
-pub returns-in_err-next-clause-pages : goal.returns-in_err-next-clause-pages
-returns-in_err-next-clause-pages g c = IfOk-from_err c.from_residual.result _ c.from_residual.ensures.0
-
-pub returns-in_err-opening-clause-pages : goal.returns-in_err-opening-clause-pages
-returns-in_err-opening-clause-pages g c = IfOk-from_err c.from_residual-in_err-opening.result _ c.from_residual-in_err-opening.ensures.0
-
-pub returns-in_err-begin-clause-pages : goal.returns-in_err-begin-clause-pages
-returns-in_err-begin-clause-pages g c = IfOk-from_err c.from_residual-in_err-begin.result _ c.from_residual-in_err-begin.ensures.0

@@ -7,6 +7,3 @@ pub returns-clause-answer : goal.returns-clause-answer
 returns-clause-answer g c = λ C drives x is.
     hears_on g.B.Lockstep.state g.B.Lockstep.machine C drives (packet_at c.args.bytes.now) c.args.self.now c.on_ack.new.self
     c.on_ack.result x is (c.on_ack.ensures.answer C drives x is.node)
-
-pub returns-clause-pages : goal.returns-clause-pages
-returns-clause-pages g c = c.on_ack.ensures.pages

@@ -1,5 +1,4 @@
 -- A node settles by the count of its machine once it has drained, and as before until then.
-use Rattle.std.proofs.lemmas.Result.{IfOk-from_err}
 use Rattle.ft_world.proofs.Stations.{drains_on}
 use Rattle.ft_world.proofs.station.Station.drain.Goals as goal
 
@@ -8,9 +7,3 @@ returns-clause-answer g c = λ C drives x is.
     drains_on g.B.Lockstep.state g.B.Lockstep.machine C drives c.args.turns c.args.self.now c.drain.new.self
     c.in_ok-drained.drained c.settled_count-self.result x is (c.in_ok-drained.ensures.answer C drives x is.node)
     (c.settled_count-self.ensures C drives)
-
-pub returns-clause-pages : goal.returns-clause-pages
-returns-clause-pages g c = c.in_ok-drained.ensures.pages
-
-pub returns-in_err-drained-clause-pages : goal.returns-in_err-drained-clause-pages
-returns-in_err-drained-clause-pages g c = IfOk-from_err c.from_residual.result _ c.from_residual.ensures.0

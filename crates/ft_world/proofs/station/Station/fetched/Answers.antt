@@ -8,6 +8,3 @@ returns-clause-answer g c = λ C drives x is.
     fetches_on g.B.Lockstep.state g.B.Lockstep.machine C drives c.args.self.now c.fetched.new.self
     (read_address c.args.read.now) c.args.read.now.number c.args.read.now.bytes c.fetched.result x is
     (c.fetched.ensures.answer C drives x is.node)
-
-pub returns-clause-pages : goal.returns-clause-pages
-returns-clause-pages g c = c.fetched.ensures.pages

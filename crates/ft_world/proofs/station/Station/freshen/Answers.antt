@@ -6,9 +6,3 @@ pub returns-clause-answer : goal.returns-clause-answer
 returns-clause-answer g c = λ C drives x is.
     freshens_on g.B.Lockstep.state g.B.Lockstep.machine C drives c.args.self.now c.freshen.new.self c.freshen.result x is
     (c.freshen.ensures.answer C drives x is.node)
-
-pub returns-clause-stale : goal.returns-clause-stale
-returns-clause-stale g c = c.freshen.ensures.stale
-
-pub returns-clause-begins : goal.returns-clause-begins
-returns-clause-begins g c = c.freshen.ensures.begins

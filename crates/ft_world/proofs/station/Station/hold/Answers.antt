@@ -1,6 +1,5 @@
 -- There is no room for the input, or none for the entry, or both are there.
 use Rattle.std.proofs.Common.{Err, ap, refl}
-use Rattle.std.proofs.lemmas.Result.{IfOk-from_err}
 use Rattle.ft_world.specs.declared.station.Station.{Station}
 use Rattle.ft_world.proofs.Holding.{as_before, holds_on, no_room, taken_back}
 use Rattle.ft_world.proofs.station.Station.hold.Goals as goal
@@ -12,18 +11,12 @@ returns-in_err-hold-clause-answer g c = λ C drives x is.
     c.from_residual.result c.in_err-hold.field-0.0 x c.from_residual.ensures.1 c.in_err-hold.ensures.full
     (ap (λ inputs. record old { inputs = inputs }) c.in_err-hold.ensures.unchanged) is
 
-pub returns-in_err-hold-clause-pages : goal.returns-in_err-hold-clause-pages
-returns-in_err-hold-clause-pages g c = IfOk-from_err c.from_residual.result _ c.from_residual.ensures.0
-
 pub returns-in-Ok-clause-answer : goal.returns-in-Ok-clause-answer
 returns-in-Ok-clause-answer g c = λ C drives x is.
     let new : Station g.row.B.Denot g.row.H.Denot =
     record { node = c.hold-2.new.self; inputs = c.hold.new.self; count = c.count-count.result } in
     holds_on g.B.Lockstep.state g.B.Lockstep.machine C drives c.args.self.now new c.args.entry x c.requires is
     (c.in-Ok.ensures.answer C drives x is.node) c.in_ok-hold.ensures.ok c.count-count.ensures
-
-pub returns-in-Ok-clause-pages : goal.returns-in-Ok-clause-pages
-returns-in-Ok-clause-pages g c = c.in-Ok.ensures.pages
 
 pub returns-in-Err-clause-unchanged : goal.returns-in-Err-clause-unchanged
 returns-in-Err-clause-unchanged g c =

@@ -7,6 +7,3 @@ pub returns-clause-answer : goal.returns-clause-answer
 returns-clause-answer g c = λ C drives x copies is.
     gets_on g.B.Lockstep.state g.B.Lockstep.machine C drives c.args.self.now c.part.new.self
     (message_at drives c.args.bytes.now) c.part.result x is (c.part.ensures.answer C drives x copies is.node)
-
-pub returns-clause-pages : goal.returns-clause-pages
-returns-clause-pages g c = c.part.ensures.pages

@@ -6,6 +6,3 @@ pub returns-clause-answer : goal.returns-clause-answer
 returns-clause-answer g c = λ C drives x is.
     replays_on g.B.Lockstep.state g.B.Lockstep.machine C drives c.args.turns c.args.self.now c.replay.new.self c.replay.result x
     is (c.replay.ensures.answer C drives x is.node)
-
-pub returns-clause-pages : goal.returns-clause-pages
-returns-clause-pages g c = c.replay.ensures.pages

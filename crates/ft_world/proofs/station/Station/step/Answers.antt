@@ -1,5 +1,4 @@
 -- The steps are refused, or they are made and the node settles by the count after them.
-use Rattle.std.proofs.lemmas.Result.{IfOk-from_err}
 use Rattle.ft_world.proofs.Stations.{steps_not, steps_on}
 use Rattle.ft_world.proofs.station.Station.step.Goals as goal
 
@@ -12,9 +11,3 @@ pub returns-clause-answer : goal.returns-clause-answer
 returns-clause-answer g c = λ C drives x is.
     steps_on g.B.Lockstep.state g.B.Lockstep.machine C drives c.args.turns c.args.self.now c.step.new.self c.in_ok-ran.ran
     c.count-self.result x is (c.in_ok-ran.ensures.answer C drives x is.node) (c.count-self.ensures C drives)
-
-pub returns-clause-pages : goal.returns-clause-pages
-returns-clause-pages g c = c.in_ok-ran.ensures.pages
-
-pub returns-in_err-ran-clause-pages : goal.returns-in_err-ran-clause-pages
-returns-in_err-ran-clause-pages g c = IfOk-from_err c.from_residual.result _ c.from_residual.ensures.0

@@ -6,6 +6,3 @@ pub returns-clause-answer : goal.returns-clause-answer
 returns-clause-answer g c = λ C drives x is.
     stops_on g.B.Lockstep.state g.B.Lockstep.machine C drives c.args.self.now c.stop.new.self c.stop.result x is
     (c.stop.ensures.answer C drives x is.node)
-
-pub returns-clause-pages : goal.returns-clause-pages
-returns-clause-pages g c = c.stop.ensures.pages

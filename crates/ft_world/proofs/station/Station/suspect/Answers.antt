@@ -6,6 +6,3 @@ pub returns-clause-answer : goal.returns-clause-answer
 returns-clause-answer g c = λ C drives x is.
     suspects_on g.B.Lockstep.state g.B.Lockstep.machine C drives c.args.self.now c.suspect.new.self _ _ c.args.id
     c.suspect.result x is (c.suspect.ensures.answer C drives x is.node)
-
-pub returns-clause-pages : goal.returns-clause-pages
-returns-clause-pages g c = c.suspect.ensures.pages

@@ -1,6 +1,5 @@
 -- The node refuses the input, or takes it.
 use Rattle.std.proofs.Common.{None, subst}
-use Rattle.std.proofs.lemmas.Result.{IfOk-from_err}
 use Rattle.pair_protocol.specs.Effects.{Took}
 use Rattle.ft_node.specs.Calls.{Call, Ever}
 use Rattle.ft_node.proofs.PassedChecks.{passed, refused}
@@ -22,9 +21,3 @@ returns-clause-answer g c = λ C drives x is.
     (IsStation g.B.Lockstep.state M C drives c.accept.new.self) c.in_ok-check.field-0 (c.in_ok-check.ensures.answer C drives x is.node)
     (subst (λ i. Call None Ever (λ done. Took M i) x c.accept.result (IsStation g.B.Lockstep.state M C drives c.accept.new.self))
     c.input.ensures (c.accept.ensures.answer C drives x is))
-
-pub returns-clause-pages : goal.returns-clause-pages
-returns-clause-pages g c = c.accept.ensures.pages
-
-pub returns-in_err-check-clause-pages : goal.returns-in_err-check-clause-pages
-returns-in_err-check-clause-pages g c = IfOk-from_err c.from_residual.result _ c.from_residual.ensures.0
