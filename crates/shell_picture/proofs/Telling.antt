@@ -1,5 +1,5 @@
 -- Lines that say what is asked for, one after another.
-use Rattle.std.proofs.Common.{◌≡◌, ℕ, ◌+◌, ◌-◌, ◌<◌, ◌==◌, ◌∷◌, ◌++◌, ◌∙◌, true, false, refl, [], List, Option, Some, None, Ok, Err, take, length, get_or, codes, ap, sym, subst, eq-eqb, ne_eqb}
+use Rattle.std.proofs.Common.{◌≡◌, ℕ, ◌+◌, ◌-◌, ◌<◌, ◌∷◌, ◌++◌, ◌∙◌, true, refl, [], List, Option, Some, None, Ok, Err, take, length, get_or, codes, ap, sym, subst, eq-eqb, ne_eqb}
 use Rattle.std.specs.Prelude.{Result, if◌then◌else◌}
 use Rattle.std.specs.Fmt.{decimal}
 use Rattle.std.specs.List.{flat_map}

@@ -8,7 +8,7 @@ use Rattle.i8080_words.specs.declared.instruction.AluOperation.TheVariants as al
 use Rattle.i8080_words.specs.declared.instruction.Condition.{Condition}
 use Rattle.i8080_words.specs.declared.instruction.Condition.TheVariants as when
 use Rattle.i8080_words.specs.declared.instruction.Op.{Op}
-use Rattle.i8080_words.specs.declared.instruction.Op.TheVariants.{Nop, Hlt, Di, Ei, Mov, Mvi, Lxi, Stax, Ldax, Sta, Lda, Shld, Lhld, Xchg, Arithmetic, Immediate, Inr, Dcr, Inx, Dcx, Dad, Accumulator, Jmp, JumpIf, Call, CallIf, Ret, ReturnIf, Rst, Push, Pop, Xthl, Pchl, Sphl, In, Out}
+use Rattle.i8080_words.specs.declared.instruction.Op.TheVariants.{Hlt, Di, Ei, Mov, Mvi, Lxi, Stax, Ldax, Sta, Lda, Shld, Lhld, Xchg, Arithmetic, Immediate, Inr, Dcr, Inx, Dcx, Dad, Accumulator, Jmp, JumpIf, Call, CallIf, Ret, ReturnIf, Rst, Push, Pop, Xthl, Pchl, Sphl, In, Out}
 use Rattle.i8080_words.specs.declared.instruction.Register.{Register}
 use Rattle.i8080_words.specs.declared.instruction.Register.TheVariants as reg
 use Rattle.i8080_words.specs.declared.instruction.RegisterPair.{RegisterPair}

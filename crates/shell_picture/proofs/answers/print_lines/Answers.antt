@@ -1,5 +1,5 @@
 -- One line more is printed; in the end none is left.
-use Rattle.std.proofs.Common.{◌≡◌, ◌<◌, [], length, ap, arith}
+use Rattle.std.proofs.Common.{◌≡◌, [], ap, arith}
 use Rattle.std.specs.Prelude.{map}
 use Rattle.std.proofs.lemmas.Grind.{common_steps}
 use Rattle.script_language.specs.Text.{lines_of}

@@ -1,5 +1,5 @@
 -- The line has the first of the instructions that are left.
-use Rattle.std.proofs.Common.{◌≡◌, ◌∷◌, []}
+use Rattle.std.proofs.Common.{◌≡◌}
 use Rattle.std.specs.Prelude.{drop}
 use Rattle.i8080_words.specs.Opcodes.{instruction_length}
 use Rattle.shell_picture.specs.Listings.{listing_rows}
