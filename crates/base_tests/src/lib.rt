@@ -1,30 +1,25 @@
-//! Tests of the processor, of the devices and the guest's memory, of the log, and of the script language with the words of its
-//! answers, over the public items of their crates: a crate of their own, so that those are proved once.
+//! Tests of the processor, of the devices, of the guest's memory and its board, of the second executor, by itself and against the
+//! first, and of parts of an image that no primary sends, over the public items of their crates: a crate of their own, so that
+//! those are proved once.
 #![tactic(auto)]
 
-#[cfg(test)]
-mod answers;
-#[cfg(test)]
-mod channels;
 #[cfg(test)]
 mod completions;
 #[cfg(test)]
 mod disk;
 #[cfg(test)]
-mod entries;
+mod executors;
 #[cfg(test)]
-mod logs;
+mod folds;
+#[cfg(test)]
+mod images;
 #[cfg(test)]
 mod memory;
 #[cfg(test)]
-mod readers;
-#[cfg(test)]
-mod scripts;
-#[cfg(test)]
 mod serial;
 #[cfg(test)]
-mod steps;
+mod singles;
 #[cfg(test)]
-mod walk;
+mod steps;
 #[cfg(test)]
 mod words;

@@ -1,120 +1,88 @@
-//! Worked examples of interrupts, HLT and a small program, over a memory of 256 bytes.
-ghost use Rattle.std.specs.Prelude.{◌≡◌};
-ghost use Rattle.base_tests.specs.Examples.{Wires, byte_at as byte_of_wires, input_byte as input_of_wires, access};
-
+//! Worked examples of interrupts, HLT and steps made in place, over all of memory.
 mod codes;
+mod machine;
 
 use i8080_core::{Bus, Cpu};
-use i8080_words::{AddressRegister, Interrupts, Processor, Regs, Stepped};
+use i8080_words::{AddressRegister, Interrupts, Processor, R, Regs, Stepped};
+use machine::Machine;
+use std::alloc::Global;
 use std::process::Abort;
 
-#[derive(Drop)]
-struct Board {
-    bytes: [u8; 256],
-    sent: u8,
-}
-
-impl Bus for Board {
-    ghost State = { Wires };
-
-    ghost state = { λ b. record { bytes = b.bytes; sent = b.sent } };
-
-    ghost byte_at = { byte_of_wires };
-
-    ghost input_byte = { input_of_wires };
-
-    ghost after = { access };
-
-    fn read(&self, address: u16) -> u8 {
-        self.bytes[address as usize % 256]
-    }
-
-    fn write(&mut self, address: u16, byte: u8) {
-        self.bytes[address as usize % 256] = byte;
-    }
-
-    fn input(&mut self, _port: u8) -> u8 {
-        self.sent
-    }
-
-    fn look(&self, _port: u8) -> Option<u8> {
-        Some(self.sent)
-    }
-
-    fn output(&mut self, _port: u8, byte: u8) {
-        self.sent = byte;
-    }
-}
-
-// A processor at 0000 with SP 0100, over a memory with a program followed by zeros.
-fn load(program: &[u8]) -> (Cpu, Board) {
-    let mut bytes = [0; 256];
-    for (place, byte) in bytes.iter_mut().zip(program) {
-        *place = *byte;
-    }
+// A processor at 0000 with SP 0100.
+fn at_start(interrupts: Interrupts) -> Cpu {
     let reset = *Cpu::reset().processor();
     let regs = Regs {
         sp: AddressRegister::new(0x0100),
         ..reset.regs
     };
+    Cpu::resume(Processor {
+        regs,
+        interrupts,
+        ..reset
+    })
+}
+
+// A memory with a program followed by zeros.
+fn load(alloc: Global, program: &[u8]) -> R<Machine> {
+    let mut bytes = Vec::from_slice(alloc, program)?;
+    bytes.resize(65536, 0x00)?;
+    Ok(Machine::of(bytes))
+}
+
+// A program; whether a request of level 7 is there at each step, and the kind of the step; and the low byte of the address that
+// the last step pushes, whose high byte is 00.
+type Wait = (&'static [u8], &'static [(bool, Stepped)], u8);
+
+static WAITS: [Wait; 3] = [
+    // It waits for one instruction after EI, and for one more after a second one.
     (
-        Cpu::resume(Processor { regs, ..reset }),
-        Board { bytes, sent: 0xff },
-    )
-}
+        &[0xfb, 0x00, 0x00],
+        &[
+            (true, Stepped::Ran),
+            (true, Stepped::Ran),
+            (true, Stepped::Accepted),
+        ],
+        0x02,
+    ),
+    (
+        &[0xfb, 0xfb, 0x00],
+        &[
+            (true, Stepped::Ran),
+            (true, Stepped::Ran),
+            (true, Stepped::Ran),
+            (true, Stepped::Accepted),
+        ],
+        0x03,
+    ),
+    // A halted processor waits for it.
+    (
+        &[0xfb, 0x76],
+        &[
+            (false, Stepped::Ran),
+            (false, Stepped::Ran),
+            (false, Stepped::Idle),
+            (false, Stepped::Idle),
+            (true, Stepped::Accepted),
+        ],
+        0x02,
+    ),
+];
 
-// Checks the kind of each step, with the line active at level 7 or inactive.
-fn expect(rt: &impl Abort, cpu: &mut Cpu, board: &mut Board, active: bool, kinds: &[Stepped]) {
-    let line = if active { Some(7) } else { None };
-    for kind in kinds {
-        let idles = *kind == Stepped::Idle;
-        assert!(rt; cpu.idles(line) == idles);
-        assert!(rt; cpu.step(board, line) == *kind);
+#[test]
+fn an_interrupt_waits_and_wakes(rt: HostRuntime) -> R<()> {
+    for (program, steps, pushed) in &WAITS {
+        let mut machine = load(rt.alloc(), program)?;
+        let mut cpu = at_start(Interrupts::Off);
+        for (active, kind) in *steps {
+            let line = if *active { Some(7) } else { None };
+            assert!(rt; cpu.idles(line) == (*kind == Stepped::Idle));
+            assert!(rt; cpu.step(&mut machine, line) == *kind);
+        }
+        assert!(rt; (machine.read(0x00ff), machine.read(0x00fe)) == (0x00, *pushed));
+        let regs = cpu.processor().regs;
+        assert!(rt; (regs.sp.get(), regs.pc.get()) == (0x00fe, 0x0038));
     }
-}
-
-#[test]
-fn an_interrupt_waits_one_instruction_after_ei(rt: HostRuntime) {
-    use Stepped::{Accepted, Ran};
-    let (mut cpu, mut board) = load(&[0xfb, 0x00, 0x00]);
-    expect(&rt, &mut cpu, &mut board, true, &[Ran, Ran, Accepted]);
-    assert!(rt; (board.read(0x00ff), board.read(0x00fe)) == (0x00, 0x02));
-    let regs = cpu.processor().regs;
-    assert!(rt; (regs.sp.get(), regs.pc.get()) == (0x00fe, 0x0038));
-}
-
-#[test]
-fn a_second_ei_makes_it_wait_again(rt: HostRuntime) {
-    use Stepped::{Accepted, Ran};
-    let (mut cpu, mut board) = load(&[0xfb, 0xfb, 0x00]);
-    expect(&rt, &mut cpu, &mut board, true, &[Ran, Ran, Ran, Accepted]);
-    assert!(rt; (board.read(0x00ff), board.read(0x00fe)) == (0x00, 0x03));
-}
-
-#[test]
-fn a_halted_processor_waits_for_a_line(rt: HostRuntime) {
-    use Stepped::{Accepted, Idle, Ran};
-    let (mut cpu, mut board) = load(&[0xfb, 0x76]);
-    expect(&rt, &mut cpu, &mut board, false, &[Ran, Ran, Idle, Idle]);
-    expect(&rt, &mut cpu, &mut board, true, &[Accepted]);
-    assert!(rt; (board.read(0x00ff), board.read(0x00fe)) == (0x00, 0x02));
-    assert!(rt; cpu.processor().regs.pc.get() == 0x0038);
-}
-
-// LXI SP,0100; MVI B,5; XRA A; then ADD B, DCR B, JNZ until B is 0; PUSH PSW; OUT 10; XRA A; IN 10; HLT.
-#[test]
-fn a_program_sums_five_to_one(rt: HostRuntime) {
-    let (mut cpu, mut board) = load(&[
-        0x31, 0x00, 0x01, 0x06, 0x05, 0xaf, 0x80, 0x05, 0xc2, 0x06, 0x00, 0xf5, 0xd3, 0x10, 0xaf,
-        0xdb, 0x10, 0x76,
-    ]);
-    for _ in 0..23 {
-        assert!(rt; cpu.step(&mut board, None) == Stepped::Ran);
-    }
-    assert!(rt; cpu.step(&mut board, None) == Stepped::Idle);
-    assert!(rt; (board.read(0x00ff), board.read(0x00fe)) == (0x0f, 0x56));
-    let regs = cpu.processor().regs;
-    assert!(rt; (regs.a, regs.b, regs.sp.get(), regs.pc.get()) == (0x0f, 0x00, 0x00fe, 0x0012));
+    Ok(())
 }
 
 // Each kind of instruction but HLT, DI, EI and IN, up to OUT 10 at 004C; subroutines at 0038 and 0040.
@@ -169,44 +137,40 @@ static EACH_KIND: [u8; 80] = [
     0x00,
 ];
 
-#[test]
-fn steps_made_in_place_are_as_many_steps(rt: HostRuntime) {
-    let (mut in_place, mut first) = load(&EACH_KIND);
-    let (mut one_by_one, mut second) = load(&EACH_KIND);
-    assert!(rt; in_place.run_quietly(&mut first, 13) == 13);
-    assert!(rt; in_place.run_quietly(&mut first, 1000) == 27);
+// Two processors do the same, one in place and one step by step, and have interrupts on at the end.
+fn expect_alike(rt: &impl Abort, in_place: &mut Machine, one_by_one: &mut Machine) {
+    let mut first = at_start(Interrupts::On);
+    let mut second = at_start(Interrupts::On);
+    assert!(rt; first.run_quietly(in_place, 13) == 13);
+    assert!(rt; first.run_quietly(in_place, 1000) == 27);
     for _ in 0..40 {
-        assert!(rt; one_by_one.step(&mut second, None) == Stepped::Ran);
+        assert!(rt; second.step(one_by_one, None) == Stepped::Ran);
     }
-    assert!(rt; in_place.processor() == one_by_one.processor());
-    for address in 0..=255 {
-        assert!(rt; first.read(address) == second.read(address));
-    }
-    let regs = in_place.processor().regs;
+    assert!(rt; first.processor() == second.processor());
+    let regs = first.processor().regs;
     assert!(rt;
         (regs.a, regs.b, regs.d, regs.e, regs.pc.get()) == (0x04, 0x02, 0x01, 0x11, 0x004c)
     );
+    assert!(rt; first.step(in_place, Some(7)) == Stepped::Accepted);
+    assert!(rt; second.step(one_by_one, Some(7)) == Stepped::Accepted);
 }
 
 #[test]
-fn steps_made_in_place_leave_interrupts_on(rt: HostRuntime) {
-    let (reset, mut board) = load(&EACH_KIND);
-    let mut cpu = Cpu::resume(Processor {
-        interrupts: Interrupts::On,
-        ..*reset.processor()
-    });
-    assert!(rt; cpu.run_quietly(&mut board, 1000) == 40);
-    assert!(rt; cpu.processor().interrupts == Interrupts::On);
-    assert!(rt; cpu.step(&mut board, Some(7)) == Stepped::Accepted);
-    assert!(rt; cpu.processor().regs.pc.get() == 0x0038);
+fn steps_made_in_place_are_as_many_steps(rt: HostRuntime) -> R<()> {
+    let mut in_place = load(rt.alloc(), &EACH_KIND)?;
+    let mut one_by_one = load(rt.alloc(), &EACH_KIND)?;
+    expect_alike(&rt, &mut in_place, &mut one_by_one);
+    assert!(rt; in_place.bytes == one_by_one.bytes);
+    Ok(())
 }
 
-// IN 10; RRC; HLT.
+// IN 10, which reads 4A; RRC; HLT.
 #[test]
-fn a_read_that_changes_nothing_is_made_in_place(rt: HostRuntime) {
-    let (mut cpu, mut board) = load(&[0xdb, 0x10, 0x0f, 0x76]);
-    board.sent = 0x02;
-    assert!(rt; cpu.run_quietly(&mut board, 1000) == 2);
+fn a_read_that_changes_nothing_is_made_in_place(rt: HostRuntime) -> R<()> {
+    let mut machine = load(rt.alloc(), &[0xdb, 0x10, 0x0f, 0x76])?;
+    let mut cpu = at_start(Interrupts::Off);
+    assert!(rt; cpu.run_quietly(&mut machine, 1000) == 2);
     let regs = cpu.processor().regs;
-    assert!(rt; (regs.a, regs.pc.get()) == (0x01, 0x0003));
+    assert!(rt; (regs.a, regs.pc.get()) == (0x25, 0x0003));
+    Ok(())
 }

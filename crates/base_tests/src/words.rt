@@ -1,4 +1,3 @@
-//! Worked examples from the manual, every decimal adjustment, and every code by the manual's bit patterns.
+//! Worked examples from the manual, and every decimal adjustment.
 mod adjustments;
 mod examples;
-mod patterns;

@@ -13,7 +13,6 @@ ghost use Rattle.log_channel.specs.Packet.{packet_at};
 ghost use Rattle.log_entry.specs.Standing.{IsOnTrace};
 ghost use Rattle.recorder.specs.Laws.{Records};
 
-use crate::replays::came;
 use disk_dcdd::{SECTOR_BYTES, SectorAddress};
 use event_callbacks::{Callbacks, Completes, Devices, Done, OpId, Operation, plain_completions};
 use guest_board::{Board, Setup};
@@ -22,9 +21,8 @@ use guest_memory::BYTES;
 use i8080_words::{Fault, Processor, R};
 use log_buffer::LogBuffer;
 use log_channel::{Packet, Receiver, Sender};
-use log_entry::Entry;
 use recorder::Recorder;
-use replayer::Replayer;
+use replayer::{Replayed, Replayer};
 use std::alloc::Global;
 use std::process::Abort;
 
@@ -284,9 +282,17 @@ fn replay_all<T: Completes, S: Completes, W: Completes>(
 ) -> R<Shown>
     requires { IsOnTrace some_altair replayer.old.board.guest receiver.old.entries replayer.old.fetched }
 {
-    assert!(rt; replayer.replay(receiver, 18) == came(18, ReplayEnd::Turns));
+    let few = Replayed {
+        moves: 18,
+        why: ReplayEnd::Turns,
+    };
+    assert!(rt; replayer.replay(receiver, 18) == Ok(few));
     assert!(rt; replayer.board().count() == 15);
-    assert!(rt; replayer.replay(receiver, 9999) == came(985, ReplayEnd::End));
+    let rest = Replayed {
+        moves: 985,
+        why: ReplayEnd::End,
+    };
+    assert!(rt; replayer.replay(receiver, 9999) == Ok(rest));
     show(rt.alloc(), replayer.board())
 }
 

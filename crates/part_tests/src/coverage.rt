@@ -84,21 +84,12 @@ fn operations_wait_for_their_acknowledgement(rt: HostRuntime) -> R<()> {
 }
 
 #[test]
-fn forgotten_operations_do_not_wait(rt: HostRuntime) {
+fn forgotten_and_lone_operations_do_not_wait(rt: HostRuntime) {
     let mut coverage = Coverage::new([0, 0]);
     coverage.note(OpId::Byte(0, 1), 1);
-    coverage.note(OpId::Write(1), 2);
-    coverage.forget(OpId::Write(1));
     releases(&rt, &coverage, &[(1, WAITS)]);
     coverage.forget(OpId::Byte(0, 1));
     releases(&rt, &coverage, &[(1, Ok(()))]);
-    coverage.note(OpId::Byte(0, 1), 4);
-    releases(&rt, &coverage, &[(1, WAITS)]);
-}
-
-#[test]
-fn lone_operations_do_not_wait(rt: HostRuntime) {
-    let mut coverage = Coverage::new([0, 0]);
     coverage.note(OpId::Byte(0, 1), 4);
     releases(&rt, &coverage, &[(1, WAITS)]);
     coverage.all([2, 1]);

@@ -1,8 +1,10 @@
-//! Tests of the parts of a pair, over their public items: a crate of their own, so that each part is proved once.
+//! Tests of the log and of the parts of a pair, over their public items: a crate of their own, so that each is proved once.
 #![tactic(auto)]
 
 #[cfg(test)]
 mod boards;
+#[cfg(test)]
+mod channels;
 #[cfg(test)]
 mod contests;
 #[cfg(test)]
@@ -10,7 +12,11 @@ mod coverage;
 #[cfg(test)]
 mod disks;
 #[cfg(test)]
+mod entries;
+#[cfg(test)]
 mod follows;
+#[cfg(test)]
+mod logs;
 #[cfg(test)]
 mod records;
 #[cfg(test)]

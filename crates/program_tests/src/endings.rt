@@ -1,7 +1,5 @@
 //! Scripts that are too long, input and output that fail, and what the help says.
 use crate::runs::{Ending, WELL, end_of, expect, expect_ran, run_on};
-use command_ending::{Failure, Report};
-use pair_check::Verdict;
 use std::io::{self, ErrorKind, Read, Write};
 use std::process::Abort;
 use std::test::Fail;
@@ -141,45 +139,6 @@ fn the_example_of_the_help_runs_as_it_is(rt: HostRuntime) -> Result<(), Fail> {
     expect(&rt, "script", script.as_bytes(), output, WELL)
 }
 
-// This line is written at once, and then so many bytes are written in all.
-fn expect_written(
-    rt: &impl Abort,
-    report: &mut Report,
-    printed: &mut Vec<u8>,
-    text: &str,
-    written: usize,
-) {
-    assert!(rt; report.line(printed, &text).is_ok());
-    assert!(rt; printed.len() == written);
-}
-
-// Before so many turns as many bytes are written in all; a line after that waits.
-fn expect_waiting(
-    rt: &impl Abort,
-    report: &mut Report,
-    printed: &mut Vec<u8>,
-    turns: u64,
-    written: usize,
-) {
-    assert!(rt; report.before_turns(printed, turns).is_ok());
-    assert!(rt; printed.len() == written);
-    assert!(rt; report.line(printed, &"x").is_ok());
-}
-
-// A line is written as soon as it is there. After 65,536 bytes lines wait, while guests make at most 10,000 turns.
-#[test]
-fn lines_wait_only_after_many(rt: HostRuntime) -> Result<(), Fail> {
-    let mut report = Report::new(rt.alloc());
-    let mut printed: Vec<u8> = Vec::new(rt.alloc());
-    let long = "x".repeat(rt.alloc(), 65_533)?;
-    expect_written(&rt, &mut report, &mut printed, "x", 2);
-    expect_written(&rt, &mut report, &mut printed, long.as_str(), 65_536);
-    for (turns, written) in [(9_999, 0), (1, 0), (1, 4), (10_000, 4), (1_000_000, 8)] {
-        expect_waiting(&rt, &mut report, &mut printed, turns, 65_536 + written);
-    }
-    Ok(())
-}
-
 // Takes all bytes, and counts how often it is told to write them.
 #[derive(Drop)]
 struct Flushed {
@@ -197,11 +156,14 @@ impl Write for Flushed {
     }
 }
 
-// After 5,958 refusals of eleven bytes lines wait: those of this line, twice, are written once more if no guest runs for long.
+// After 5,958 refusals of eleven bytes lines wait, while guests make at most 10,000 turns: those of this line, twice, are written once
+// more if no guest runs for longer.
 #[test]
 fn lines_are_written_before_a_guest_runs_for_long(rt: HostRuntime) -> Result<(), Fail> {
     for (line, count) in [
         ("node 0\n", 5_959),
+        ("step 1 5000\n", 5_959),
+        ("step 1 5001\n", 5_960),
         ("step 1 10001\n", 5_961),
         ("replay 0 10001\n", 5_961),
         ("drain 0 10001\n", 5_961),
@@ -216,23 +178,4 @@ fn lines_are_written_before_a_guest_runs_for_long(rt: HostRuntime) -> Result<(),
         assert_eq!(rt; (status, writer.count), (0, count), "{line}");
     }
     Ok(())
-}
-
-// No script makes a pair differ, so these are looked at separately.
-#[test]
-fn a_difference_is_told_on_standard_output(rt: HostRuntime) -> Result<(), Fail> {
-    let verdict = format!(in rt.alloc(); "{}", Verdict::Differs)?;
-    assert!(rt; verdict.as_str() == "differs");
-    Ok(())
-}
-
-fn expect_ending(rt: &(impl Abort + AllocGlobal), failure: Failure, ending: Ending<'_>) {
-    let (status, text) = failure.ending(rt.alloc());
-    assert!(rt; (status, text.as_str()) == ending);
-}
-
-#[test]
-fn a_difference_and_want_of_memory_have_their_statuses(rt: HostRuntime) {
-    expect_ending(&rt, Failure::Differs, (7, ""));
-    expect_ending(&rt, Failure::OutOfMemory, (4, "out of memory"));
 }

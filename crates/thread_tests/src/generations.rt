@@ -2,6 +2,5 @@
 mod finishing;
 mod gates;
 mod pairs;
-mod rests;
 mod rows;
 mod turns;

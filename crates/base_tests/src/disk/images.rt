@@ -83,165 +83,44 @@ fn a_controller_comes_back_from_its_image(rt: HostRuntime) {
     disk.stands();
 }
 
+#[rattlefmt::skip]
 static WRONG: [ControllerImage<'static>; 20] = [
     // No drive, and five, with none selected.
-    ControllerImage {
-        attached: 0,
-        selected: None,
-        current: None,
-        ..IMAGE
-    },
-    ControllerImage {
-        attached: 5,
-        selected: None,
-        current: None,
-        ..IMAGE
-    },
+    ControllerImage { attached: 0, selected: None, current: None, ..IMAGE },
+    ControllerImage { attached: 5, selected: None, current: None, ..IMAGE },
     // Drive 2 is selected, and there are two.
-    ControllerImage {
-        selected: Some(2),
-        current: None,
-        ..IMAGE
-    },
+    ControllerImage { selected: Some(2), current: None, ..IMAGE },
     // A head at track 77.
-    ControllerImage {
-        drives: [FAR, OVER, BOOT, BOOT],
-        ..IMAGE
-    },
+    ControllerImage { drives: [FAR, OVER, BOOT, BOOT], ..IMAGE },
     // A drive that is not attached and moved.
-    ControllerImage {
-        drives: [BOOT, OVER, OVER, BOOT],
-        ..IMAGE
-    },
+    ControllerImage { drives: [BOOT, OVER, OVER, BOOT], ..IMAGE },
     // A sector, with no drive selected.
-    ControllerImage {
-        selected: None,
-        ..IMAGE
-    },
+    ControllerImage { selected: None, ..IMAGE },
     // A sector under a head that is not loaded.
-    ControllerImage {
-        selected: Some(0),
-        ..IMAGE
-    },
+    ControllerImage { selected: Some(0), ..IMAGE },
     // A number above the greatest.
-    ControllerImage {
-        issued: GREATEST_NUMBER + 1,
-        ..IMAGE
-    },
+    ControllerImage { issued: GREATEST_NUMBER + 1, ..IMAGE },
     // Sector 32, 137 bytes read, and 137 filled in.
-    ControllerImage {
-        current: Some(CurrentSector {
-            sector: 32,
-            ..UNDER_HEAD
-        }),
-        ..IMAGE
-    },
-    ControllerImage {
-        current: Some(CurrentSector {
-            read: 137,
-            ..UNDER_HEAD
-        }),
-        ..IMAGE
-    },
-    ControllerImage {
-        current: Some(CurrentSector {
-            filled: Some(137),
-            ..UNDER_HEAD
-        }),
-        ..IMAGE
-    },
+    ControllerImage { current: Some(CurrentSector { sector: 32, ..UNDER_HEAD }), ..IMAGE },
+    ControllerImage { current: Some(CurrentSector { read: 137, ..UNDER_HEAD }), ..IMAGE },
+    ControllerImage { current: Some(CurrentSector { filled: Some(137), ..UNDER_HEAD }), ..IMAGE },
     // A write to drive 2, which is not attached, to track 77, of number 0, of a number that was not issued, to sector 32,
     // and to the sector under the head.
-    ControllerImage {
-        outstanding: &[Place { drive: 2, ..PLACE }],
-        ..IMAGE
-    },
-    ControllerImage {
-        outstanding: &[Place { track: 77, ..PLACE }],
-        ..IMAGE
-    },
-    ControllerImage {
-        outstanding: &[Place { number: 0, ..PLACE }],
-        ..IMAGE
-    },
-    ControllerImage {
-        outstanding: &[Place {
-            number: 10,
-            ..PLACE
-        }],
-        ..IMAGE
-    },
-    ControllerImage {
-        outstanding: &[Place {
-            sector: 32,
-            ..PLACE
-        }],
-        ..IMAGE
-    },
-    ControllerImage {
-        outstanding: &[Place { sector: 5, ..PLACE }],
-        ..IMAGE
-    },
+    ControllerImage { outstanding: &[Place { drive: 2, ..PLACE }], ..IMAGE },
+    ControllerImage { outstanding: &[Place { track: 77, ..PLACE }], ..IMAGE },
+    ControllerImage { outstanding: &[Place { number: 0, ..PLACE }], ..IMAGE },
+    ControllerImage { outstanding: &[Place { number: 10, ..PLACE }], ..IMAGE },
+    ControllerImage { outstanding: &[Place { sector: 32, ..PLACE }], ..IMAGE },
+    ControllerImage { outstanding: &[Place { sector: 5, ..PLACE }], ..IMAGE },
     // A number twice, and a sector twice.
-    ControllerImage {
-        outstanding: &[PLACE, Place { sector: 7, ..PLACE }],
-        ..IMAGE
-    },
-    ControllerImage {
-        outstanding: &[PLACE, Place { number: 5, ..PLACE }],
-        ..IMAGE
-    },
+    ControllerImage { outstanding: &[PLACE, Place { sector: 7, ..PLACE }], ..IMAGE },
+    ControllerImage { outstanding: &[PLACE, Place { number: 5, ..PLACE }], ..IMAGE },
     // Nine writes.
-    ControllerImage {
-        outstanding: &[
-            Place {
-                number: 1,
-                sector: 11,
-                ..PLACE
-            },
-            Place {
-                number: 2,
-                sector: 12,
-                ..PLACE
-            },
-            Place {
-                number: 3,
-                sector: 13,
-                ..PLACE
-            },
-            Place {
-                number: 4,
-                sector: 14,
-                ..PLACE
-            },
-            Place {
-                number: 5,
-                sector: 15,
-                ..PLACE
-            },
-            Place {
-                number: 6,
-                sector: 16,
-                ..PLACE
-            },
-            Place {
-                number: 7,
-                sector: 17,
-                ..PLACE
-            },
-            Place {
-                number: 8,
-                sector: 18,
-                ..PLACE
-            },
-            Place {
-                number: 9,
-                sector: 19,
-                ..PLACE
-            },
-        ],
-        ..IMAGE
-    },
+    ControllerImage { outstanding: &[Place { number: 1, sector: 11, ..PLACE }, Place { number: 2, sector: 12, ..PLACE },
+        Place { number: 3, sector: 13, ..PLACE }, Place { number: 4, sector: 14, ..PLACE },
+        Place { number: 5, sector: 15, ..PLACE }, Place { number: 6, sector: 16, ..PLACE },
+        Place { number: 7, sector: 17, ..PLACE }, Place { number: 8, sector: 18, ..PLACE },
+        Place { number: 9, sector: 19, ..PLACE }], ..IMAGE },
 ];
 
 #[test]

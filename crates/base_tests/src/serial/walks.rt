@@ -1,8 +1,8 @@
 //! Long walks of a port by calls drawn at random. The expected folds were made by an independent program.
 //!
-//! A walk begins with a port at boot, and makes 2,000 rounds. A round draws which call it makes, modulo 8, and a byte for
+//! Walk r draws from x = r, begins with a port at boot, and makes 2,000 rounds. A round draws which call it makes, modulo 8, and a byte for
 //! it; it folds what the call returns, and at its end the line.
-use crate::walk::Walk;
+use crate::folds::{Draw, Fold};
 use serial_2sio::Acia;
 
 #[rattlefmt::skip]
@@ -19,42 +19,39 @@ static FOLDED: [u32; 64] = [
 
 // Folds what a call returns: for a byte that is sent 0 if none goes out, otherwise 1 and the byte; for an acceptance 0, or
 // the number of the refusal.
-fn call(walk: &mut Walk, port: &mut Acia, kind: u8, drawn: u8) {
+fn call(fold: &mut Fold, port: &mut Acia, kind: u8, drawn: u8) {
     match kind {
         0 => port.control(drawn),
-        1 | 2 => walk.fold(port.status()),
-        3 => walk.fold(port.data_in()),
+        1 | 2 => fold.byte(port.status()),
+        3 => fold.byte(port.data_in()),
         4 | 5 => match port.data_out(drawn) {
-            None => walk.fold(0),
-            Some(sent) => {
-                walk.fold(1);
-                walk.fold(sent);
-            }
+            None => fold.byte(0),
+            Some(sent) => fold.bytes(&[1, sent]),
         },
         6 => port.receive(drawn),
         _ => match port.sent() {
-            Ok(()) => walk.fold(0),
-            Err(fault) => walk.fold(fault.number()),
+            Ok(()) => fold.byte(0),
+            Err(fault) => fold.byte(fault.number()),
         },
     }
 }
 
 // The fold at the end of a walk.
 fn folded_by(number: u32) -> u32 {
-    let mut walk = Walk::new(number);
+    let mut draw = Draw::new(number);
+    let mut fold = Fold::new();
     let mut port = Acia::new();
     for _ in 0..2000 {
-        let kind = walk.byte() % 8;
-        let drawn = walk.byte();
-        call(&mut walk, &mut port, kind, drawn);
-        walk.fold(u8::from(port.line()));
+        let kind = draw.byte() % 8;
+        call(&mut fold, &mut port, kind, draw.byte());
+        fold.byte(u8::from(port.line()));
     }
-    walk.folded
+    fold.folded
 }
 
 #[test]
 fn walks_fold_to_the_numbers_of_another_program(rt: HostRuntime) {
-    for (number, folded) in FOLDED.iter().enumerate() {
-        assert!(rt; folded_by(number as u32) == *folded, "walk {number}");
+    for (number, folded) in (0..64).zip(&FOLDED) {
+        assert!(rt; folded_by(number) == *folded, "walk {number}");
     }
 }

@@ -1,18 +1,21 @@
-//! Each code from 256 states. The expected folds were made by an independent program, whose arithmetic produces the
-//! published checksums of an 8080 exerciser.
+//! Each code from 256 states, in both executors. The expected folds were made by an independent program, whose arithmetic produces
+//! the published checksums of an 8080 exerciser.
 //!
-//! Numbers are drawn by x = x * 1664525 + 1013904223 modulo 2^32; a byte is the highest eight bits of x, and a word is
-//! two bytes, high byte first. Memory holds the 65,536 bytes drawn from x = 8080. For each code, numbers are drawn from
-//! x = code; a round draws A, F, B, C, D, E, H, L, SP, PC and two bytes of data, which go after the code at PC, and
-//! executes one step with interrupts off. IN p reads p XOR 5A. Bytes are folded from h = 2166136261 on: h is
-//! exclusive-ored with the byte and multiplied by 16777619 modulo 2^32. A round folds the registers, the interrupts (0
-//! off, 1 soon, 2 on), whether the processor is halted, each port access (49 and the port; 4F, the port and the byte),
-//! and the sum over the bytes written of (address * 256 + byte) * 2654435761 modulo 2^32, highest byte first.
-ghost use Rattle.base_tests.specs.Examples.{byte_in, input_at, access_of};
+//! Memory holds the 65,536 bytes drawn from x = 8080. For each code, numbers are drawn from x = code; a round draws A, F, B, C, D, E,
+//! H, L, SP, PC and two bytes of data, which go after the code at PC, and executes one step with interrupts off. IN p reads p XOR 5A.
+//! A round folds the registers, the interrupts (0 off, 1 soon, 2 on), whether the processor is halted, each port access (49 and the
+//! port; 4F, the port and the byte), and the sum over the bytes written of (address * 256 + byte) * 2654435761 modulo 2^32, highest
+//! byte first. The second executor makes the same step, and must do the same.
 
+use super::machine::{Machine, PortAccess};
+use crate::folds::{Draw, Fold};
+use guest_board::Setup;
+use guest_lockstep::Reads;
 use i8080_core::{Bus, Cpu};
-use i8080_words::{AddressRegister, Interrupts, Processor, Regs, of_psw, psw};
-use std::alloc::{AllocError, Global};
+use i8080_words::{AddressRegister, Fault, Interrupts, Processor, R, Regs, of_psw, psw};
+use plain_single::{Wires, run};
+use std::alloc::Global;
+use std::process::Abort;
 
 #[rattlefmt::skip]
 static FOLDED: [u32; 256] = [
@@ -50,154 +53,26 @@ static FOLDED: [u32; 256] = [
     0xa2fa_72d5, 0x2d94_cea4, 0xfb0c_0cf2, 0x561c_c9cc, 0x6fc8_2e74, 0x9138_8a10, 0x2f08_37a6, 0x3b6e_736c,
 ];
 
-// Numbers that are drawn.
-#[derive(Drop)]
-struct Draw {
-    drawn: u32,
-}
-
-impl Draw {
-    fn byte(&mut self) -> u8 {
-        self.drawn = self.drawn.wrapping_mul(1664525).wrapping_add(1013904223);
-        (self.drawn >> 24) as u8
-    }
-
-    fn word(&mut self) -> u16 {
-        let high = self.byte();
-        let low = self.byte();
-        u16::from_be_bytes([high, low])
-    }
-}
-
-// A fold of bytes.
-#[derive(Drop)]
-struct Fold {
-    folded: u32,
-}
-
-impl Fold {
-    fn byte(&mut self, byte: u8) {
-        self.folded = (self.folded ^ u32::from(byte)).wrapping_mul(16777619);
-    }
-
-    fn bytes(&mut self, bytes: &[u8]) {
-        for byte in bytes {
-            self.byte(*byte);
-        }
-    }
-}
-
-// An access of a port.
-#[derive(Clone, Copy)]
-enum PortAccess {
-    In(u8),
-    Out(u8, u8),
-}
-
-// All of memory, what a step wrote, and which port it accessed.
-#[derive(Drop)]
-struct Machine {
-    bytes: Vec<u8>,
-    written: [Option<u16>; 2],
-    port: Option<PortAccess>,
-}
-
-impl Bus for Machine {
-    ghost use Rattle.std.specs.Prelude.{ℕ, List};
-
-    ghost State = { List ℕ };
-
-    ghost state = { λ m. m.bytes.items };
-
-    ghost byte_at = { byte_in };
-
-    ghost input_byte = { input_at };
-
-    ghost after = { access_of };
-
-    fn read(&self, address: u16) -> u8 {
-        self.bytes.get(address as usize).copied().unwrap_or(0)
-    }
-
-    fn write(&mut self, address: u16, byte: u8) {
-        if let Some(place) = self.bytes.get_mut(address as usize) {
-            *place = byte;
-        }
-        let [last, _] = self.written;
-        self.written = [Some(address), last];
-    }
-
-    fn input(&mut self, port: u8) -> u8 {
-        self.port = Some(PortAccess::In(port));
-        port ^ 0x5a
-    }
-
-    fn look(&self, _port: u8) -> Option<u8> {
-        None
-    }
-
-    fn output(&mut self, port: u8, byte: u8) {
-        self.port = Some(PortAccess::Out(port, byte));
-    }
-}
-
-impl Machine {
-    fn put(&mut self, address: u16, byte: u8) {
-        if let Some(place) = self.bytes.get_mut(address as usize) {
-            *place = byte;
-        }
-    }
-
-    // Restores what was at an address.
-    fn restore(&mut self, address: u16, before: &[u8]) {
-        let byte = before.get(address as usize).copied().unwrap_or(0);
-        self.put(address, byte);
-    }
-
-    // The sum that is folded for the bytes written.
-    fn written_sum(&self) -> u32 {
-        let mut sum = 0u32;
-        for address in self.written.iter().flatten() {
-            let content = u32::from(*address) * 256 + u32::from(self.read(*address));
-            sum = sum.wrapping_add(content.wrapping_mul(2654435761));
-        }
-        sum
-    }
-
-    // Restores what a step overwrote, and forgets the step.
-    fn take_back(&mut self, before: &[u8]) {
-        let written = self.written;
-        for address in written.iter().flatten() {
-            self.restore(*address, before);
-        }
-        self.written = [None; 2];
-        self.port = None;
-    }
-}
-
 // A processor with drawn registers, whose interrupts are off.
 fn drawn_processor(draw: &mut Draw) -> Processor {
     let a = draw.byte();
-    let flags = of_psw((draw.byte() & 0xd5) | 0x02);
-    let b = draw.byte();
-    let c = draw.byte();
-    let d = draw.byte();
-    let e = draw.byte();
-    let h = draw.byte();
-    let l = draw.byte();
+    let flags = of_psw(draw.byte());
+    let (b, c) = (draw.byte(), draw.byte());
+    let (d, e) = (draw.byte(), draw.byte());
+    let (h, l) = (draw.byte(), draw.byte());
     let sp = AddressRegister::new(draw.word());
     let pc = AddressRegister::new(draw.word());
     let regs = Regs {
-        pc,
-        sp,
+        a,
+        flags,
         b,
         c,
         d,
         e,
         h,
         l,
-        a,
-        flags,
+        sp,
+        pc,
     };
     Processor {
         regs,
@@ -236,82 +111,166 @@ fn fold_port(fold: &mut Fold, access: Option<PortAccess>) {
     }
 }
 
-// The processor after a step.
-fn stepped(processor: &Processor, machine: &mut Machine) -> Processor {
-    let mut cpu = Cpu::resume(*processor);
-    let _ran = cpu.step(machine, None);
-    *cpu.processor()
+// What both executors execute on, with the same bytes in memory, and those that it has before and after each round.
+#[derive(Drop)]
+struct Memories {
+    machine: Machine,
+    wires: Wires,
+    before: Vec<u8>,
 }
 
-// Puts a code and its data at an address.
-fn load(code: u8, draw: &mut Draw, machine: &mut Machine, address: u16) {
-    machine.put(address, code);
-    let low = draw.byte();
-    machine.put(address.wrapping_add(1), low);
-    let high = draw.byte();
-    machine.put(address.wrapping_add(2), high);
-}
+impl Memories {
+    fn put(&mut self, address: u16, byte: u8) {
+        self.machine.put(address, byte);
+        self.wires.memory.write(address, byte);
+    }
 
-// Folds what a step did.
-fn fold_step(fold: &mut Fold, processor: &Processor, machine: &Machine) {
-    fold_processor(fold, processor);
-    let port = machine.port;
-    fold_port(fold, port);
-    let sum = machine.written_sum();
-    fold.bytes(&sum.to_be_bytes());
+    fn restore(&mut self, address: u16) {
+        let byte = self.before.get(address as usize).copied().unwrap_or(0);
+        self.put(address, byte);
+    }
+
+    // Puts a code and its data at an address.
+    fn load(&mut self, address: u16, bytes: &[u8; 3]) {
+        let mut at = address;
+        for byte in bytes {
+            self.put(at, *byte);
+            at = at.wrapping_add(1);
+        }
+    }
+
+    // Restores what a step and its code overwrote, and forgets the step.
+    fn take_back(&mut self, address: u16) {
+        let written = self.machine.written;
+        for at in written.iter().flatten() {
+            self.restore(*at);
+        }
+        for offset in 0..3 {
+            self.restore(address.wrapping_add(offset));
+        }
+        self.machine.written = [None; 2];
+        self.machine.port = None;
+    }
+
+    // The processor after a step.
+    fn stepped(&mut self, processor: &Processor) -> Processor {
+        let mut cpu = Cpu::resume(*processor);
+        let _ran = cpu.step(&mut self.machine, None);
+        *cpu.processor()
+    }
+
+    // The same step of the second executor, in which IN p is made to read p XOR 5A.
+    fn ran(&mut self, processor: &Processor) -> R<Processor> {
+        let mut after = *processor;
+        if self.wires.is_spent() {
+            return Err(Fault::Spent);
+        }
+        run(&mut after, &mut self.wires)?;
+        if let Some(PortAccess::In(port)) = self.machine.port {
+            after.regs.a = port ^ 0x5a;
+        }
+        Ok(after)
+    }
+
+    // Whether both memories have the same where a step wrote.
+    fn are_alike(&self) -> bool {
+        self.machine
+            .written
+            .iter()
+            .flatten()
+            .all(|at| self.wires.memory.read(*at) == self.machine.read(*at))
+    }
 }
 
 // One round of a code.
-fn round(code: u8, draw: &mut Draw, fold: &mut Fold, machine: &mut Machine, before: &[u8]) {
+fn round(
+    rt: &impl Abort,
+    code: u8,
+    draw: &mut Draw,
+    fold: &mut Fold,
+    memories: &mut Memories,
+) -> R<()> {
     let processor = drawn_processor(draw);
     let regs = processor.regs;
     let address = regs.pc.get();
-    load(code, draw, machine, address);
-    let after = stepped(&processor, machine);
-    fold_step(fold, &after, machine);
-    machine.take_back(before);
-    for offset in 0..3 {
-        machine.restore(address.wrapping_add(offset), before);
-    }
+    let low = draw.byte();
+    let high = draw.byte();
+    memories.load(address, &[code, low, high]);
+    let after = memories.stepped(&processor);
+    assert!(rt; memories.ran(&processor)? == after);
+    assert!(rt; memories.are_alike());
+    fold_processor(fold, &after);
+    fold_port(fold, memories.machine.port);
+    fold.bytes(&memories.machine.written_sum().to_be_bytes());
+    memories.take_back(address);
+    Ok(())
 }
 
 // The fold of a code after 256 rounds.
-fn folded_by(code: u8, machine: &mut Machine, before: &[u8]) -> u32 {
-    let mut draw = Draw {
-        drawn: u32::from(code),
-    };
-    let mut fold = Fold { folded: 2166136261 };
+fn folded_by(rt: &impl Abort, code: u8, memories: &mut Memories) -> R<u32> {
+    let mut draw = Draw::new(u32::from(code));
+    let mut fold = Fold::new();
     for _ in 0..256 {
-        round(code, &mut draw, &mut fold, machine, before);
+        round(rt, code, &mut draw, &mut fold, memories)?;
     }
-    fold.folded
+    Ok(fold.folded)
 }
 
 // The first 65,536 bytes drawn from 8080.
-fn drawn_memory(alloc: Global) -> Result<Vec<u8>, AllocError> {
+fn drawn_memory(alloc: Global) -> R<Vec<u8>> {
     let mut bytes = vec![in alloc; 0u8; 65536]?;
-    let mut draw = Draw { drawn: 8080 };
+    let mut draw = Draw::new(8080);
     for byte in bytes.iter_mut() {
         *byte = draw.byte();
     }
     Ok(bytes)
 }
 
-#[test]
-fn codes_fold_to_the_numbers_of_another_program(rt: HostRuntime) -> Result<(), AllocError> {
-    let before = drawn_memory(rt.alloc())?;
-    assert!(rt; before.first_chunk() == Some(&[0x5e, 0x2a, 0x43, 0xc2, 0x6e, 0x20, 0x1f, 0x27]));
-    let mut machine = Machine {
-        bytes: before.clone()?,
-        written: [None; 2],
-        port: None,
+// The second executor's ports at boot, and this memory.
+fn wires_of(alloc: Global, memory: Vec<u8>) -> R<Wires> {
+    if memory.len() != 65536 {
+        return Err(Fault::Malformed);
+    }
+    let setup = Setup {
+        memory,
+        drives: 1,
+        levels: [7, 7, 7],
+        sense: 0x00,
+        reads: Reads::Logged,
     };
-    for (code, folded) in FOLDED.iter().enumerate() {
-        let code = code as u8;
+    Wires::new(alloc, &setup)
+}
+
+fn memories_of(alloc: Global) -> R<Memories> {
+    let before = drawn_memory(alloc)?;
+    let machine = Machine::of(before.clone()?);
+    let wires = wires_of(alloc, before.clone()?)?;
+    Ok(Memories {
+        machine,
+        wires,
+        before,
+    })
+}
+
+// No step has written anywhere else.
+fn expect_restored(rt: &impl Abort, memories: &Memories) {
+    for (address, byte) in (0..=u16::MAX).zip(&memories.before) {
+        assert!(rt; memories.machine.read(address) == *byte);
+        assert!(rt; memories.wires.memory.read(address) == *byte);
+    }
+}
+
+#[test]
+fn codes_fold_to_the_numbers_of_another_program(rt: HostRuntime) -> R<()> {
+    let mut memories = memories_of(rt.alloc())?;
+    let first = memories.before.first_chunk();
+    assert!(rt; first == Some(&[0x5e, 0x2a, 0x43, 0xc2, 0x6e, 0x20, 0x1f, 0x27]));
+    for (code, folded) in (0..=255).zip(&FOLDED) {
         assert!(rt;
-            folded_by(code, &mut machine, &before) == *folded,
+            folded_by(&rt, code, &mut memories)? == *folded,
             "code {code}"
         );
     }
+    expect_restored(&rt, &memories);
     Ok(())
 }

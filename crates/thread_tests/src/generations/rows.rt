@@ -4,7 +4,7 @@
 use super::gates::{Closed, Together, Turnstile};
 use super::pairs::{Outcome, alone, run_case};
 use i8080_words::{Fault, R};
-use pair_threads::{OpenGate, Who};
+use pair_threads::Who;
 use std::process::Abort;
 use std::time::Instant;
 
@@ -43,14 +43,6 @@ fn expect_sector(rt: &impl Abort, end: &Outcome) {
     assert!(rt; end.accepted == [0, 0] && end.write == 1);
 }
 
-// On threads that wait for each other.
-#[test]
-fn a_byte_goes_out(rt: HostRuntime) -> R<()> {
-    let end = run_case(&rt, rt.alloc(), &alone(&FIRST_BYTE), &Together::new())?;
-    expect_byte(&rt, &end);
-    Ok(())
-}
-
 #[test]
 fn each_turn_leaves_the_gate(rt: HostRuntime) -> R<()> {
     let turnstile = Turnstile::new();
@@ -79,7 +71,8 @@ fn a_pair_that_waits_sleeps(rt: HostRuntime) -> R<()> {
     Ok(())
 }
 
-// The disk fails at none of its accesses, and then at each of the first ones in turn, and is asked again.
+// On threads that wait for each other. The disk fails at none of its accesses, and then at each of the first ones in turn, and is asked
+// again.
 #[test]
 fn a_disk_that_fails_is_asked_again(rt: HostRuntime) -> R<()> {
     for fails in 0..5 {
@@ -94,13 +87,5 @@ fn a_disk_that_fails_is_asked_again(rt: HostRuntime) -> R<()> {
 #[test]
 fn a_closed_gate_stalls(rt: HostRuntime) {
     let end = run_case(&rt, rt.alloc(), &alone(&FIRST_BYTE), &Closed);
-    assert!(rt; matches!(end, Err(Fault::Stalled)));
-}
-
-#[test]
-fn no_turns_stall(rt: HostRuntime) {
-    let mut none = alone(&FIRST_BYTE);
-    none.turns = 0;
-    let end = run_case(&rt, rt.alloc(), &none, &OpenGate);
     assert!(rt; matches!(end, Err(Fault::Stalled)));
 }

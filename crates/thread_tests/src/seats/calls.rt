@@ -5,56 +5,12 @@ use super::steps::{
     answer_once, append, ask, carry_once, emit_once, mark, post_once, read, read_once, serve_once,
     show_once, take_once, write,
 };
-use i8080_words::Fault;
 use pair_rule::{
     BackupSeat, DiskAnswer, DiskRequest, Fabric, LinkSeat, Packet, PortByte, PrimarySeat,
     TerminalSeat,
 };
 use std::process::Abort;
 use std::test::Fail;
-
-#[test]
-fn whoever_asks_first_has_won(rt: HostRuntime) -> Result<(), Fail> {
-    let (fabric, mut seats) = Fabric::open(rt.alloc(), 1)?;
-    assert!(rt; seats.backup.contest(&fabric) == Ok(()));
-    assert!(rt; seats.primary.contest(&fabric) == Err(Fault::Lost));
-    let closed = fabric.close(seats);
-    assert!(rt; closed.tail == 0 && closed.held == 0 && closed.winner == 2);
-    Ok(())
-}
-
-#[test]
-fn a_primary_that_asks_first_has_won(rt: HostRuntime) -> Result<(), Fail> {
-    let (fabric, mut seats) = Fabric::open(rt.alloc(), 1)?;
-    assert!(rt; seats.primary.contest(&fabric) == Ok(()));
-    assert!(rt; seats.backup.contest(&fabric) == Err(Fault::Lost));
-    assert!(rt; fabric.close(seats).winner == 1);
-    Ok(())
-}
-
-// Appends as many entries as a log holds, and returns how many it took.
-fn fill_log(fabric: &Fabric, seat: &mut PrimarySeat) -> u64
-    requires ready { (seat.old.table ≡ fabric.now) × (seat.old.core.known.primary.winner ≡ 0) }
-    ensures ready { (seat.new.table ≡ fabric.now) × (seat.new.core.known.primary.winner ≡ 0) }
-{
-    let mut taken = 0;
-    for count in 1..300 {
-        match seat.append(fabric, mark()) {
-            Ok(_) => taken = count,
-            Err(_) => break,
-        }
-    }
-    taken
-}
-
-// A log holds 256 entries past what was seen.
-#[test]
-fn a_full_log_takes_no_entry(rt: HostRuntime) -> Result<(), Fail> {
-    let (fabric, mut seats) = Fabric::open(rt.alloc(), 1)?;
-    assert!(rt; fill_log(&fabric, &mut seats.primary) == 256);
-    assert!(rt; seats.primary.append(&fabric, mark()) == Err(Fault::LogFull));
-    Ok(())
-}
 
 // Posts the second of two entries twice.
 fn post_twice(rt: &impl Abort, fabric: &Fabric, seat: &mut PrimarySeat)

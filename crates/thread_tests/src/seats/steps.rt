@@ -1,4 +1,4 @@
-//! What each thread of a test does, again and again until it is done.
+//! Single calls of the seats, while their tables have numbers left.
 ghost use Rattle.std.specs.Prelude.{◌≡◌, IfSome, []};
 ghost use mathlib.Core.Option.{some};
 ghost use lib.ListN.{get_elem?};
@@ -11,10 +11,6 @@ use pair_rule::{
     TerminalSeat,
 };
 use shared_disk::SectorRead;
-use std::thread;
-
-// How often a thread tries a step.
-const TRIES: u64 = 10_000_000;
 
 pub(super) fn mark() -> Entry
     ensures { result ≡ Mark 6 }
@@ -69,23 +65,6 @@ pub(super) fn post_once(fabric: &Fabric, seat: &mut PrimarySeat, index: u64) -> 
     seat.see(fabric)
 }
 
-// Posts an entry until the backup has acknowledged it, and returns what was seen.
-pub(super) fn post(fabric: &Fabric, seat: &mut PrimarySeat, index: u64) -> u64
-    requires ready { (seat.old.table ≡ fabric.now) × (seat.old.core.known.primary.winner ≡ 0) }
-    requires stands { get_elem? seat.old.core.known.primary.list index ≡ some (Mark 6) }
-    ensures ready { (seat.new.table ≡ fabric.now) × (seat.new.core.known.primary.winner ≡ 0) }
-{
-    let mut seen = 0;
-    for _ in 0..TRIES {
-        seen = post_once(fabric, seat, index);
-        if seen > 0 {
-            break;
-        }
-        thread::yield_now();
-    }
-    seen
-}
-
 pub(super) fn emit_once(fabric: &Fabric, seat: &mut PrimarySeat, byte: u8) -> u64
     requires ready { (seat.old.table ≡ fabric.now) × (seat.old.core.known.primary.winner ≡ 0) }
     ensures ready { (seat.new.table ≡ fabric.now) × (seat.new.core.known.primary.winner ≡ 0) }
@@ -95,22 +74,6 @@ pub(super) fn emit_once(fabric: &Fabric, seat: &mut PrimarySeat, byte: u8) -> u6
     }
     seat.emit(fabric, 1, 1, byte);
     seat.counted(fabric, 1)
-}
-
-// Emits a byte until its terminal has counted it, and returns how many it counted.
-pub(super) fn emit(fabric: &Fabric, seat: &mut PrimarySeat) -> u64
-    requires ready { (seat.old.table ≡ fabric.now) × (seat.old.core.known.primary.winner ≡ 0) }
-    ensures ready { (seat.new.table ≡ fabric.now) × (seat.new.core.known.primary.winner ≡ 0) }
-{
-    let mut counted = 0;
-    for _ in 0..TRIES {
-        counted = emit_once(fabric, seat, 0x48);
-        if counted > 0 {
-            break;
-        }
-        thread::yield_now();
-    }
-    counted
 }
 
 pub(super) fn ask(fabric: &Fabric, seat: &mut PrimarySeat, request: DiskRequest)
@@ -132,22 +95,6 @@ pub(super) fn answer_once(fabric: &Fabric, seat: &mut PrimarySeat) -> Option<Dis
     seat.answer(fabric)
 }
 
-// Waits for the disk's answer.
-pub(super) fn answer(fabric: &Fabric, seat: &mut PrimarySeat) -> Option<DiskAnswer>
-    requires ready { (seat.old.table ≡ fabric.now) × (seat.old.core.known.primary.winner ≡ 0) }
-    ensures ready { (seat.new.table ≡ fabric.now) × (seat.new.core.known.primary.winner ≡ 0) }
-{
-    let mut answer = None;
-    for _ in 0..TRIES {
-        answer = answer_once(fabric, seat);
-        if answer.is_some() {
-            break;
-        }
-        thread::yield_now();
-    }
-    answer
-}
-
 // ---- the other seats
 
 pub(super) fn carry_once(fabric: &Fabric, seat: &mut LinkSeat, keep: bool) -> bool
@@ -161,19 +108,6 @@ pub(super) fn carry_once(fabric: &Fabric, seat: &mut LinkSeat, keep: bool) -> bo
     true
 }
 
-// Carries one packet.
-pub(super) fn carry(fabric: &Fabric, seat: &mut LinkSeat)
-    requires ready { seat.old.table ≡ fabric.now }
-    ensures ready { seat.new.table ≡ fabric.now }
-{
-    for _ in 0..TRIES {
-        if carry_once(fabric, seat, false) {
-            break;
-        }
-        thread::yield_now();
-    }
-}
-
 pub(super) fn take_once(fabric: &Fabric, seat: &mut BackupSeat) -> Option<Packet>
     requires ready { (seat.old.table ≡ fabric.now) × (seat.old.core.known.backup.winner ≡ 0) }
     ensures ready { (seat.new.table ≡ fabric.now) × (seat.new.core.known.backup.winner ≡ 0) }
@@ -182,22 +116,6 @@ pub(super) fn take_once(fabric: &Fabric, seat: &mut BackupSeat) -> Option<Packet
         return None;
     }
     seat.take(fabric)
-}
-
-// Takes until a packet arrives.
-pub(super) fn take(fabric: &Fabric, seat: &mut BackupSeat) -> Option<Packet>
-    requires ready { (seat.old.table ≡ fabric.now) × (seat.old.core.known.backup.winner ≡ 0) }
-    ensures ready { (seat.new.table ≡ fabric.now) × (seat.new.core.known.backup.winner ≡ 0) }
-{
-    let mut packet = None;
-    for _ in 0..TRIES {
-        packet = take_once(fabric, seat);
-        if packet.is_some() {
-            break;
-        }
-        thread::yield_now();
-    }
-    packet
 }
 
 pub(super) fn show_once(fabric: &Fabric, seat: &mut TerminalSeat) -> Option<PortByte>
@@ -210,22 +128,6 @@ pub(super) fn show_once(fabric: &Fabric, seat: &mut TerminalSeat) -> Option<Port
     let byte = seat.take_byte(fabric, 1);
     if byte.is_some() {
         seat.count(fabric, 1);
-    }
-    byte
-}
-
-// Takes and counts one byte of port 1.
-pub(super) fn show(fabric: &Fabric, seat: &mut TerminalSeat) -> Option<PortByte>
-    requires ready { seat.old.table ≡ fabric.now }
-    ensures ready { seat.new.table ≡ fabric.now }
-{
-    let mut byte = None;
-    for _ in 0..TRIES {
-        byte = show_once(fabric, seat);
-        if byte.is_some() {
-            break;
-        }
-        thread::yield_now();
     }
     byte
 }
@@ -247,19 +149,6 @@ pub(super) fn serve_once(fabric: &Fabric, seat: &mut DiskSeat) -> bool
             true
         }
         _ => false,
-    }
-}
-
-// Answers one write.
-pub(super) fn serve(fabric: &Fabric, seat: &mut DiskSeat)
-    requires ready { seat.old.table ≡ fabric.now }
-    ensures ready { seat.new.table ≡ fabric.now }
-{
-    for _ in 0..TRIES {
-        if serve_once(fabric, seat) {
-            break;
-        }
-        thread::yield_now();
     }
 }
 

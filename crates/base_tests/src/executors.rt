@@ -1,4 +1,4 @@
-//! Both executors do the same with random programs, with random inputs at random counts.
+//! Both executors do the same with random programs, with random inputs at random counts; halfway a copy of the board goes on.
 ghost use Rattle.std.specs.Prelude.{IsTrue};
 ghost use Rattle.event_callbacks.specs.declared.devices.TheConstants.{SENT, SECTOR, WRITTEN};
 ghost use Rattle.event_callbacks.specs.Keeping.{Keeps};
@@ -18,8 +18,8 @@ use rand_pcg::Pcg32;
 use std::alloc::Global;
 use std::process::Abort;
 
-// How many steps a program makes before an input is offered to it.
-const INPUTS: u32 = 100;
+// How many inputs are offered to a board, and then to its copy.
+const INPUTS: u32 = 50;
 
 // The ports that have a device.
 static PORTS: [u8; 8] = [0x08, 0x09, 0x0a, 0x10, 0x11, 0x12, 0x13, 0xff];
@@ -64,7 +64,7 @@ impl Course {
 }
 
 // How many steps a board executed, and its processor then.
-#[derive(Clone, Copy)]
+#[derive(Drop)]
 struct Reached {
     count: u64,
     processor: Processor,
@@ -136,49 +136,55 @@ fn put_sector_write(program: &mut Vec<u8>, value: u8) -> R<()> {
     Ok(())
 }
 
-// What the disk has in a sector: the last write of it that is done, or zeros.
-fn sector_bytes(done: &[SectorWrite], address: SectorAddress) -> [u8; SECTOR_BYTES] {
-    match done.iter().rev().find(|write| write.address() == address) {
-        Some(write) => write.bytes,
-        None => [0; SECTOR_BYTES],
-    }
+// The last write of a sector that is done.
+fn last_write(done: &[SectorWrite], address: SectorAddress) -> Option<&SectorWrite> {
+    done.iter().rev().find(|write| write.address() == address)
 }
 
-// A random input that this board might take now, without and with what only the log carries.
-fn random_input<T: Completes, S: Completes, W: Completes>(
-    board: &Board<T, S, W>,
-    course: &Course,
+// A sector, mostly of the track under the head, with what the disk has there: its last write that is done, or zeros.
+fn random_sector(
+    place: Option<(u8, u8)>,
+    done: &[SectorWrite],
+    choice: u8,
+    sector: u8,
+) -> (Bare, Input) {
+    let (drive, track) = match place {
+        Some((drive, track)) if choice < 192 => (drive, track),
+        Some((_, track)) => (choice % 4, track),
+        None => (choice % 4, 0),
+    };
+    let address = SectorAddress {
+        drive,
+        track,
+        sector,
+    };
+    let (number, bytes) = match last_write(done, address) {
+        Some(write) => (write.number, write.bytes),
+        None => (0, [0; SECTOR_BYTES]),
+    };
+    let input = Input::Sector {
+        drive,
+        sector,
+        number,
+        bytes,
+    };
+    (Bare::Sector(drive, sector), input)
+}
+
+// A random input that a board with its head at this place might take now, without and with what only the log carries.
+fn random_input(
+    place: Option<(u8, u8)>,
+    done: &[SectorWrite],
     random: &mut Pcg32,
 ) -> (Bare, Input) {
-    let [kind, place, sector, byte] = random.next_word().to_be_bytes();
-    let port = place % 2;
-    let sector = sector % 32;
+    let [kind, choice, sector, byte] = random.next_word().to_be_bytes();
+    let port = choice % 2;
     match kind % 8 {
         0..=2 => (Bare::Rx(port, byte), Input::Rx(port, byte)),
         3..=4 => (Bare::Sent(port), Input::Sent(port)),
-        5..=6 => {
-            let (drive, track) = match board.place() {
-                Some((drive, track)) if place < 192 => (drive, track),
-                Some((_, track)) => (place % 4, track),
-                None => (place % 4, 0),
-            };
-            let address = SectorAddress {
-                drive,
-                track,
-                sector,
-            };
-            let number = board.done(address);
-            let bytes = sector_bytes(&course.done, address);
-            let input = Input::Sector {
-                drive,
-                sector,
-                number,
-                bytes,
-            };
-            (Bare::Sector(drive, sector), input)
-        }
+        5..=6 => random_sector(place, done, choice, sector % 32),
         _ => {
-            let number = course.done.len() as u64 + 1;
+            let number = done.len() as u64 + 1;
             (Bare::Written(number), Input::Written(number))
         }
     }
@@ -206,7 +212,7 @@ fn offer<T: Completes, S: Completes, W: Completes>(
     course: &mut Course,
     random: &mut Pcg32,
 ) -> R<()> {
-    let (bare, input) = random_input(board, course, random);
+    let (bare, input) = random_input(board.place(), &course.done, random);
     if !may_offer(board, &input) || board.take(input).is_err() {
         return Ok(());
     }
@@ -263,7 +269,7 @@ pub(crate) fn never_fall(from: u64, inputs: &[Timed]) -> bool
 }
 
 // Whether the single machine, after the board's inputs, shows what the board showed and gave.
-fn is_alike(single: &Single, course: &Course, reached: Reached) -> bool {
+fn is_alike(single: &Single, course: &Course, reached: &Reached) -> bool {
     *single.processor() == reached.processor
         && single.outputs(0) == course.first.as_slice()
         && single.outputs(1) == course.second.as_slice()
@@ -278,9 +284,12 @@ fn has_memory(single: &Single, memory: &[u8]) -> bool {
         .all(|(address, byte)| single.byte(address) == *byte)
 }
 
-// Whether each sector that was written is the last write of it that is done.
+// Whether each sector that was written has the last write of it that is done.
 fn has_images(single: &Single, done: &[SectorWrite]) -> bool {
-    done.iter().all(|write| single.image(write.address()) == sector_bytes(done, write.address()))
+    done.iter().all(|write| match last_write(done, write.address()) {
+        Some(last) => single.image(write.address()) == last.bytes,
+        None => false,
+    })
 }
 
 // The setup of a random program.
@@ -298,7 +307,7 @@ fn setup_of(alloc: Global, random: &mut Pcg32, program: u64) -> R<Setup> {
     })
 }
 
-// Runs a board on random inputs, and keeps its memory.
+// Runs a board on random inputs.
 fn run_board<T: Completes, S: Completes, W: Completes>(
     board: &mut Board<T, S, W>,
     course: &mut Course,
@@ -309,15 +318,28 @@ fn run_board<T: Completes, S: Completes, W: Completes>(
         advance(board, course, steps)?;
         offer(board, course, random)?;
     }
+    Ok(())
+}
+
+// The same to the end, where its memory is kept.
+fn finish<T: Completes, S: Completes, W: Completes>(
+    board: &mut Board<T, S, W>,
+    course: &mut Course,
+    random: &mut Pcg32,
+) -> R<Reached> {
+    run_board(board, course, random)?;
     for page in 0..=255 {
         course.memory.extend_from_slice(board.page(page))?;
     }
-    Ok(())
+    Ok(Reached {
+        count: board.count(),
+        processor: *board.processor(),
+    })
 }
 
 // How much a number of programs did: how many steps they executed, how many inputs they took, how many writes were done,
 // and how many were issued on tracks above 0.
-#[derive(Clone, Copy, Default)]
+#[derive(Drop)]
 struct Totals {
     steps: u64,
     inputs: usize,
@@ -335,8 +357,30 @@ impl Totals {
     }
 }
 
-// Runs a random program on a board with these closures as completions.
-fn run_with<T: Completes + Drop, S: Completes + Drop, W: Completes + Drop>(
+fn boot<T: Completes + Drop, S: Completes + Drop, W: Completes + Drop>(
+    alloc: Global,
+    setup: &Setup,
+    callbacks: Callbacks<T, S, W>,
+) -> R<Board<T, S, W>> {
+    match Board::boot(alloc, setup, callbacks) {
+        Ok(board) => Ok(board),
+        Err((_, fault)) => Err(fault),
+    }
+}
+
+fn copied<T: Completes + Drop, S: Completes + Drop, W: Completes + Drop>(
+    alloc: Global,
+    board: &Board<T, S, W>,
+    callbacks: Callbacks<T, S, W>,
+) -> R<Board<T, S, W>> {
+    match board.copy(alloc, callbacks) {
+        Ok(copy) => Ok(copy),
+        Err((_, fault)) => Err(fault),
+    }
+}
+
+// Runs a random program on a board with these closures as completions, and goes on with a copy of it.
+fn run_with<T: Completes + Drop + Copy, S: Completes + Drop + Copy, W: Completes + Drop + Copy>(
     alloc: Global,
     setup: &Setup,
     course: &mut Course,
@@ -349,26 +393,14 @@ fn run_with<T: Completes + Drop, S: Completes + Drop, W: Completes + Drop>(
     requires sector { Keeps (S.may sector) (S.gives sector) SECTOR }
     requires written { Keeps (W.may written) (W.gives written) WRITTEN }
 {
-    match Board::boot(alloc, setup, Callbacks::of(sent, sector, written)) {
-        Ok(mut board) => reach(&mut board, course, random),
-        Err((_, fault)) => Err(fault),
-    }
-}
-
-fn reach<T: Completes, S: Completes, W: Completes>(
-    board: &mut Board<T, S, W>,
-    course: &mut Course,
-    random: &mut Pcg32,
-) -> R<Reached> {
-    run_board(board, course, random)?;
-    Ok(Reached {
-        count: board.count(),
-        processor: *board.processor(),
-    })
+    let mut board = boot(alloc, setup, Callbacks::of(sent, sector, written))?;
+    run_board(&mut board, course, random)?;
+    let mut copy = copied(alloc, &board, Callbacks::of(sent, sector, written))?;
+    finish(&mut copy, course, random)
 }
 
 // Whether the single machine does with the same inputs what a board with this setup did.
-fn agrees(alloc: Global, setup: &Setup, course: &Course, reached: Reached) -> R<bool> {
+fn agrees(alloc: Global, setup: &Setup, course: &Course, reached: &Reached) -> R<bool> {
     let inputs = course.inputs.as_slice();
     if !never_fall(0, inputs) {
         return Ok(false);
@@ -393,7 +425,7 @@ fn run_program(rt: &(impl Abort + AllocGlobal), program: u64, totals: &mut Total
         plain_completions::written,
     )?;
     assert!(rt;
-        agrees(rt.alloc(), &setup, &course, reached)?,
+        agrees(rt.alloc(), &setup, &course, &reached)?,
         "program {program}"
     );
     totals.add(reached.count, &course);
@@ -402,23 +434,26 @@ fn run_program(rt: &(impl Abort + AllocGlobal), program: u64, totals: &mut Total
 
 // Both executors agree on the sixty programs from this one on, which do enough to show it.
 fn agree_from(rt: &(impl Abort + AllocGlobal), first: u64) -> R<()> {
-    let mut totals = Totals::default();
+    let mut totals = Totals {
+        steps: 0,
+        inputs: 0,
+        done: 0,
+        moved: 0,
+    };
     for offset in 0..60 {
         run_program(rt, first.saturating_add(offset), &mut totals)?;
     }
-    let Totals {
-        steps,
-        inputs,
-        done,
-        moved,
-    } = totals;
-    assert!(rt; steps > 75_000, "{steps} steps");
-    assert!(rt; inputs > 1_250, "{inputs} inputs");
-    assert!(rt; done > 5, "{done} writes");
-    assert!(rt; moved > 0, "{moved} writes above track 0");
+    assert!(rt; totals.steps > 75_000, "{} steps", totals.steps);
+    assert!(rt; totals.inputs > 1_250, "{} inputs", totals.inputs);
+    assert!(rt;
+        totals.done > 5 && totals.moved > 0,
+        "{} writes",
+        totals.done
+    );
     Ok(())
 }
 
+// A test has a minute.
 #[test]
 fn both_executors_agree_on_random_programs(rt: HostRuntime) -> R<()> {
     agree_from(&rt, 0)

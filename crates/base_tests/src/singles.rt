@@ -1,9 +1,5 @@
-//! Programs on the machine alone: output, keys, a sector written and read, and each refusal.
+//! Programs on the machine alone: a sector is written and read, and each refusal.
 ghost use Rattle.std.specs.Prelude.{◌≡◌, IfOk};
-
-mod folds;
-mod states;
-mod walks;
 
 use crate::executors::never_fall;
 use disk_dcdd::{SECTOR_BYTES, SectorAddress, SectorWrite};
@@ -14,7 +10,6 @@ use i8080_words::{Fault, R};
 use plain_single::Single;
 use std::alloc::Global;
 use std::process::Abort;
-use std::test::Fail;
 
 // Sends 48 to the first terminal, and halts.
 const HELLO: [u8; 13] = [
@@ -34,8 +29,17 @@ const FIRST_SECTOR: SectorAddress = SectorAddress {
     sector: 0,
 };
 
+// What the sector has at boot.
+const AT_BOOT: SectorWrite = SectorWrite {
+    number: 0,
+    drive: 0,
+    track: 0,
+    sector: 0,
+    bytes: [0x11; SECTOR_BYTES],
+};
+
 // A machine of one drive with this program at address 0.
-fn booted(alloc: Global, program: &[u8], sectors: &[SectorWrite]) -> R<Single>
+fn booted(alloc: Global, program: &[u8]) -> R<Single>
     ensures { IfOk result (λ single. single.count ≡ 0) }
 {
     let mut memory = Vec::from_slice(alloc, program)?;
@@ -47,39 +51,21 @@ fn booted(alloc: Global, program: &[u8], sectors: &[SectorWrite]) -> R<Single>
         sense: 0x00,
         reads: Reads::Logged,
     };
-    Single::boot(alloc, &setup, sectors)
+    Single::boot(alloc, &setup, &[AT_BOOT])
 }
-
-// The byte was sent, in six steps.
-fn expect_hello(rt: &impl Abort, run: &Single) {
-    assert!(rt; run.outputs(0) == [0x48].as_slice());
-    assert!(rt; run.outputs(1) == [].as_slice());
-    assert!(rt; run.count() == 6);
-}
-
-#[test]
-fn a_byte_goes_out_and_a_key_is_taken(rt: HostRuntime) -> Result<(), Fail> {
-    let single = booted(rt.alloc(), &HELLO, &[])?;
-    expect_hello(&rt, &single.run(rt.alloc(), &[], 6)?);
-    let key = Timed {
-        count: 3,
-        input: Bare::Rx(0, 0x41),
-    };
-    expect_hello(&rt, &single.run(rt.alloc(), &[key, DUE], 6)?);
-    Ok(())
-}
-
-// What the sector has at boot.
-const AT_BOOT: SectorWrite = SectorWrite {
-    number: 0,
-    drive: 0,
-    track: 0,
-    sector: 0,
-    bytes: [0x11; SECTOR_BYTES],
-};
 
 const UNDER_HEAD: Timed = Timed {
     count: 10,
+    input: Bare::Sector(0, 0),
+};
+
+const DONE: Timed = Timed {
+    count: 973,
+    input: Bare::Written(1),
+};
+
+const AGAIN: Timed = Timed {
+    count: 973,
     input: Bare::Sector(0, 0),
 };
 
@@ -96,19 +82,10 @@ fn expect_written(rt: &impl Abort, run: &Single) {
 }
 
 #[test]
-fn a_sector_is_written_and_read_again(rt: HostRuntime) -> Result<(), Fail> {
-    let single = booted(rt.alloc(), &WRITE_A_SECTOR, &[AT_BOOT])?;
+fn a_sector_is_written(rt: HostRuntime) -> R<()> {
+    let single = booted(rt.alloc(), &WRITE_A_SECTOR)?;
     assert!(rt; single.image(FIRST_SECTOR) == [0x11; SECTOR_BYTES]);
-    let done = Timed {
-        count: 973,
-        input: Bare::Written(1),
-    };
-    expect_written(&rt, &single.run(rt.alloc(), &[UNDER_HEAD, done], 973)?);
-    let again = Timed {
-        count: 973,
-        input: Bare::Sector(0, 0),
-    };
-    expect_refused(&rt, &single, &[UNDER_HEAD, again], 973, Fault::SectorBusy);
+    expect_written(&rt, &single.run(rt.alloc(), &[UNDER_HEAD, DONE], 973)?);
     Ok(())
 }
 
@@ -153,20 +130,26 @@ const LATE: Timed = Timed {
 // A count that no machine reaches.
 const PAST: u64 = 1 << 62;
 
-// Inputs of a run up to a count, and its refusal.
-static REFUSED: [(&[Timed], u64, Fault); 6] = [
-    (&[], 8, Fault::Idle),
-    (&[DUE, LATE], 6, Fault::Idle),
-    (&[EARLY], PAST, Fault::NotDue),
-    (&[NOWHERE], 6, Fault::NotDue),
-    (&[DUE, DUE], 6, Fault::NotDue),
-    (&[DUE, LATE], PAST, Fault::Spent),
+// A program, inputs of a run up to a count, and its refusal.
+static REFUSED: [(&[u8], &[Timed], u64, Fault); 7] = [
+    (&HELLO, &[], 8, Fault::Idle),
+    (&HELLO, &[DUE, LATE], 6, Fault::Idle),
+    (&HELLO, &[EARLY], PAST, Fault::NotDue),
+    (&HELLO, &[NOWHERE], 6, Fault::NotDue),
+    (&HELLO, &[DUE, DUE], 6, Fault::NotDue),
+    (&HELLO, &[DUE, LATE], PAST, Fault::Spent),
+    (
+        &WRITE_A_SECTOR,
+        &[UNDER_HEAD, AGAIN],
+        973,
+        Fault::SectorBusy,
+    ),
 ];
 
 #[test]
-fn runs_are_refused_in_one_order(rt: HostRuntime) -> Result<(), Fail> {
-    let single = booted(rt.alloc(), &HELLO, &[])?;
-    for (inputs, count, fault) in &REFUSED {
+fn runs_are_refused_in_one_order(rt: HostRuntime) -> R<()> {
+    for (program, inputs, count, fault) in &REFUSED {
+        let single = booted(rt.alloc(), program)?;
         expect_refused(&rt, &single, inputs, *count, *fault);
     }
     Ok(())

@@ -1,7 +1,7 @@
-//! Events, spelled as lines; records and text in quotes; the table of forms.
+//! Events, spelled as lines.
 use event_callbacks::OpId;
 use pair_events::Event;
-use shell_language::{Quoted, ShellLine, Spelled, forms, read_line, read_record};
+use shell_language::{ShellLine, Spelled, read_line};
 use std::test::Fail;
 
 // Events, spelled as lines; each line says its event.
@@ -42,43 +42,6 @@ fn events_are_spelled_as_lines(rt: HostRuntime) -> Result<(), Fail> {
             Ok(ShellLine::Event(said)) => assert!(rt; said == *event, "{line}"),
             _ => assert!(rt; false, "{line}"),
         }
-    }
-    Ok(())
-}
-
-#[test]
-fn records_say_their_bytes(rt: HostRuntime) -> Result<(), Fail> {
-    match read_record(b":0300300002337A1E") {
-        Ok(record) => {
-            assert!(rt; record.address() == 0x30);
-            assert!(rt; record.bytes() == [0x02, 0x33, 0x7a].as_slice());
-        }
-        Err(_) => assert!(rt; false),
-    }
-    match read_record(b":00000001FF") {
-        Ok(record) => assert!(rt; record.bytes().is_empty()),
-        Err(_) => assert!(rt; false),
-    }
-    Ok(())
-}
-
-#[test]
-fn text_ends_at_its_quote(rt: HostRuntime) -> Result<(), Fail> {
-    match Quoted::of(b"a\\r\\n\\\"b\\\\ c\"  ") {
-        Some(text) => {
-            let bytes = text.bytes(rt.alloc())?;
-            assert!(rt; bytes.as_slice() == b"a\r\n\"b\\ c".as_slice());
-        }
-        None => assert!(rt; false),
-    }
-    assert!(rt; Quoted::of(b"a\" b").is_none());
-    Ok(())
-}
-
-#[test]
-fn each_form_is_told_by_its_word(rt: HostRuntime) -> Result<(), Fail> {
-    for form in forms() {
-        assert!(rt; form.usage.starts_with(form.word), "{}", form.usage);
     }
     Ok(())
 }

@@ -33,8 +33,8 @@ static FIRST: [Bytes; 12] = [
     (423, &[5, 0, 0, 7]),
 ];
 
-/// The message of the first part.
-pub(crate) fn first_part(alloc: Global) -> R<Vec<u8>> {
+// The message of the first part.
+fn first_part(alloc: Global) -> R<Vec<u8>> {
     let mut message = vec![in alloc; 0u8; 564]?;
     for (place, bytes) in &FIRST {
         for (index, byte) in bytes.iter().enumerate() {
@@ -65,8 +65,8 @@ fn later_part(alloc: Global, index: u16) -> R<Vec<u8>> {
     Ok(message)
 }
 
-/// What the parts say that follow this first one.
-pub(crate) fn board_parts(rt: &(impl Abort + AllocGlobal), first: &[u8]) -> R<BoardParts> {
+// What the parts say that follow this first one.
+fn board_parts(rt: &(impl Abort + AllocGlobal), first: &[u8]) -> R<BoardParts> {
     let mut assembly = Assembly::new(rt.alloc(), 2, 1)?;
     assert!(rt; assembly.part(first) == Ok(true));
     for index in 1..334 {
@@ -76,8 +76,8 @@ pub(crate) fn board_parts(rt: &(impl Abort + AllocGlobal), first: &[u8]) -> R<Bo
     assembly.board_parts(rt.alloc())
 }
 
-/// The last completed write of sector 6.
-pub(crate) fn complete(parts: &mut BoardParts, number: u64) {
+// The last completed write of sector 6.
+fn complete(parts: &mut BoardParts, number: u64) {
     if let Some(last) = parts.completed.get_mut(6) {
         *last = number;
     }
