@@ -1,6 +1,5 @@
 pub mod Taking
 pub mod Going
 pub mod Settling
-pub mod Choosing
 pub mod Altair
 pub mod Following

@@ -191,7 +191,7 @@ fn stand<B: Lockstep + Drop, D: SectorStore>(
 /// Takes what is outstanding where a generation ended, with no further steps: of whoever won, or of the primary's guest if
 /// nobody was to go on alone. Each byte is given to its terminal, which drops one that it has, and its acceptance is taken;
 /// each write is put on the disk, where it replaces no later one, and its completion is taken. All of it is in the list. The run
-/// is then settled. `Stalled` if the disk fails a write so many times, `OutOfMemory` if memory is refused.
+/// is then settled. `Stalled` if the disk has no such sector, or fails a write so many times; `OutOfMemory` if memory is refused.
 pub fn finish_alone<B: Lockstep + Drop, D: SectorStore>(
     end: GenerationEnd<B, D>,
     tries: u64,

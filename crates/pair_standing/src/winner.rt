@@ -1,12 +1,11 @@
 //! The guest of a winner, which takes what is outstanding and makes no steps.
-ghost use Rattle.std.specs.Prelude.{◌≡◌, ◌<◌, ◌≤◌, ◌++◌, ◌∷◌, ℕ, [], Some, None, Ok, IfOk, IfErr, IfSome, OnOk, vec_len};
+ghost use Rattle.std.specs.Prelude.{◌≡◌, ◌<◌, ◌++◌, ◌∷◌, [], Some, None, IfErr, IfSome, OnOk};
 ghost use Rattle.disk_dcdd.specs.Address.{address_of};
 ghost use Rattle.event_callbacks.specs.declared.devices.TheConstants.{PORTS};
 ghost use Rattle.event_callbacks.specs.declared.operations.OpId.TheVariants as id;
 ghost use Rattle.event_callbacks.specs.declared.operations.Operation.TheVariants as operation;
 ghost use Rattle.guest_lockstep.specs.Lockstep.{HasRoom, IsInput};
 ghost use Rattle.guest_lockstep.specs.Recorded.{Accepts};
-ghost use Rattle.guest_lockstep.specs.declared.input.Input.TheVariants as input;
 ghost use Rattle.guest_lockstep.specs.declared.reads.Reads.TheVariants.{Logged};
 ghost use Rattle.log_entry.specs.Entries.{entry_of};
 ghost use Rattle.pair_standing.specs.Finishing.{GoesOn, after_byte, held, with_byte};
