@@ -1,15 +1,14 @@
 -- A generation begins with a spare host: why the hosts may refuse that, and the hosts after it.
 use Rattle.std.proofs.Common.{◌≡◌, ◌∙◌, ◌∷◌, [], ◌<◌, ℕ, zero, suc, Err, List, None, Ok, Option, Result, Some, ap, arith, inl, inr, refl, subst, sym}
 use Rattle.std.proofs.lemmas.List.{length-map, length-set}
-use Rattle.std.proofs.lemmas.Option.{slice_get_read}
 use Rattle.std.specs.List.{insert, remove}
 use Rattle.std.specs.Option.{option_map}
-use Rattle.std.specs.Prelude.{get_or, length, map, slice_get, slice_set}
+use Rattle.std.specs.Prelude.{length, map, slice_get, slice_set}
 use Rattle.i8080_words.specs.declared.refusal.Fault.{Fault}
 use Rattle.i8080_words.specs.declared.refusal.Fault.TheVariants.{Unknown, WrongRole}
 use Rattle.disk_dcdd.specs.Completion.{answered}
 use Rattle.guest_lockstep.specs.Machine.{Machine}
-use Rattle.ft_world.specs.Lending.{IsSpare, WithStation}
+use Rattle.ft_world.specs.Lending.{WithStation}
 use Rattle.ft_world.specs.Opening.{HasJoined, HasSpare, JoinsHosts, host_refusal}
 use Rattle.ft_world.specs.declared.opening.Opening.{Opening}
 use Rattle.pair_protocol.proofs.Traces.Lists.{get_set_other}
@@ -27,14 +26,6 @@ pub within : {A : Type 0} (xs : List A) (n : ℕ) (x : A) → slice_get xs n ≡
 within [] n x e = (cc)
 within (y ∷ xs) zero x e = omega arith
 within (y ∷ xs) (suc n) x e = let rest = within xs n x e in omega (arith, rest)
-
--- what is taken out of the place of a spare host is one
-pub taken_out_spare : {B H : Type 0} (hosts : List (Host B H)) (n : ℕ) (out : Host B H) → HasSpare hosts n → out ≡ get_or hosts n out
-    → IsSpare out
-taken_out_spare hosts n out spare value =
-    let there = slice_get_read hosts (length hosts) n out refl (within hosts n _ spare.1) value in
-    let is : out ≡ host.Spare spare.0 = (cc) in
-    subst (λ h. IsSpare h) (sym is) tt
 
 -- what is taken out and put back has replaced it
 pub put_in_place : {A : Type 0} (xs : List A) (n : ℕ) (y : A) → n < length xs

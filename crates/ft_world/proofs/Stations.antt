@@ -1,6 +1,6 @@
 -- A station's node moves, and its inputs and its count follow.
 use Rattle.pair_protocol.specs.Copying.{Copying}
-use Rattle.std.proofs.Common.{◌≡◌, ◌∙◌, ℕ, List, Err, None, Ok, Option, Result, Some, ap, inl, inr, refl, subst, sym}
+use Rattle.std.proofs.Common.{◌≡◌, ◌∙◌, ℕ, List, Err, None, Ok, Option, Result, Some, ap, refl, subst, sym}
 use Rattle.std.specs.Prelude.{unwrap_or, ◌<◌}
 use Rattle.std.specs.Result.{IsErrAnd}
 use Rattle.arbiter_core.specs.Winners.{winner_of}
@@ -66,22 +66,16 @@ retells state M C drives h node x o needs does i keeps = record {
 
 -- ---- steps
 
-shown_count : {S : Type 0} (M : Machine S) (x : Node S) → Serving x.role → count_of M x x.role ≡ M.count x.machine
-shown_count M x (inl e) = ap (count_of M x) e
-shown_count M x (inr e) = ap (count_of M x) e
-
 pub steps_on : {B H S : Type 0} (state : B → S) (M : Machine S) (C : Copying S) (drives : ℕ) (turns : ℕ) (h : Station B H) (node : code.Node B H)
-    (ran : Ran) (count : ℕ) (x : Node S) → IsStation state M C drives h x → calls.Steps M turns x (Ok ran) (IsNode state M C drives node)
-    → ((y : Node S) → IsNode state M C drives node y → count_of M y y.role ≡ count)
-    → calls.Steps M turns x (Ok ran) (IsStation state M C drives (record h { node = node; count = count }))
-steps_on state M C drives turns h node ran count x i d counted =
+    (ran : Ran) (x : Node S) → IsStation state M C drives h x → calls.Steps M turns x (Ok ran) (IsNode state M C drives node)
+    → calls.Steps M turns x (Ok ran) (IsStation state M C drives (record h { node = node; count = ran.count }))
+steps_on state M C drives turns h node ran x i d =
     given (refusals.step_refusal M turns x) (λ x. 0 < turns) (λ x. 0 < turns) (calls.SteppedBy M turns) x
-    (IsNode state M C drives node) (IsStation state M C drives (record h { node = node; count = count })) ran (λ y none s is.
+    (IsNode state M C drives node) (IsStation state M C drives (record h { node = node; count = ran.count })) ran (λ y none s is.
     (let k = advances_keep M s.advances in
     let serve : Serving y.role =
     subst (λ q. Serving q) (sym k.role) (serving_role x (step-serves M turns x none)) in
-    moves_on state M C drives h node count x y i k is
-    (sym (counted y is) ∙ shown_count M y serve ∙ sym (machine_count M y serve)))) d
+    moves_on state M C drives h node ran.count x y i k is (s.counted ∙ sym (machine_count M y serve)))) d
 
 pub steps_not : {B H S : Type 0} (state : B → S) (M : Machine S) (C : Copying S) (drives : ℕ) (turns : ℕ) (h : Station B H) (node : code.Node B H)
     (r : Result Ran Fault) (fault : Fault) (x : Node S) → IsErrAnd r (λ k. k ≡ fault) → IsStation state M C drives h x

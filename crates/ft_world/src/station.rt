@@ -1,21 +1,17 @@
 //! A node with its list of inputs, and what an event does there.
 ghost use Rattle.pair_protocol.specs.Copying.{Copying};
-ghost use Rattle.std.specs.Prelude.{◌≡◌, ◌<◌, ℕ, ◌≢◌, [], None, IfErr, IfOk, OnErr, OnOk};
+ghost use Rattle.std.specs.Prelude.{◌≡◌, ℕ, ◌≢◌, [], None, IfErr, IfOk, OnErr, OnOk};
 ghost use Rattle.disk_dcdd.specs.Completion.{answered};
-ghost use Rattle.disk_dcdd.specs.declared.controller.TheConstants.{DRIVES};
-ghost use Rattle.disk_dcdd.specs.declared.sector.TheConstants.{SECTORS};
 ghost use Rattle.i8080_words.specs.declared.refusal.Fault.TheVariants.{Lost};
 ghost use Rattle.log_channel.specs.Packet.{packet_at};
 ghost use Rattle.pair_protocol.specs.Effects.{Took, NeedsEntry};
 ghost use Rattle.pair_protocol.specs.Node as protocol;
-ghost use Rattle.pair_protocol.specs.Node.{holds};
 ghost use Rattle.ft_node.specs.Calls as calls;
 ghost use Rattle.ft_node.specs.Roles.{count_of};
 ghost use Rattle.ft_node.specs.Pages.{PagesGoOn, StepsWrite};
-ghost use Rattle.ft_node.specs.Seats.{IsNode, MayAccept, MayHold, MayReplay, MayRun, PagesStay, alone_board};
+ghost use Rattle.ft_node.specs.Seats.{IsNode, MayAccept, MayReplay, MayRun, PagesStay, alone_board};
 ghost use Rattle.ft_world.specs.Offers.{IsOffer, input_of, offer_refusal};
 ghost use Rattle.ft_world.specs.Shows.{IsStation, drained_count};
-ghost use Rattle.ft_world.specs.declared.offer.Offer.TheVariants as offer;
 
 use crate::input_list::Inputs;
 use crate::offer::Offer;
@@ -25,9 +21,7 @@ use disk_dcdd::SectorAddress;
 use ft_node::{Drained, Node, Ran};
 use guest_lockstep::{Input, ReplayEnd};
 use i8080_words::R;
-use log_entry::Entry;
 use replayer::Replayed;
-use shared_disk::SectorRead;
 use std::alloc::Global;
 
 /// A node with the list of inputs that its machine has taken or will take, and the count up to which they settle it. No
@@ -76,7 +70,7 @@ impl<B: Copies<H> + Drop, H: Drop> Station<B, H> {
         ensures unchanged { OnErr result (self.new ≡ self.old) }
     {
         let ran = self.node.step(turns)?;
-        self.count = self.node.count();
+        self.count = ran.count;
         Ok(ran)
     }
 
@@ -101,28 +95,19 @@ impl<B: Copies<H> + Drop, H: Drop> Station<B, H> {
             → result ≡ answered (offer_refusal B.machine offer.now x) }
         ensures may { OnOk result (MayAccept B.state B.machine self.now.node (input_of offer.now)) }
     {
-        match offer {
-            Offer::Key { port, index, .. } => self.node.check_key(*port, *index),
-            Offer::Sent { port, number } => self.node.check_sent(*port, *number),
-            Offer::Written { number } => self.node.check_done(*number),
-            Offer::Sector { read } => self.check_read(read),
+        match *offer {
+            Offer::Key { port, index, .. } => self.node.check_key(port, index),
+            Offer::Sent { port, number } => self.node.check_sent(port, number),
+            Offer::Written { number } => self.node.check_done(number),
+            Offer::Sector { read } => {
+                let address = SectorAddress {
+                    drive: read.drive,
+                    track: read.track,
+                    sector: read.sector,
+                };
+                self.node.check_under(address, read.number, read.bytes)
+            }
         }
-    }
-
-    // Whether a node takes what the disk has for a sector: returns its refusal, and changes nothing.
-    fn check_read(&self, read: &SectorRead) -> R<()>
-        requires drive { read.now.drive < DRIVES }
-        requires sector { read.now.sector < SECTORS }
-        ensures answer { (C : Copying B.State) (drives : ℕ) (x : protocol.Node B.State) → IsNode B.state B.machine C drives self.now.node x
-            → result ≡ answered (offer_refusal B.machine (offer.Sector read.now) x) }
-        ensures may { OnOk result (MayAccept B.state B.machine self.now.node (input_of (offer.Sector read.now))) }
-    {
-        let address = SectorAddress {
-            drive: read.drive,
-            track: read.track,
-            sector: read.sector,
-        };
-        self.node.check_under(address, read.number, read.bytes)
     }
 
     /// A node takes an input that an event offers.
@@ -149,26 +134,12 @@ impl<B: Copies<H> + Drop, H: Drop> Station<B, H> {
         let Some(entry) = self.node.next_entry(bytes)? else {
             return Ok(false);
         };
-        self.hold(entry)?;
-        Ok(true)
-    }
-
-    // A backup holds the next entry of its log, and the input of the entry is appended to the inputs. `OutOfMemory` if
-    // there is no room for either.
-    fn hold(&mut self, entry: Entry) -> R<()>
-        requires { MayHold self.old.node entry }
-        ensures answer { (C : Copying B.State) (drives : ℕ) (x : protocol.Node B.State) → IsStation B.state B.machine C drives self.old x
-            → calls.Call None calls.Ever (λ done x y. y ≡ holds x entry) x result (IsStation B.state B.machine C drives self.new) }
-        ensures pages { OnOk result (PagesStay B.stale self.old.node self.new.node) }
-        ensures unchanged { OnErr result (self.new ≡ self.old) }
-    {
         let before = self.inputs.len();
-        let count = entry.count();
         self.inputs.hold(&entry)?;
         match self.node.hold(entry) {
             Ok(()) => {
-                self.count = count;
-                Ok(())
+                self.count = entry.count();
+                Ok(true)
             }
             Err(fault) => {
                 self.inputs.truncate(before);

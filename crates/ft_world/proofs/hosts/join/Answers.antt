@@ -1,7 +1,7 @@
 -- The host that was taken out is put back in its place, as a node that joins.
 use Rattle.std.proofs.Common.{◌∙◌, ap}
 use Rattle.std.specs.List.{insert}
-use Rattle.ft_world.proofs.SpareHosts.{put_in_place, taken_out_spare, within}
+use Rattle.ft_world.proofs.SpareHosts.{put_in_place, within}
 use Rattle.ft_world.proofs.hosts.join.Goals as goal
 
 pub returns : goal.returns
@@ -13,7 +13,3 @@ returns g c = record {
       ∙ put_in_place c.args.hosts.now.items c.args.host c.joined-joined.result
       (within c.args.hosts.now.items c.args.host _ c.requires.1);
 }
-
-pub joined-joined-requires : goal.joined-joined-requires
-joined-joined-requires g c =
-    taken_out_spare c.args.hosts.now.items c.args.host c.remove.result c.requires c.remove.ensures.value

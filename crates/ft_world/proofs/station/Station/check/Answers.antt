@@ -21,16 +21,7 @@ pub returns-in-Written-clause-may : goal.returns-in-Written-clause-may
 returns-in-Written-clause-may g c = rw c.in-Written.is c.check_done.ensures.may
 
 pub returns-in-Sector-clause-answer : goal.returns-in-Sector-clause-answer
-returns-in-Sector-clause-answer g c = rw c.in-Sector.is c.check_read.ensures.answer
+returns-in-Sector-clause-answer g c = rw c.in-Sector.is c.check_under.ensures.answer
 
 pub returns-in-Sector-clause-may : goal.returns-in-Sector-clause-may
-returns-in-Sector-clause-may g c = rw c.in-Sector.is c.check_read.ensures.may
-
-pub check_key-requires : goal.check_key-requires
-check_key-requires g c = rw c.in-Key.is at c.requires
-
-pub check_sent-requires : goal.check_sent-requires
-check_sent-requires g c = rw c.in-Sent.is at c.requires
-
-pub check_read-requires : goal.check_read-requires
-check_read-requires g c = let is = rw c.in-Sector.is at c.requires in record { drive = is.0; sector = is.1 }
+returns-in-Sector-clause-may g c = rw c.in-Sector.is c.check_under.ensures.may

@@ -1,4 +1,4 @@
--- The packet is refused, or it brings no entry that is next, or its entry is held, or there is no room for it.
+-- The packet is refused, or it brings no entry that is next, or its entry is held and its input is appended.
 use Rattle.std.proofs.Common.{Ok, subst}
 use Rattle.std.proofs.lemmas.Result.{err_from_is_err_and}
 use Rattle.std.specs.Prelude.{IfSome}
@@ -9,7 +9,8 @@ use Rattle.ft_node.specs.Seats.{MayHold}
 use Rattle.ft_node.proofs.Deliveries.{held, passed_by, refused}
 use Rattle.ft_node.proofs.PassedChecks.{none_there}
 use Rattle.ft_world.specs.Shows.{IsStation}
-use Rattle.ft_world.proofs.Holding.{not_held}
+use Rattle.ft_world.specs.declared.station.Station.{Station}
+use Rattle.ft_world.proofs.Holding.{holds_on}
 use Rattle.ft_world.proofs.station.Station.deliver_log.Goals as goal
 
 pub returns-in_err-entry-clause-answer : goal.returns-in_err-entry-clause-answer
@@ -26,20 +27,16 @@ returns-in_default-clause-answer g c = λ C drives x is.
     (subst (λ next. Expects p x (Ok next)) (none_there c.in_ok-entry.field-0 c.in_default.not-Some)
     (c.in_ok-entry.ensures.answer C drives x is.node)) is
 
-pub hold-requires : goal.hold-requires
-hold-requires g c = subst (λ next. IfSome next (MayHold c.args.self.now.node)) c.in-Some.is c.in_ok-entry.ensures.may
-
-pub returns-in_err-hold-clause-answer : goal.returns-in_err-hold-clause-answer
-returns-in_err-hold-clause-answer g c = λ C drives x is.
+pub returns-in-Ok-clause-answer : goal.returns-in-Ok-clause-answer
+returns-in-Ok-clause-answer g c = λ C drives x is.
+    let state = g.B.Lockstep.state in
+    let M = g.B.Lockstep.machine in
     let p = packet_at c.args.bytes.now in
-    not_held x (IsStation g.B.Lockstep.state g.B.Lockstep.machine C drives c.hold.new.self) p c.in-Some.entry
-    c.from_residual-in_err-hold.result c.in_err-hold.field-0.0 c.from_residual-in_err-hold.ensures.1
+    let e = c.in-Some.entry in
+    let old = c.args.self.now in
+    let new : Station g.row.B.Denot g.row.H.Denot =
+    record { node = c.hold-2.new.self; inputs = c.hold.new.self; count = c.count-self.result } in
+    held NeedsEntry x (IsStation state M C drives new) p e
     (subst (λ next. Expects p x (Ok next)) c.in-Some.is (c.in_ok-entry.ensures.answer C drives x is.node))
-    (c.in_err-hold.ensures.answer C drives x is)
-
-pub returns-clause-answer : goal.returns-clause-answer
-returns-clause-answer g c = λ C drives x is.
-    let p = packet_at c.args.bytes.now in
-    held NeedsEntry x (IsStation g.B.Lockstep.state g.B.Lockstep.machine C drives c.hold.new.self) p c.in-Some.entry
-    (subst (λ next. Expects p x (Ok next)) c.in-Some.is (c.in_ok-entry.ensures.answer C drives x is.node))
-    (c.in_ok-hold.ensures.answer C drives x is)
+    (holds_on state M C drives old new e x (subst (λ next. IfSome next (MayHold old.node)) c.in-Some.is c.in_ok-entry.ensures.may)
+    is (c.in-Ok.ensures.answer C drives x is.node) c.in_ok-hold.ensures.ok c.count-self.ensures)

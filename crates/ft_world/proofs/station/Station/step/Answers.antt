@@ -9,5 +9,5 @@ returns-in_err-ran-clause-answer g c = λ C drives x is.
 
 pub returns-clause-answer : goal.returns-clause-answer
 returns-clause-answer g c = λ C drives x is.
-    steps_on g.B.Lockstep.state g.B.Lockstep.machine C drives c.args.turns c.args.self.now c.step.new.self c.in_ok-ran.ran
-    c.count-self.result x is (c.in_ok-ran.ensures.answer C drives x is.node) (c.count-self.ensures C drives)
+    steps_on g.B.Lockstep.state g.B.Lockstep.machine C drives c.args.turns c.args.self.now c.step.new.self c.in_ok-ran.ran x is
+    (c.in_ok-ran.ensures.answer C drives x is.node)
