@@ -33,7 +33,7 @@ fn command_line(alloc: Global, words: &[&str]) -> Result<Vec<String>, AllocError
 }
 
 /// The status and the text of the program on these words.
-pub fn end_of<R: Read + Drop, W: Write + Drop>(
+pub(crate) fn end_of<R: Read + Drop, W: Write + Drop>(
     rt: &(impl AllocGlobal + Threads + Clock + Sync),
     words: &[&str],
     reader: &mut R,
@@ -45,7 +45,7 @@ pub fn end_of<R: Read + Drop, W: Write + Drop>(
 }
 
 /// The program on these words.
-pub fn run_on<R: Read + Drop>(
+pub(crate) fn run_on<R: Read + Drop>(
     rt: &(impl AllocGlobal + Threads + Clock + Sync),
     words: &[&str],
     reader: &mut R,
@@ -60,13 +60,13 @@ pub fn run_on<R: Read + Drop>(
 }
 
 /// The run has printed this, and ended like this.
-pub fn expect_ran(rt: &impl Abort, ran: &Ran, output: &str, ending: Ending<'_>) {
+pub(crate) fn expect_ran(rt: &impl Abort, ran: &Ran, output: &str, ending: Ending<'_>) {
     assert_eq!(rt; (ran.status, ran.said.as_str()), ending);
     assert!(rt; ran.printed.as_slice() == output.as_bytes());
 }
 
 /// A command on this script prints this, and ends like this.
-pub fn expect(
+pub(crate) fn expect(
     rt: &(impl Abort + AllocGlobal + Threads + Clock + Sync),
     command: &str,
     script: &[u8],
