@@ -19,7 +19,7 @@ use Rattle.guest_lockstep.specs.Machine.{Move, Do, Take, Runs}
 use Rattle.guest_lockstep.specs.declared.input.Input.{Input}
 use Rattle.guest_lockstep.specs.declared.input.Input.TheVariants.{Rx, Sent, Sector, Written}
 use Rattle.guest_board.specs.declared.setup.Setup.{Setup}
-use Rattle.guest_trace.specs.Reach.{Own, Owns, bytes_after, image_from}
+use Rattle.guest_lockstep.specs.Reach.{Own, Owns, bytes_after, image_from}
 use Rattle.altair_laws.specs.Stands.{AltairStands, AreWhole, AreWholeWrites, IsWhole}
 use Rattle.pair_protocol.specs.Lawful.{Among, Reaches}
 use Rattle.pair_protocol.specs.OnDisk.{StaysOnDisk}

@@ -20,7 +20,7 @@ use Rattle.guest_lockstep.specs.declared.input.Input.{Input}
 use Rattle.guest_lockstep.specs.declared.input.Input.TheVariants.{Rx, Sent}
 use Rattle.guest_board.specs.declared.setup.Setup.{Setup}
 use Rattle.i8080_words.specs.declared.registers.Processor.{Processor}
-use Rattle.guest_trace.specs.Reach.{inputs, output, acceptances}
+use Rattle.guest_lockstep.specs.Reach.{inputs, output, acceptances}
 use Rattle.pair_protocol.specs.Lawful.{Reaches}
 use Rattle.pair_protocol.proofs.Traces.Moves.{acceptances_of-append, runs-split}
 use Rattle.altair_laws.proofs.Moves.{Tells, from_boot, length-output}

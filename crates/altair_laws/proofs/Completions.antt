@@ -25,8 +25,8 @@ use Rattle.guest_board.specs.Guest.{altair, after_rx, after_sent, after_sector, 
 use Rattle.guest_lockstep.specs.Machine.{Move, Take}
 use Rattle.guest_lockstep.specs.declared.input.Input.{Input}
 use Rattle.guest_lockstep.specs.declared.input.Input.TheVariants.{Rx, Sent, Sector, Written}
-use Rattle.guest_trace.specs.Reach.{operations, image_from}
-use Rattle.guest_trace.specs.declared.timed.Bare.TheVariants as bare
+use Rattle.guest_lockstep.specs.Reach.{operations, image_from}
+use Rattle.guest_lockstep.specs.declared.timed.Bare.TheVariants as bare
 use Rattle.pair_protocol.specs.Lawful.{Among, Reaches}
 use Rattle.altair_laws.proofs.Moves.{Tells, from_boot, operations-left}
 use Rattle.altair_laws.proofs.Operations.{AreGiven, given-take, given-gone, without-cases}

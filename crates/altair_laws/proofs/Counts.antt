@@ -14,7 +14,7 @@ use Rattle.guest_lockstep.specs.Machine.{Move, Do, Take}
 use Rattle.guest_lockstep.specs.declared.input.Input.{Input}
 use Rattle.guest_lockstep.specs.declared.input.Input.TheVariants.{Rx}
 use Rattle.guest_board.specs.declared.setup.Setup.{Setup}
-use Rattle.guest_trace.specs.Reach.{inputs, steps, keys}
+use Rattle.guest_lockstep.specs.Reach.{inputs, steps, keys}
 use Rattle.pair_protocol.specs.Lawful.{Reaches}
 use Rattle.pair_protocol.proofs.Traces.Moves.{steps-append}
 use Rattle.altair_laws.proofs.Moves.{Tells, from_boot, length-keys}

@@ -19,7 +19,7 @@ use Rattle.guest_board.specs.Guest.{with_given, wired, stepped}
 use Rattle.guest_lockstep.specs.Machine.{Move, Do}
 use Rattle.guest_board.specs.Ports.{Wired, after_byte}
 use Rattle.i8080_words.specs.declared.registers.Processor.{Processor}
-use Rattle.guest_trace.specs.Reach.{operations}
+use Rattle.guest_lockstep.specs.Reach.{operations}
 use Rattle.pair_protocol.specs.Lawful.{Among}
 use Rattle.pair_protocol.proofs.Traces.Lists.{among-left, among-split, among-right}
 use Rattle.altair_laws.proofs.Moves.{operations-left}

@@ -5,7 +5,7 @@ use Rattle.std.specs.Prelude.{◌==◌}
 use Rattle.event_callbacks.specs.declared.operations.Operation.{Operation}
 use Rattle.guest_lockstep.specs.Machine.{Machine, Move, Do, Take, Runs}
 use Rattle.guest_lockstep.specs.declared.input.Input.{Input}
-use Rattle.guest_trace.specs.Reach.{inputs, operations, output, keys}
+use Rattle.guest_lockstep.specs.Reach.{inputs, operations, output, keys}
 use Rattle.pair_protocol.specs.Lawful.{Among}
 use Rattle.pair_protocol.proofs.Traces.Moves.{operations-append, keys_of-append, output-append}
 use Rattle.pair_protocol.proofs.Traces.Lists.{among-left, among-right}

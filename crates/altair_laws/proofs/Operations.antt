@@ -10,7 +10,7 @@ use Rattle.event_callbacks.proofs.OperationMap.{operation_at-empty, operation_at
 use Rattle.guest_lockstep.specs.Machine.{Move, Do, Take}
 use Rattle.guest_board.specs.Guest.{with_given}
 use Rattle.guest_lockstep.specs.declared.input.Input.{Input}
-use Rattle.guest_trace.specs.Reach.{operations}
+use Rattle.guest_lockstep.specs.Reach.{operations}
 use Rattle.pair_protocol.specs.Lawful.{Among}
 use Rattle.altair_laws.proofs.Moves.{same_some, operations-left, operations-last}
 

@@ -38,7 +38,7 @@ use Rattle.altair_laws.proofs.Writes.{writes-boot, Has, WasIssued, operations_no
 use Rattle.altair_laws.proofs.Completions.{writes-take}
 use Rattle.altair_laws.proofs.Issues.{same_operations, writes-step}
 use Rattle.altair_laws.proofs.Counts.{counts_after}
-use Rattle.guest_trace.specs.Reach.{operations}
+use Rattle.guest_lockstep.specs.Reach.{operations}
 use Rattle.disk_dcdd.specs.declared.sector.TheConstants.{SECTOR_BYTES}
 use Rattle.altair_laws.proofs.Limits.{top_is, set-within, within_after}
 

@@ -18,7 +18,7 @@ use Rattle.guest_lockstep.specs.Machine.{Move, Do, Take}
 use Rattle.guest_lockstep.specs.declared.input.Input.{Input}
 use Rattle.guest_lockstep.specs.declared.input.Input.TheVariants.{Rx, Sent, Sector, Written}
 use Rattle.guest_board.specs.declared.setup.Setup.{Setup}
-use Rattle.guest_trace.specs.Reach.{operations}
+use Rattle.guest_lockstep.specs.Reach.{operations}
 use Rattle.pair_protocol.specs.Lawful.{top, Among}
 
 -- a sector that comes under the head has all its bytes

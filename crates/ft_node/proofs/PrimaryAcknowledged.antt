@@ -22,8 +22,8 @@ use Rattle.output_rule.specs.Keys.{keys_in}
 use Rattle.output_rule.specs.Laws.{Tells}
 use Rattle.pair_protocol.specs.Node.{Node, hears}
 use Rattle.pair_protocol.specs.Refusals.{first_of, fault_if, deliver_acknowledgement_refusal}
-use Rattle.guest_trace.specs.Reach as reach
-use Rattle.guest_trace.specs.declared.timed.Timed.{Timed}
+use Rattle.guest_lockstep.specs.Reach as reach
+use Rattle.guest_lockstep.specs.declared.timed.Timed.{Timed}
 use Rattle.ft_node.specs.Calls.{DeliversAcknowledgement}
 use Rattle.ft_node.specs.Roles.{IsPrimary, Covers}
 use Rattle.ft_node.proofs.PrimaryRefusals.{primary_acts, allowed}

@@ -28,8 +28,8 @@ use Rattle.pair_protocol.specs.Node as protocol
 use Rattle.pair_protocol.specs.Node.{Node, note_of, notes_after, primary_steps}
 use Rattle.pair_protocol.specs.Waiting.{reads_in, waits_for}
 use Rattle.pair_protocol.proofs.Keeps.PrimaryLog.{same_name-refl}
-use Rattle.guest_trace.specs.declared.timed.Timed.{Timed}
-use Rattle.guest_trace.specs.Reach as reach
+use Rattle.guest_lockstep.specs.declared.timed.Timed.{Timed}
+use Rattle.guest_lockstep.specs.Reach as reach
 use Rattle.guest_lockstep.specs.Outstanding.{ComesAndGoes, AreFew}
 use Rattle.ft_node.specs.Roles.{AreOfOutstanding, Covers, waits_in, waits_of}
 use Rattle.ft_node.proofs.LastReads.{reads_without}

@@ -20,7 +20,7 @@ use Rattle.arbiter_core.specs.declared.arbiter.Asking.{Asking}
 use Rattle.arbiter_core.specs.declared.arbiter.Won.{Won}
 use Rattle.clone_state.specs.Image.{part_bytes}
 use Rattle.clone_state.specs.Parts.{PartMessage}
-use Rattle.guest_trace.specs.Reach.{keys}
+use Rattle.guest_lockstep.specs.Reach.{keys}
 use Rattle.pair_protocol.specs.Copying.{Copying}
 use Rattle.pair_protocol.specs.Effects as effect
 use Rattle.pair_protocol.specs.Effects.{Stepped, Took, Held, Heard, Replayed, Drained, Halted, GotPart, HasEntry, HasOutstanding, HasCovered, HasPart, IsUnder, Wants, NeedsMoves, NeedsEntry}

@@ -3,7 +3,7 @@ use Rattle.pair_protocol.specs.Copying.{Copying}
 use Rattle.std.proofs.Common.{◌≡◌, ℕ, ◌∙◌, [], ◌∷◌, ◌++◌, Some, ap, inl, inr, refl, subst, sym}
 use Rattle.guest_lockstep.specs.Machine.{Machine}
 use Rattle.guest_lockstep.specs.declared.input.Input.{Input}
-use Rattle.guest_trace.specs.Reach.{timed}
+use Rattle.guest_lockstep.specs.Reach.{timed}
 use Rattle.guest_lockstep.specs.Recorded.{Counts}
 use Rattle.pair_protocol.specs.Change.{Serving}
 use Rattle.pair_protocol.specs.Effects.{Took, took}

@@ -8,7 +8,7 @@ use Rattle.event_callbacks.specs.Operations.{id_of}
 use Rattle.event_callbacks.specs.declared.operations.Operation.{Operation}
 use Rattle.event_callbacks.specs.declared.operations.Operation.TheVariants.{Write}
 use Rattle.guest_lockstep.specs.Machine.{Do, Machine, Move, Runs, Take}
-use Rattle.guest_trace.specs.Reach.{operations}
+use Rattle.guest_lockstep.specs.Reach.{operations}
 use Rattle.disk_dcdd.specs.Address.{has_sector}
 use Rattle.pair_protocol.specs.Change.{Reached}
 use Rattle.pair_protocol.specs.Copying.{Copying}

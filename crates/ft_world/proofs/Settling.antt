@@ -6,7 +6,7 @@ use Rattle.std.proofs.Common.{◌≡◌, ◌∙◌, List, None, Some, ap, inl, i
 use Rattle.std.specs.Prelude.{Option, slice_get, unwrap_or}
 use Rattle.arbiter_core.specs.Winners.{winner_of}
 use Rattle.guest_lockstep.specs.Machine.{Machine}
-use Rattle.guest_trace.specs.declared.timed.Timed.{Timed}
+use Rattle.guest_lockstep.specs.declared.timed.Timed.{Timed}
 use Rattle.shared_disk.specs.declared.store.Record.{Record}
 use Rattle.pair_protocol.specs.Node.{Alone, Backup, Draining, Joining, Node, Primary, Role, Spare}
 use Rattle.pair_protocol.specs.Settled.{Settled, Settles, count_in, list_of}

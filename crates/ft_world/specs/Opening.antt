@@ -1,7 +1,7 @@
 -- How a generation begins with a copied machine.
 use Rattle.std.specs.Prelude.{◌≡◌, ℕ, suc, Option, Some, None, List, slice_get, slice_set}
 use Rattle.guest_lockstep.specs.Machine.{Machine}
-use Rattle.guest_trace.specs.declared.timed.Timed.{Timed}
+use Rattle.guest_lockstep.specs.declared.timed.Timed.{Timed}
 use Rattle.i8080_words.specs.declared.refusal.Fault.{Fault}
 use Rattle.i8080_words.specs.declared.refusal.Fault.TheVariants.{Unknown, WrongRole}
 use Rattle.clone_state.specs.Parts.{part_count}

@@ -16,7 +16,7 @@ use crate::host::Host;
 use crate::opening::Opening;
 use crate::station::Station;
 use clone_state::Copies;
-use guest_trace::Timed;
+use guest_lockstep::Timed;
 use i8080_words::{Fault, R};
 use pair_events::Role;
 

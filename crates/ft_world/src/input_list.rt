@@ -1,11 +1,10 @@
 //! The list of inputs that is kept with a node.
 ghost use Rattle.std.specs.Prelude.{◌≡◌, [], ◌∷◌, ◌++◌, length, take, IfErr, IfOk, OnErr, OnOk};
 ghost use Rattle.i8080_words.specs.declared.refusal.Fault.TheVariants.{OutOfMemory};
-ghost use Rattle.guest_trace.specs.Reach.{timed};
+ghost use Rattle.guest_lockstep.specs.Reach.{timed};
 ghost use Rattle.log_entry.specs.Entries.{timed_in, timed_of};
 
-use guest_lockstep::Input;
-use guest_trace::{Bare, Timed};
+use guest_lockstep::{Bare, Input, Timed};
 use i8080_words::R;
 use log_entry::Entry;
 use std::alloc::Global;
@@ -19,7 +18,7 @@ pub struct Inputs {
 
 impl Model for Inputs {
     ghost use Rattle.std.specs.Prelude.{List};
-    ghost use Rattle.guest_trace.specs.declared.timed.Timed.{Timed};
+    ghost use Rattle.guest_lockstep.specs.declared.timed.Timed.{Timed};
 
     ghost Value = { List Timed };
 

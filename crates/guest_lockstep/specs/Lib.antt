@@ -4,3 +4,4 @@ pub mod Recorded
 pub mod Outstanding
 pub mod Running
 pub mod Pages
+pub mod Reach

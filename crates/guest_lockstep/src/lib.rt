@@ -6,9 +6,11 @@ mod lockstep;
 mod reads;
 mod replay_end;
 mod running;
+mod timed;
 
 pub use input::Input;
 pub use lockstep::Lockstep;
 pub use reads::Reads;
 pub use replay_end::ReplayEnd;
 pub use running::{StopReason, Stopped, run};
+pub use timed::{Bare, Timed};

@@ -6,8 +6,8 @@ use Rattle.guest_lockstep.specs.declared.input.Input.{Input}
 use Rattle.guest_lockstep.specs.declared.input.Input.TheVariants.{Rx, Sent, Sector, Written}
 use Rattle.guest_lockstep.specs.declared.reads.Reads.{Reads}
 use Rattle.guest_lockstep.specs.declared.reads.Reads.TheVariants.{Logged, Shared}
-use Rattle.guest_trace.specs.Reach.{timed, steps}
-use Rattle.guest_trace.specs.declared.timed.Timed.{Timed}
+use Rattle.guest_lockstep.specs.Reach.{timed, steps}
+use Rattle.guest_lockstep.specs.declared.timed.Timed.{Timed}
 use Rattle.log_entry.specs.declared.entry.Entry.{Entry}
 use Rattle.log_entry.specs.Entries.{count_of, entry_of, timed_of, entries, last_count}
 use Rattle.log_entry.specs.Laws.{KeepsInputs, NeverFalls, StandInOrder}

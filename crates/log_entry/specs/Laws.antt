@@ -2,7 +2,7 @@
 use Rattle.std.specs.Prelude.{◌≡◌, ℕ, ◌+◌, ◌≤◌, List, [], ◌∷◌, Some}
 use Rattle.guest_lockstep.specs.Machine.{Move}
 use Rattle.guest_lockstep.specs.declared.reads.Reads.{Reads}
-use Rattle.guest_trace.specs.Reach.{inputs, steps}
+use Rattle.guest_lockstep.specs.Reach.{inputs, steps}
 use Rattle.log_entry.specs.declared.entry.Entry.{Entry}
 use Rattle.log_entry.specs.Entries.{count_of, entries, inputs_of, last_count}
 use Rattle.log_entry.specs.Numbers.{IsBytes}

@@ -3,8 +3,7 @@
 ghost use Rattle.std.specs.Prelude.{◌≡◌, ◌<◌, ◌^◌};
 
 use disk_dcdd::SECTOR_BYTES;
-use guest_lockstep::{Input, Reads};
-use guest_trace::{Bare, Timed};
+use guest_lockstep::{Bare, Input, Reads, Timed};
 
 /// What one input or one operation appends to the log, with its count (VMware FT, section 2.1, "log entries").
 #[derive(Clone, Copy, PartialEq, Eq)]

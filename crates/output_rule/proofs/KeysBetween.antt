@@ -4,8 +4,8 @@ use Rattle.std.proofs.Common.{◌≡◌, ℕ, zero, suc, ◌+◌, ◌-◌, ◌<�
 use Rattle.std.specs.Prelude.{slice_get}
 use Rattle.std.proofs.lemmas.Bool.{le-ltb}
 use Rattle.std.proofs.lemmas.List.{length-take}
-use Rattle.guest_trace.specs.declared.timed.Timed.{Timed}
-use Rattle.guest_trace.specs.Reach as reach
+use Rattle.guest_lockstep.specs.declared.timed.Timed.{Timed}
+use Rattle.guest_lockstep.specs.Reach as reach
 use Rattle.log_entry.specs.declared.entry.Entry.{Entry}
 use Rattle.log_entry.specs.declared.entry.Entry.TheVariants.{Mark, Rx, Sent, Sector, Written, Read}
 use Rattle.log_entry.specs.Entries.{inputs_of, timed_in, timed_of}

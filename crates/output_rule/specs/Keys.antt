@@ -2,7 +2,7 @@
 use Rattle.std.specs.Prelude.{ℕ, ◌+◌, ◌-◌, List, [], ◌∷◌, length, take, drop, slice_index, Option, Some, None}
 use Rattle.log_entry.specs.declared.entry.Entry.{Entry}
 use Rattle.log_entry.specs.Entries.{inputs_of}
-use Rattle.guest_trace.specs.Reach as reach
+use Rattle.guest_lockstep.specs.Reach as reach
 use Rattle.log_buffer.specs.Log.{Log}
 
 -- how many keys of a port are among entries

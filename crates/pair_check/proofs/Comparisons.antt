@@ -12,9 +12,9 @@ use Rattle.guest_parts.specs.Guest.{Guest}
 use Rattle.guest_lockstep.specs.Machine.{Machine}
 use Rattle.plain_single.specs.SingleState.{SingleState, output_of}
 use Rattle.plain_single.specs.Image.{IsSector, sector_at}
-use Rattle.guest_trace.specs.Reach.{Reach, output, writes, image}
+use Rattle.guest_lockstep.specs.Reach.{Reach, output, writes, image}
 use Rattle.plain_single.specs.Reaching.{RunsTo}
-use Rattle.guest_trace.specs.declared.timed.Timed.{Timed}
+use Rattle.guest_lockstep.specs.declared.timed.Timed.{Timed}
 use Rattle.ft_world.specs.Applies.{Shows}
 use Rattle.ft_world.specs.Running.{Running}
 use Rattle.ft_world.specs.Standing.{Course, machine_of}

@@ -17,9 +17,9 @@ use Rattle.guest_lockstep.specs.Machine.{Do, Move, Take}
 use Rattle.guest_lockstep.specs.declared.input.Input.{Input}
 use Rattle.guest_lockstep.specs.declared.input.Input.TheVariants as input
 use Rattle.guest_board.specs.declared.setup.Setup.{Setup}
-use Rattle.guest_trace.specs.Reach.{bare, inputs, steps}
-use Rattle.guest_trace.specs.declared.timed.Bare.TheVariants.{Written}
-use Rattle.guest_trace.specs.declared.timed.Timed.{Timed}
+use Rattle.guest_lockstep.specs.Reach.{bare, inputs, steps}
+use Rattle.guest_lockstep.specs.declared.timed.Bare.TheVariants.{Written}
+use Rattle.guest_lockstep.specs.declared.timed.Timed.{Timed}
 use Rattle.pair_protocol.specs.Lawful.{Among, Reaches}
 use Rattle.pair_protocol.proofs.Traces.Lists.{among-split}
 use Rattle.pair_protocol.proofs.Traces.Moves.{inputs-append}

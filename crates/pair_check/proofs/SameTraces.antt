@@ -14,8 +14,8 @@ use Rattle.guest_lockstep.specs.Machine.{Do, Move, Runs, Take}
 use Rattle.guest_lockstep.specs.declared.input.Input.{Input}
 use Rattle.guest_lockstep.specs.declared.input.Input.TheVariants as input
 use Rattle.guest_board.specs.declared.setup.Setup.{Setup}
-use Rattle.guest_trace.specs.Reach.{Own, Owns, Reach, image, image_from, inputs}
-use Rattle.guest_trace.specs.declared.timed.Timed.{Timed}
+use Rattle.guest_lockstep.specs.Reach.{Own, Owns, Reach, image, image_from, inputs}
+use Rattle.guest_lockstep.specs.declared.timed.Timed.{Timed}
 use Rattle.pair_protocol.specs.OnDisk.{StaysOnDisk}
 use Rattle.pair_protocol.specs.Lawful.{Reaches}
 use Rattle.pair_protocol.proofs.Traces.Lists.{same_some}

@@ -9,8 +9,8 @@ use Rattle.guest_board.specs.Guest.{altair, guest_at_boot}
 use Rattle.guest_board.specs.Inputs.{some_altair}
 use Rattle.guest_lockstep.specs.Machine.{Machine}
 use Rattle.guest_board.specs.declared.setup.Setup.{Setup}
-use Rattle.guest_trace.specs.Reach.{image, output, writes}
-use Rattle.guest_trace.specs.declared.timed.Timed.{Timed}
+use Rattle.guest_lockstep.specs.Reach.{image, output, writes}
+use Rattle.guest_lockstep.specs.declared.timed.Timed.{Timed}
 use Rattle.ft_world.specs.Applies.{Shows}
 use Rattle.ft_world.specs.Running.{Running}
 use Rattle.ft_world.specs.Standing.{Course}

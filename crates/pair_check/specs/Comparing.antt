@@ -7,10 +7,10 @@ use Rattle.guest_parts.specs.Guest.{Guest}
 use Rattle.guest_lockstep.specs.Machine.{Machine, Move}
 use Rattle.i8080_words.specs.declared.refusal.Fault.{Fault}
 use Rattle.i8080_words.specs.declared.refusal.Fault.TheVariants.{OutOfMemory}
-use Rattle.guest_trace.specs.Reach.{Reach, output, writes, image}
+use Rattle.guest_lockstep.specs.Reach.{Reach, output, writes, image}
 use Rattle.plain_single.specs.Reaching.{Fails, NeverFall}
-use Rattle.guest_trace.specs.declared.timed.Bare.TheVariants.{Written}
-use Rattle.guest_trace.specs.declared.timed.Timed.{Timed}
+use Rattle.guest_lockstep.specs.declared.timed.Bare.TheVariants.{Written}
+use Rattle.guest_lockstep.specs.declared.timed.Timed.{Timed}
 use Rattle.pair_protocol.specs.Faithful.{IsAllBut}
 use Rattle.pair_protocol.specs.Settled.{Settled}
 use Rattle.pair_protocol.specs.World.{World, accepted, sector_record}

@@ -5,7 +5,7 @@ use Rattle.disk_dcdd.specs.declared.address.SectorAddress.{SectorAddress}
 use Rattle.guest_lockstep.specs.Machine.{Machine}
 use Rattle.plain_single.specs.SingleState.{SingleState}
 use Rattle.plain_single.specs.Image.{sector_at}
-use Rattle.guest_trace.specs.declared.timed.Timed.{Timed}
+use Rattle.guest_lockstep.specs.declared.timed.Timed.{Timed}
 use Rattle.pair_protocol.specs.World.{sector_record}
 use Rattle.shared_disk.specs.Records.{IsThere}
 use Rattle.shared_disk.specs.declared.store.Record.{Record}

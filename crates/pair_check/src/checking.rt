@@ -22,7 +22,7 @@ use clone_state::Copies;
 use disk_dcdd::{SECTORS, SectorAddress, SectorWrite, TRACKS};
 use ft_world::World;
 use guest_board::Setup;
-use guest_trace::Timed;
+use guest_lockstep::Timed;
 use i8080_words::{Fault, R};
 use plain_single::Single;
 use shared_disk::Disk;

@@ -6,7 +6,7 @@ ghost use Rattle.plain_single.specs.Image.{sector_at};
 ghost use Rattle.plain_single.specs.Reaching.{NeverFall};
 
 use disk_dcdd::{SECTOR_BYTES, SectorAddress, SectorWrite};
-use guest_trace::{Bare, Timed};
+use guest_lockstep::{Bare, Timed};
 use plain_single::Single;
 
 /// How many bytes of a port its terminal may not have accepted yet: as many as the port's transmitter holds.

@@ -1,7 +1,9 @@
 //! The program `pair`: its words, standard input and standard output, and the status and the text that it ends with.
 #![tactic(auto)]
 
-use pair_program::run_program;
+mod program;
+
+use program::run_program;
 use std::env;
 use std::io::{self, ErrorKind};
 use std::process::ExitCode;

@@ -12,7 +12,7 @@ ghost use Rattle.pair_moments.specs.Telling.{Carries, LooksAt, TellsCargo, Tells
 use clone_state::Copies;
 use disk_dcdd::SectorAddress;
 use ft_world::{Message, World};
-use guest_trace::Bare;
+use guest_lockstep::Bare;
 use i8080_words::R;
 use log_channel::Packet;
 use log_entry::Entry;

@@ -7,7 +7,7 @@ pub mod Acting
 use Rattle.std.proofs.Common.{[], ◌++◌, ◌+◌, ◌<◌, ◌≡◌, ◌≤◌, ◌⊎◌, List, None, Option, Some, length, map, true, ℕ}
 use Rattle.std.specs.Prelude.{slice_get}
 use Rattle.pair_protocol.proofs.Words.{Acknowledgement, Alone, Among, Arrival, Backup, Byte, Copying, Draining, Entry, ImagePart, IsPrefix, Joining, LogEntry, Machine, Message, Move, Node, Operation, Owns, Primary, Reads, Recorded, Released, Replaying, Runs, SectorAddress, SectorRead, SectorWrite, Spare, Terminal, Timed, Winner, World, Write, WriteDone, acceptances, accepted_in, address_of, cut, entries, inputs, is_read, keys, operations, steps, terminal_in, winner_in}
-use Rattle.guest_trace.specs.declared.timed.Bare.TheVariants.{Written}
+use Rattle.guest_lockstep.specs.declared.timed.Bare.TheVariants.{Written}
 pub use Rattle.pair_protocol.proofs.Invariant.Progress.{AreNoted, AtPlace, HasGathered, HasLogged, HasMade, HoldsLog, IsNoted, ReplayedMoves}
 
 -- Whether nobody has won a generation, or its primary, or its backup: the node that began it in that role.

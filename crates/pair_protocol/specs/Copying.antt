@@ -1,7 +1,7 @@
 -- The copy of a machine: the parts of its image, and the machine that parts make.
 use Rattle.std.specs.Prelude.{◌≡◌, ℕ, Option, Some, None, List, [], length}
 use Rattle.guest_lockstep.specs.Machine.{Machine, Move}
-use Rattle.guest_trace.specs.Reach.{Owns}
+use Rattle.guest_lockstep.specs.Reach.{Owns}
 use Rattle.pair_protocol.specs.Lawful.{Reaches}
 
 pub record Copying (S : Type 0) : Type 0 where

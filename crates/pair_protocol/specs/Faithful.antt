@@ -6,8 +6,8 @@ use Rattle.disk_dcdd.specs.declared.sector.SectorWrite.{SectorWrite}
 use Rattle.event_callbacks.specs.declared.operations.OpId.TheVariants as id
 use Rattle.event_callbacks.specs.declared.operations.Operation.TheVariants.{Write}
 use Rattle.guest_lockstep.specs.Machine.{Machine, Move}
-use Rattle.guest_trace.specs.Reach.{keys, output, image, Reach}
-use Rattle.guest_trace.specs.declared.timed.Timed.{Timed}
+use Rattle.guest_lockstep.specs.Reach.{keys, output, image, Reach}
+use Rattle.guest_lockstep.specs.declared.timed.Timed.{Timed}
 use Rattle.pair_protocol.specs.Node.{Node, Alone}
 use Rattle.pair_protocol.specs.ReadsKept.{ReadsKept}
 use Rattle.pair_protocol.specs.World.{World, terminal, accepted, sector_record}

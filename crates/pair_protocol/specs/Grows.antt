@@ -1,7 +1,7 @@
 -- How one event may change what is settled: it only grows, and no winner loses.
 use Rattle.std.specs.Prelude.{◌≡◌, ℕ, ◌≤◌, Some, None, List, [], ◌∷◌, ◌++◌, slice_get}
 use Rattle.guest_lockstep.specs.Machine.{Machine}
-use Rattle.guest_trace.specs.declared.timed.Timed.{Timed}
+use Rattle.guest_lockstep.specs.declared.timed.Timed.{Timed}
 use Rattle.pair_protocol.specs.Node.{Node}
 use Rattle.pair_protocol.specs.World.{World, winner_in}
 use Rattle.pair_protocol.specs.Settled.{Settled, list_of}

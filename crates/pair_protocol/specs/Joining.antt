@@ -1,7 +1,7 @@
 -- The parts that are sent: each is of a machine that is reached from boot, and a joining node is given those of one.
 use Rattle.std.specs.Prelude.{◌≡◌, ℕ, Some, List, [], slice_get}
 use Rattle.guest_lockstep.specs.Machine.{Machine, Move}
-use Rattle.guest_trace.specs.Reach.{Owns}
+use Rattle.guest_lockstep.specs.Reach.{Owns}
 use Rattle.pair_protocol.specs.Copying.{Copying, IsCopying, Makes}
 use Rattle.pair_protocol.specs.Lawful.{Among, Lawful, Reaches}
 use Rattle.pair_protocol.specs.Node.{Node, Joining, gathered}

@@ -12,8 +12,8 @@ use Rattle.guest_lockstep.specs.Lockstep.{IsInput, HasRoom}
 use Rattle.guest_lockstep.specs.Machine.{Machine, Move, Do, Runs, refusal_of}
 use Rattle.guest_lockstep.specs.Outstanding.{AreFew}
 use Rattle.guest_lockstep.specs.declared.input.Input.{Input}
-use Rattle.guest_trace.specs.Reach.{inputs, steps, operations, output, keys, acceptances, image}
-use Rattle.guest_trace.specs.declared.timed.Bare.TheVariants.{Written}
+use Rattle.guest_lockstep.specs.Reach.{inputs, steps, operations, output, keys, acceptances, image}
+use Rattle.guest_lockstep.specs.declared.timed.Bare.TheVariants.{Written}
 
 -- the greatest count, and the greatest number of a byte or a write
 unfoldable pub top : ℕ

@@ -10,8 +10,8 @@ use Rattle.guest_lockstep.specs.declared.reads.Reads.{Reads}
 use Rattle.guest_lockstep.specs.declared.reads.Reads.TheVariants.{Logged, Shared}
 use Rattle.log_entry.specs.Entries.{marks, entry_of, inputs_of}
 use Rattle.log_entry.specs.declared.entry.Entry.{Entry}
-use Rattle.guest_trace.specs.Reach.{timed, keys}
-use Rattle.guest_trace.specs.declared.timed.Timed.{Timed}
+use Rattle.guest_lockstep.specs.Reach.{timed, keys}
+use Rattle.guest_lockstep.specs.declared.timed.Timed.{Timed}
 use Rattle.pair_protocol.specs.Copying.{Copying}
 use Rattle.pair_protocol.specs.Waiting.{waits_for}
 

@@ -3,7 +3,7 @@
 use Rattle.std.specs.Prelude.{◌≡◌, ℕ, ◌≤◌, ◌⊎◌, List, length, drop}
 use Rattle.guest_lockstep.specs.Machine.{Machine, Move}
 use Rattle.log_entry.specs.Standing.{IsOnTrace}
-use Rattle.guest_trace.specs.Reach.{keys}
+use Rattle.guest_lockstep.specs.Reach.{keys}
 use Rattle.pair_protocol.specs.Lawful.{Reaches}
 use Rattle.pair_protocol.specs.Node.{Node, Primary}
 use Rattle.pair_protocol.specs.Change.{Replaying, Serving}

@@ -3,7 +3,7 @@ use Rattle.std.specs.Prelude.{◌≡◌, ℕ, ◌≤◌, ◌⊎◌, Some, None, 
 use Rattle.guest_lockstep.specs.Machine.{Machine, Move}
 use Rattle.log_entry.specs.Entries.{inputs_of}
 use Rattle.log_entry.specs.declared.entry.Entry.TheVariants.{Read}
-use Rattle.guest_trace.specs.Reach.{Reach}
+use Rattle.guest_lockstep.specs.Reach.{Reach}
 use Rattle.pair_protocol.specs.Node.{Node, Backup, Draining}
 use Rattle.pair_protocol.specs.Settled.{highest}
 use Rattle.pair_protocol.specs.World.{World, sector_record, winner_in}

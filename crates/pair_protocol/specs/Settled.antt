@@ -2,7 +2,7 @@
 use Rattle.std.specs.Prelude.{◌≡◌, ℕ, max, ◌⊎◌, Bool, true, false, Some, None, List, [], ◌∷◌, ◌++◌, slice_get}
 use Rattle.guest_lockstep.specs.Machine.{Machine}
 use Rattle.log_entry.specs.Entries.{inputs_of, last_count}
-use Rattle.guest_trace.specs.declared.timed.Timed.{Timed}
+use Rattle.guest_lockstep.specs.declared.timed.Timed.{Timed}
 use Rattle.pair_protocol.specs.Node.{Node, Role, Primary, Backup, Joining, Draining, Alone, Spare}
 use Rattle.pair_protocol.specs.World.{World, winner_in}
 

@@ -3,8 +3,8 @@ use Rattle.std.specs.Prelude.{◌≡◌, ℕ, zero, suc, ◌≤◌, Some, None, 
 use Rattle.guest_lockstep.specs.Machine.{Machine, Move, Do, Take, Runs}
 use Rattle.guest_lockstep.specs.declared.reads.Reads.{Reads}
 use Rattle.log_entry.specs.Entries.{entries, inputs_of, last_count}
-use Rattle.guest_trace.specs.Reach.{steps, Reach}
-use Rattle.guest_trace.specs.declared.timed.Timed.{Timed}
+use Rattle.guest_lockstep.specs.Reach.{steps, Reach}
+use Rattle.guest_lockstep.specs.declared.timed.Timed.{Timed}
 
 -- the moves up to the entry with a number
 abbrev pub cut : ℕ → List Move → List Move

@@ -7,7 +7,7 @@ use Rattle.guest_lockstep.specs.Machine.{Machine, Move, Do, Take}
 use Rattle.guest_lockstep.specs.Recorded.{Recorded}
 use Rattle.guest_lockstep.specs.declared.input.Input.TheVariants as input
 use Rattle.guest_lockstep.specs.declared.reads.Reads.TheVariants.{Logged}
-use Rattle.guest_trace.specs.Reach.{acceptances, inputs, keys, operations, output, steps}
+use Rattle.guest_lockstep.specs.Reach.{acceptances, inputs, keys, operations, output, steps}
 use Rattle.log_entry.specs.Entries.{entries}
 use Rattle.pair_protocol.specs.Lawful.{Among}
 use Rattle.pair_protocol.proofs.Traces.Lists.{bool_cases}

@@ -1,6 +1,6 @@
 -- What the terminals had accepted when a host failed begins what they have accepted when all is settled.
 use Rattle.std.proofs.Common.{◌≡◌, ℕ, ◌+◌, List, [], ◌∷◌, length, sym, ap, subst, ◌∙◌}
-use Rattle.guest_trace.specs.Reach.{output}
+use Rattle.guest_lockstep.specs.Reach.{output}
 use Rattle.log_entry.specs.Entries.{inputs_of, last_count}
 use Rattle.pair_protocol.specs.Faithful.{IsPrefix}
 use Rattle.pair_protocol.specs.Traces.{OneTrace, cut}

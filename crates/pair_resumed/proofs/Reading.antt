@@ -8,7 +8,7 @@ use Rattle.guest_lockstep.specs.Machine.{Machine, Move, Take, Runs}
 use Rattle.guest_lockstep.specs.Recorded.{Accepts, Recorded}
 use Rattle.guest_lockstep.specs.declared.input.Input.TheVariants as input
 use Rattle.guest_lockstep.specs.declared.reads.Reads.TheVariants.{Logged}
-use Rattle.guest_trace.specs.Reach.{Own, operations, steps}
+use Rattle.guest_lockstep.specs.Reach.{Own, operations, steps}
 use Rattle.log_entry.specs.Entries.{entries, entry_of}
 use Rattle.pair_protocol.specs.Lawful.{Among, IsUnwritten, IsWritten, top}
 use Rattle.pair_protocol.specs.World.{latest}

@@ -12,7 +12,7 @@ use Rattle.guest_lockstep.specs.Machine.{Machine, Move, Do, Take, Runs}
 use Rattle.guest_lockstep.specs.Recorded.{Recorded}
 use Rattle.guest_lockstep.specs.declared.input.Input.TheVariants as input
 use Rattle.guest_lockstep.specs.declared.reads.Reads.TheVariants.{Logged}
-use Rattle.guest_trace.specs.Reach.{Owns, acceptances, image, inputs, keys, operations, output, steps}
+use Rattle.guest_lockstep.specs.Reach.{Owns, acceptances, image, inputs, keys, operations, output, steps}
 use Rattle.log_entry.specs.Entries.{entries, inputs_of}
 use Rattle.pair_protocol.specs.Copying.{Copying}
 use Rattle.pair_protocol.specs.Faithful.{IsPrefix}

@@ -10,8 +10,8 @@ use Rattle.guest_lockstep.specs.Recorded.{Accepts, Recorded}
 use Rattle.guest_lockstep.specs.declared.input.Input.{Input}
 use Rattle.guest_lockstep.specs.declared.input.Input.TheVariants as input
 use Rattle.guest_lockstep.specs.declared.reads.Reads.TheVariants.{Logged}
-use Rattle.guest_trace.specs.Reach.{acceptances, bare, inputs, keys, operations, output, steps}
-use Rattle.guest_trace.specs.declared.timed.Bare.TheVariants.{Written}
+use Rattle.guest_lockstep.specs.Reach.{acceptances, bare, inputs, keys, operations, output, steps}
+use Rattle.guest_lockstep.specs.declared.timed.Bare.TheVariants.{Written}
 use Rattle.i8080_words.specs.declared.refusal.Fault.TheVariants.{NotDue}
 use Rattle.log_entry.specs.Entries.{entries, entry_of, inputs_of}
 use Rattle.log_entry.specs.declared.entry.Entry.{Entry}

@@ -7,7 +7,7 @@ use Rattle.guest_board.specs.declared.setup.Setup.{Setup}
 use Rattle.guest_lockstep.specs.Machine.{Machine, Move, Runs, booted_from}
 use Rattle.guest_lockstep.specs.Recorded.{Recorded}
 use Rattle.guest_lockstep.specs.declared.reads.Reads.TheVariants.{Logged}
-use Rattle.guest_trace.specs.Reach.{Owns, image, inputs, keys, output}
+use Rattle.guest_lockstep.specs.Reach.{Owns, image, inputs, keys, output}
 use Rattle.log_entry.specs.Entries.{entries, last_count}
 use Rattle.log_entry.specs.declared.entry.Entry.{Entry}
 use Rattle.pair_protocol.specs.Copying.{Copying, IsCopying}

@@ -5,7 +5,7 @@ use Rattle.std.proofs.lemmas.Bool.Decides.{leb_tells}
 use Rattle.event_callbacks.specs.declared.operations.Operation.TheVariants.{Byte}
 use Rattle.guest_lockstep.specs.Machine.{Machine}
 use Rattle.log_entry.specs.Entries.{inputs_of}
-use Rattle.guest_trace.specs.Reach.{acceptances}
+use Rattle.guest_lockstep.specs.Reach.{acceptances}
 use Rattle.pair_protocol.specs.World.{World}
 use Rattle.pair_rule.specs.declared.view.Arrived.{Arrived}
 use Rattle.pair_rule.specs.declared.view.Knowledge.{Knowledge}

@@ -10,7 +10,7 @@ use Rattle.i8080_words.specs.declared.refusal.Fault.TheVariants.{NotDue}
 use Rattle.log_entry.specs.Entries.{entries, entry_of, inputs_of}
 use Rattle.log_entry.specs.declared.entry.Entry.{Entry}
 use Rattle.log_entry.specs.declared.entry.Entry.TheVariants.{Rx, Sent}
-use Rattle.guest_trace.specs.Reach.{inputs, keys, acceptances}
+use Rattle.guest_lockstep.specs.Reach.{inputs, keys, acceptances}
 use Rattle.pair_protocol.specs.Copying.{Copying}
 use Rattle.pair_protocol.specs.Faithful.{IsPrefix}
 use Rattle.pair_protocol.specs.Lawful.{Among, Lawful}

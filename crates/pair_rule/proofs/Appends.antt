@@ -14,9 +14,9 @@ use Rattle.i8080_words.specs.declared.refusal.Fault.TheVariants.{LogFull, Spent,
 use Rattle.log_entry.specs.Entries.{entries, entry_of, count_of, inputs_of}
 use Rattle.log_entry.specs.declared.entry.Entry.{Entry}
 use Rattle.log_entry.specs.declared.entry.Entry.TheVariants.{Mark}
-use Rattle.guest_trace.specs.Reach.{steps, inputs, operations, bare}
-use Rattle.guest_trace.specs.declared.timed.Timed.{Timed}
-use Rattle.guest_trace.specs.declared.timed.Bare.TheVariants.{Written}
+use Rattle.guest_lockstep.specs.Reach.{steps, inputs, operations, bare}
+use Rattle.guest_lockstep.specs.declared.timed.Timed.{Timed}
+use Rattle.guest_lockstep.specs.declared.timed.Bare.TheVariants.{Written}
 use Rattle.pair_protocol.specs.Faithful.{IsPrefix}
 use Rattle.pair_rule.specs.Knowledge.{HasWrite}
 use Rattle.pair_protocol.specs.Lawful.{Among, IsDone, top, Lawful}

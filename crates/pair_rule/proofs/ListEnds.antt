@@ -3,8 +3,8 @@ use Rattle.std.proofs.Common.{◌≡◌, ℕ, zero, suc, ◌<◌, Bool, true, fa
 use Rattle.disk_dcdd.specs.Address.{same_address}
 use Rattle.disk_dcdd.specs.declared.address.SectorAddress.{SectorAddress}
 use Rattle.guest_lockstep.specs.Machine.{Machine}
-use Rattle.guest_trace.specs.declared.timed.Bare.{Bare}
-use Rattle.guest_trace.specs.declared.timed.Bare.TheVariants.{Written}
+use Rattle.guest_lockstep.specs.declared.timed.Bare.{Bare}
+use Rattle.guest_lockstep.specs.declared.timed.Bare.TheVariants.{Written}
 use Rattle.i8080_words.specs.declared.limits.TheConstants.{GREATEST_NUMBER}
 use Rattle.log_entry.specs.Entries.{count_of, last_count}
 use Rattle.log_entry.specs.declared.entry.Entry.{Entry}

@@ -10,7 +10,7 @@ use Rattle.guest_lockstep.specs.declared.reads.Reads.TheVariants.{Logged}
 use Rattle.log_entry.specs.Entries.{entries, entry_of, count_of, input_of, last_count}
 use Rattle.log_entry.specs.declared.entry.Entry.{Entry}
 use Rattle.log_entry.specs.declared.entry.Entry.TheVariants.{Mark}
-use Rattle.guest_trace.specs.Reach.{steps}
+use Rattle.guest_lockstep.specs.Reach.{steps}
 use Rattle.pair_protocol.proofs.Traces.Lists.{same_some}
 use Rattle.pair_protocol.proofs.Traces.Moves.{entries-append, count_entry}
 use Rattle.pair_protocol.proofs.Traces.Recorded.{recorded-runs, recorded-rest}

@@ -10,7 +10,7 @@ use Rattle.event_callbacks.specs.declared.operations.OpId.{OpId}
 use Rattle.i8080_words.specs.declared.refusal.Fault.TheVariants.{Spent, Idle}
 use Rattle.log_entry.specs.Entries.{entries, entry_of, marks}
 use Rattle.log_entry.specs.declared.entry.Entry.{Entry}
-use Rattle.guest_trace.specs.Reach.{steps, inputs}
+use Rattle.guest_lockstep.specs.Reach.{steps, inputs}
 use Rattle.pair_protocol.specs.Node.{Note, notes_after}
 use Rattle.pair_protocol.proofs.Traces.Moves.{inputs-append, entries-append, steps-append}
 use Rattle.pair_protocol.proofs.Traces.Recorded.{recorded-append}

@@ -24,7 +24,7 @@ use Rattle.pair_rule.specs.declared.payload.DiskAnswer.{DiskAnswer}
 use Rattle.pair_rule.specs.declared.payload.DiskAnswer.TheVariants as answer
 use Rattle.pair_rule.specs.Knowledge.{WhereSome, IsAsked, Stands, after_fill, put_by, arrives, byte_arrived, with_release}
 use Rattle.pair_rule.specs.Shown.{Visible, visible, terminals_of, arrival_of, notes_from, hand_of, Sent, Shows, ShowsVisible, Leads}
-use Rattle.guest_trace.specs.Reach.{operations}
+use Rattle.guest_lockstep.specs.Reach.{operations}
 use Rattle.pair_rule.proofs.Filled.{among_last, put_more}
 use Rattle.pair_rule.proofs.ShownNodes.{only_more, index_of, more_sent, among_either, no_read, map_more, serving, first_node}
 

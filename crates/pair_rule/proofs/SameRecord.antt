@@ -11,9 +11,9 @@ use Rattle.guest_lockstep.specs.Machine.{Machine, Move, Runs, refusal_of, sector
 use Rattle.guest_lockstep.specs.Running.{Quiet}
 use Rattle.guest_lockstep.specs.declared.input.Input.TheVariants as input
 use Rattle.i8080_words.specs.declared.refusal.Fault.TheVariants.{NotDue, SectorBusy, StaleRead, Unknown}
-use Rattle.guest_trace.specs.Reach.{inputs, operations, steps}
-use Rattle.guest_trace.specs.declared.timed.Timed.{Timed}
-use Rattle.guest_trace.specs.declared.timed.Bare.TheVariants.{Written}
+use Rattle.guest_lockstep.specs.Reach.{inputs, operations, steps}
+use Rattle.guest_lockstep.specs.declared.timed.Timed.{Timed}
+use Rattle.guest_lockstep.specs.declared.timed.Bare.TheVariants.{Written}
 use Rattle.shared_disk.specs.declared.disk.SectorRead.{SectorRead}
 use Rattle.pair_protocol.specs.Lawful.{Among, IsDone, IsUnwritten, IsWritten, Lawful}
 use Rattle.pair_protocol.specs.Refusals.{no_such, fault_if}

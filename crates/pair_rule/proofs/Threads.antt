@@ -8,7 +8,7 @@ use Rattle.guest_lockstep.specs.Machine.{Machine}
 use Rattle.guest_lockstep.specs.Outstanding.{ComesAndGoes}
 use Rattle.guest_lockstep.specs.Recorded.{Counts}
 use Rattle.guest_board.specs.declared.setup.Setup.{Setup}
-use Rattle.guest_trace.specs.Reach.{keys, output}
+use Rattle.guest_lockstep.specs.Reach.{keys, output}
 use Rattle.pair_protocol.specs.Change.{Reached}
 use Rattle.pair_protocol.specs.Copying.{Copying, IsCopying, no_copies}
 use Rattle.pair_protocol.specs.Faithful.{Faithful, IsAllBut, IsPrefix, MayHave}

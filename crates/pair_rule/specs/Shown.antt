@@ -7,7 +7,7 @@ use Rattle.guest_lockstep.specs.Recorded.{Recorded}
 use Rattle.guest_lockstep.specs.declared.reads.Reads.TheVariants.{Logged}
 use Rattle.log_entry.specs.Entries.{entries, entry_of, inputs_of, last_count, marks}
 use Rattle.log_entry.specs.declared.entry.Entry.{Entry}
-use Rattle.guest_trace.specs.Reach.{operations}
+use Rattle.guest_lockstep.specs.Reach.{operations}
 use Rattle.shared_disk.specs.declared.disk.SectorRead as disk
 use Rattle.pair_protocol.specs.Lawful.{Among, IsDone}
 use Rattle.pair_protocol.specs.Copying.{Copying}

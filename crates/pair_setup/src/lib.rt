@@ -1,6 +1,7 @@
 //! A pair of Altairs as a setup says: how it boots, and what queries find in it.
 #![tactic(auto)]
 
+mod beginning;
 mod pairs;
 mod queries;
 

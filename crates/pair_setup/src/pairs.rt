@@ -10,7 +10,7 @@ ghost use Rattle.script_language.specs.Scripts.{boot_write};
 ghost use Rattle.shared_disk.specs.Records.{AreOnDrives};
 ghost use Rattle.pair_setup.specs.Booting.{IsBooted};
 
-use altair_pair::boot_pair;
+use crate::beginning::{AltairsOn, boot_pair};
 use disk_dcdd::SectorWrite;
 use event_callbacks::{Callbacks, Completes};
 use i8080_words::R;
@@ -19,7 +19,7 @@ use shared_disk::{Disk, FailOnce, MemoryStore};
 use std::alloc::Global;
 
 /// A pair of Altairs over the program's disk.
-pub type Altairs<T, S, W> = altair_pair::Altairs<T, S, W, Disk>;
+pub type Altairs<T, S, W> = AltairsOn<T, S, W, Disk>;
 
 /// A pair of this setup, with its spare hosts. `Unknown` if a sector is on a drive that is not attached.
 #[tactic(auto, using(crate::proofs::Booting::booted_host))]

@@ -4,3 +4,6 @@ pub mod Books
 pub mod Days
 pub mod Playing
 pub mod Tracing
+pub mod Answering
+pub mod Hearing
+pub mod Lines

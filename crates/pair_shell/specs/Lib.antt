@@ -5,3 +5,7 @@ pub mod Days
 pub mod Looking
 pub mod Playing
 pub mod Sessions
+pub mod Answering
+pub mod Hearing
+pub mod Lines
+pub mod Running

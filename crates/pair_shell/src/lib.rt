@@ -9,7 +9,7 @@ mod notes;
 mod play;
 mod running;
 mod session;
+mod shell;
 mod showing;
 
-pub use session::Session;
-pub use shell_book::Outcome;
+pub use shell::run_shell;

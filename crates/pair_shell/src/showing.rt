@@ -5,7 +5,7 @@ ghost use Rattle.pair_check.specs.Disks.{over_records};
 use clone_state::Copies;
 use disk_dcdd::SectorAddress;
 use ft_world::World;
-use guest_trace::Timed;
+use guest_lockstep::Timed;
 use pair_check::{compare, sector_of};
 use shared_disk::Disk;
 use shell_book::Printed;

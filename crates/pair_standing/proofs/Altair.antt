@@ -20,7 +20,7 @@ use Rattle.guest_board.specs.declared.setup.Setup.{Setup}
 use Rattle.guest_lockstep.specs.Machine.{Move, Do, Take}
 use Rattle.guest_lockstep.specs.declared.input.Input.{Input}
 use Rattle.guest_lockstep.specs.declared.input.Input.TheVariants.{Rx}
-use Rattle.guest_trace.specs.Reach.{operations}
+use Rattle.guest_lockstep.specs.Reach.{operations}
 use Rattle.i8080_words.specs.declared.registers.Processor.{Processor}
 use Rattle.altair_laws.specs.Stands.{IsLast}
 use Rattle.altair_laws.proofs.Bytes.{Bytes, bytes_after}

@@ -2,7 +2,7 @@
 use Rattle.std.proofs.Common.{◌≡◌, ℕ, ◌<◌, ◌≤◌, [], length, take, sym, ap, subst, ◌∙◌, arith}
 use Rattle.guest_lockstep.specs.Machine.{booted_from}
 use Rattle.guest_lockstep.specs.declared.reads.Reads.TheVariants.{Logged}
-use Rattle.guest_trace.specs.Reach.{inputs, keys, output}
+use Rattle.guest_lockstep.specs.Reach.{inputs, keys, output}
 use Rattle.log_entry.specs.Entries.{entries, last_count}
 use Rattle.pair_protocol.proofs.Traces.Lists.{prefix-length}
 use Rattle.pair_resumed.specs.Settled.{SettledRunsAreShown, SettledRunsMayBegin, accepted_of, keys_of}

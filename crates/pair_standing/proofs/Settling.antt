@@ -13,7 +13,7 @@ use Rattle.guest_lockstep.specs.Machine.{Machine, Move, Do, Take, Runs, booted_f
 use Rattle.guest_lockstep.specs.Outstanding.{ComesAndGoes}
 use Rattle.guest_lockstep.specs.declared.reads.Reads.TheVariants.{Logged}
 use Rattle.guest_lockstep.proofs.Booted.{ComesAndGoes-booted}
-use Rattle.guest_trace.specs.Reach.{operations, output}
+use Rattle.guest_lockstep.specs.Reach.{operations, output}
 use Rattle.log_entry.specs.Entries.{entries}
 use Rattle.log_entry.specs.declared.entry.Entry.{Entry}
 use Rattle.pair_protocol.specs.Lawful.{Among, Lawful, top}

@@ -8,7 +8,7 @@ use Rattle.guest_board.specs.Guest.{altair}
 use Rattle.guest_board.specs.declared.setup.Setup.{Setup}
 use Rattle.guest_lockstep.specs.Machine.{Machine, Move}
 use Rattle.guest_lockstep.specs.declared.reads.Reads.TheVariants.{Logged}
-use Rattle.guest_trace.specs.Reach.{inputs, keys, operations, output}
+use Rattle.guest_lockstep.specs.Reach.{inputs, keys, operations, output}
 use Rattle.log_entry.specs.Entries.{entries}
 use Rattle.log_entry.specs.declared.entry.Entry.{Entry}
 use Rattle.pair_protocol.specs.Lawful.{Reaches}

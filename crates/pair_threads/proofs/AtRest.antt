@@ -13,7 +13,7 @@ use Rattle.guest_lockstep.specs.Machine.{Machine, Move, Do, Take, Runs}
 use Rattle.guest_lockstep.specs.Outstanding.{ComesAndGoes, completed_by}
 use Rattle.guest_lockstep.specs.declared.input.Input.{Input}
 use Rattle.guest_lockstep.specs.declared.input.Input.TheVariants as input
-use Rattle.guest_trace.specs.Reach.{acceptances, accepted_at, bare, inputs, output}
+use Rattle.guest_lockstep.specs.Reach.{acceptances, accepted_at, bare, inputs, output}
 use Rattle.pair_protocol.specs.Lawful.{Lawful}
 use Rattle.pair_protocol.proofs.Traces.Lists.{bool_cases}
 use Rattle.pair_protocol.proofs.Traces.Moves.{acceptances_of-append, output-append, runs-append}

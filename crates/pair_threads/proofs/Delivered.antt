@@ -10,7 +10,7 @@ use Rattle.event_callbacks.specs.declared.operations.OpId.TheVariants as id
 use Rattle.event_callbacks.specs.declared.operations.Operation.{Operation}
 use Rattle.event_callbacks.specs.declared.operations.Operation.TheVariants.{Byte, Write}
 use Rattle.guest_lockstep.specs.Machine.{Machine, Move, Runs}
-use Rattle.guest_trace.specs.Reach.{acceptances, image, inputs, operations, output}
+use Rattle.guest_lockstep.specs.Reach.{acceptances, image, inputs, operations, output}
 use Rattle.pair_protocol.specs.Faithful.{IsAllBut, IsImage, IsOutstanding, IsPrefix, MayHave}
 use Rattle.pair_protocol.specs.Lawful.{Among, IsDone, IsUnwritten, IsWritten, Lawful}
 use Rattle.pair_protocol.specs.World.{Arrival, SectorRecord, accepted_after, sector_record}

@@ -16,9 +16,9 @@ use Rattle.guest_lockstep.specs.Machine.{Machine, Move, Do, Take, Runs}
 use Rattle.guest_lockstep.specs.Outstanding.{ComesAndGoes}
 use Rattle.guest_lockstep.specs.Recorded.{Counts, Recorded}
 use Rattle.guest_lockstep.specs.declared.reads.Reads.TheVariants.{Logged}
-use Rattle.guest_trace.specs.Reach.{Owns, acceptances, inputs, keys, operations, output, steps}
-use Rattle.guest_trace.specs.declared.timed.Bare.TheVariants.{Written}
-use Rattle.guest_trace.specs.declared.timed.Timed.{Timed}
+use Rattle.guest_lockstep.specs.Reach.{Owns, acceptances, inputs, keys, operations, output, steps}
+use Rattle.guest_lockstep.specs.declared.timed.Bare.TheVariants.{Written}
+use Rattle.guest_lockstep.specs.declared.timed.Timed.{Timed}
 use Rattle.i8080_words.specs.declared.refusal.Fault.TheVariants.{Idle}
 use Rattle.log_entry.specs.Entries.{entries, inputs_of, last_count}
 use Rattle.log_entry.specs.declared.entry.Entry.{Entry}

@@ -12,7 +12,7 @@ use Rattle.guest_lockstep.specs.Recorded.{Counts, Recorded}
 use Rattle.guest_lockstep.specs.declared.input.Input.{Input}
 use Rattle.guest_lockstep.specs.declared.input.Input.TheVariants as input
 use Rattle.guest_lockstep.specs.declared.reads.Reads.TheVariants.{Logged}
-use Rattle.guest_trace.specs.Reach.{acceptances, keys}
+use Rattle.guest_lockstep.specs.Reach.{acceptances, keys}
 use Rattle.log_entry.specs.Entries.{count_of, entries, entry_of, inputs_of, is_read, marks}
 use Rattle.log_entry.specs.declared.entry.Entry.{Entry}
 use Rattle.log_entry.specs.declared.entry.Entry.TheVariants.{Mark}

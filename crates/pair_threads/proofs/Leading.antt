@@ -21,7 +21,7 @@ use Rattle.i8080_words.specs.declared.refusal.Fault.{Fault}
 use Rattle.i8080_words.specs.declared.refusal.Fault.TheVariants.{Idle, OutOfMemory}
 use Rattle.guest_lockstep.specs.declared.input.Input.{Input}
 use Rattle.guest_lockstep.specs.declared.input.Input.TheVariants as input
-use Rattle.guest_trace.specs.Reach.{operations, steps}
+use Rattle.guest_lockstep.specs.Reach.{operations, steps}
 use Rattle.log_entry.specs.Entries.{entries, entry_of}
 use Rattle.log_entry.specs.declared.entry.Entry.{Entry}
 use Rattle.log_entry.specs.declared.entry.Entry.TheVariants.{Mark}

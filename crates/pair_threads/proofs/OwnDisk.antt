@@ -10,9 +10,9 @@ use Rattle.guest_lockstep.specs.Machine.{Machine, Move, Do, Take, Runs, refusal_
 use Rattle.guest_lockstep.specs.Recorded.{Recorded}
 use Rattle.guest_lockstep.specs.declared.input.Input.{Input}
 use Rattle.guest_lockstep.specs.declared.input.Input.TheVariants as input
-use Rattle.guest_trace.specs.Reach.{Own, Owns, bare, image, inputs, operations}
-use Rattle.guest_trace.specs.declared.timed.Bare.TheVariants.{Written}
-use Rattle.guest_trace.specs.declared.timed.Timed.{Timed}
+use Rattle.guest_lockstep.specs.Reach.{Own, Owns, bare, image, inputs, operations}
+use Rattle.guest_lockstep.specs.declared.timed.Bare.TheVariants.{Written}
+use Rattle.guest_lockstep.specs.declared.timed.Timed.{Timed}
 use Rattle.pair_protocol.specs.Faithful.{IsPrefix}
 use Rattle.pair_protocol.specs.Lawful.{Among, IsUnwritten, IsWritten, Lawful}
 use Rattle.pair_protocol.proofs.Keeps.PrimaryMoves.{sector-passed}

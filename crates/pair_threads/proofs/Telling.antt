@@ -5,8 +5,8 @@ use Rattle.guest_lockstep.specs.declared.input.Input.{Input}
 use Rattle.guest_lockstep.specs.declared.input.Input.TheVariants as input
 use Rattle.guest_lockstep.specs.Machine.{Machine}
 use Rattle.guest_lockstep.specs.declared.reads.Reads.TheVariants.{Logged}
-use Rattle.guest_trace.specs.Reach.{accepted_at, acceptances, bare, key_at, keys}
-use Rattle.guest_trace.specs.declared.timed.Bare.TheVariants.{Rx, Sent}
+use Rattle.guest_lockstep.specs.Reach.{accepted_at, acceptances, bare, key_at, keys}
+use Rattle.guest_lockstep.specs.declared.timed.Bare.TheVariants.{Rx, Sent}
 use Rattle.log_entry.specs.Entries.{entry_of, inputs_of}
 use Rattle.log_entry.specs.declared.entry.Entry.{Entry}
 use Rattle.log_entry.specs.declared.entry.Entry.TheVariants.{Mark}

@@ -6,7 +6,7 @@ use Rattle.event_callbacks.specs.declared.operations.OpId.{OpId}
 use Rattle.guest_lockstep.specs.Lockstep.{step_refusal}
 use Rattle.guest_lockstep.specs.Machine.{Machine, Move}
 use Rattle.guest_lockstep.specs.declared.reads.Reads.TheVariants.{Logged}
-use Rattle.guest_trace.specs.Reach.{Reach, image, keys, output}
+use Rattle.guest_lockstep.specs.Reach.{Reach, image, keys, output}
 use Rattle.i8080_words.specs.declared.refusal.Fault.{Fault}
 use Rattle.i8080_words.specs.declared.refusal.Fault.TheVariants.{Idle, OutOfMemory, Stalled}
 use Rattle.log_entry.specs.Entries.{entries, inputs_of, last_count}

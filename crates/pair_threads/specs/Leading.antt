@@ -8,7 +8,7 @@ use Rattle.guest_lockstep.specs.Recorded.{Recorded}
 use Rattle.guest_lockstep.specs.declared.input.Input.{Input}
 use Rattle.guest_lockstep.specs.declared.input.Input.TheVariants as input
 use Rattle.guest_lockstep.specs.declared.reads.Reads.TheVariants.{Logged}
-use Rattle.guest_trace.specs.Reach.{accepted_at, acceptances, bare, key_at, keys, operations}
+use Rattle.guest_lockstep.specs.Reach.{accepted_at, acceptances, bare, key_at, keys, operations}
 use Rattle.i8080_words.specs.declared.refusal.Fault.TheVariants.{Idle}
 use Rattle.log_entry.specs.Entries.{entries, inputs_of}
 use Rattle.log_entry.specs.declared.entry.Entry.{Entry}

@@ -6,7 +6,7 @@ use Rattle.event_callbacks.specs.declared.operations.Operation.TheVariants.{Writ
 use Rattle.guest_lockstep.specs.Machine.{Machine, Move}
 use Rattle.guest_lockstep.specs.Recorded.{Recorded}
 use Rattle.guest_lockstep.specs.declared.reads.Reads.TheVariants.{Logged}
-use Rattle.guest_trace.specs.Reach.{Owns, acceptances, inputs, keys, operations, output}
+use Rattle.guest_lockstep.specs.Reach.{Owns, acceptances, inputs, keys, operations, output}
 use Rattle.log_entry.specs.Entries.{entries}
 use Rattle.log_entry.specs.declared.entry.Entry.{Entry}
 use Rattle.pair_protocol.specs.Faithful.{IsPrefix}

@@ -2,6 +2,8 @@
 #![tactic(auto)]
 
 #[cfg(test)]
+mod answers;
+#[cfg(test)]
 mod boards;
 #[cfg(test)]
 mod channels;
@@ -16,10 +18,16 @@ mod entries;
 #[cfg(test)]
 mod follows;
 #[cfg(test)]
+mod lines;
+#[cfg(test)]
 mod logs;
+#[cfg(test)]
+mod readers;
 #[cfg(test)]
 mod records;
 #[cfg(test)]
 mod replays;
 #[cfg(test)]
 mod screens;
+#[cfg(test)]
+mod scripts;

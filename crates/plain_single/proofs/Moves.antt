@@ -10,7 +10,7 @@ use Rattle.event_callbacks.specs.declared.operations.Operation.TheVariants.{Byte
 use Rattle.guest_lockstep.specs.Machine.{Machine, Move, Do, Take, Runs}
 use Rattle.guest_lockstep.specs.declared.input.Input.{Input}
 use Rattle.guest_lockstep.specs.declared.input.Input.TheVariants as input
-use Rattle.guest_trace.specs.Reach.{timed, inputs, steps, output, writes, byte_to, write_of, image_from, bytes_after, Owns}
+use Rattle.guest_lockstep.specs.Reach.{timed, inputs, steps, output, writes, byte_to, write_of, image_from, bytes_after, Owns}
 
 -- ---- where the moves lead
 

@@ -23,12 +23,12 @@ use Rattle.guest_lockstep.specs.declared.input.Input.TheVariants as input
 use Rattle.guest_board.specs.declared.setup.Setup.{Setup}
 use Rattle.plain_single.specs.SingleState.{SingleState, guest_with, input_refusal, may_take_key, may_accept}
 use Rattle.plain_single.specs.Behind.{devices_of}
-use Rattle.guest_trace.specs.Reach.{bare}
+use Rattle.guest_lockstep.specs.Reach.{bare}
 use Rattle.plain_single.specs.Reaching.{StandsAt, IsRefused, MeetsRefused, Fails, FailsBefore, refusal_at}
 use Rattle.plain_single.specs.Serial.{due_unless}
-use Rattle.guest_trace.specs.declared.timed.Bare.{Bare}
-use Rattle.guest_trace.specs.declared.timed.Bare.TheVariants.{Rx, Sent, Sector, Written}
-use Rattle.guest_trace.specs.declared.timed.Timed.{Timed}
+use Rattle.guest_lockstep.specs.declared.timed.Bare.{Bare}
+use Rattle.guest_lockstep.specs.declared.timed.Bare.TheVariants.{Rx, Sent, Sector, Written}
+use Rattle.guest_lockstep.specs.declared.timed.Timed.{Timed}
 use Rattle.plain_single.proofs.Taking.{same_keys, same_accept}
 
 -- ---- an input that is refused

@@ -15,9 +15,9 @@ use Rattle.guest_lockstep.specs.Machine.{Machine, Do}
 use Rattle.guest_board.specs.declared.setup.Setup.{Setup}
 use Rattle.plain_single.specs.SingleState.{SingleState, guest_with, guest_of, step_refusal, RefusesStep, after_step}
 use Rattle.plain_single.specs.Behind.{with_byte, with_write}
-use Rattle.guest_trace.specs.Reach.{image_from}
+use Rattle.guest_lockstep.specs.Reach.{image_from}
 use Rattle.plain_single.specs.Reaching.{StandsAt, StopsBy, is_spent_at, FailsBefore}
-use Rattle.guest_trace.specs.declared.timed.Timed.{Timed}
+use Rattle.guest_lockstep.specs.declared.timed.Timed.{Timed}
 use Rattle.plain_single.proofs.Moves.{runs_on, owns_on, inputs_do, steps_do, sent, written, output_do, writes_do, image_on}
 use Rattle.plain_single.proofs.Stepping.{next_is, step_is}
 

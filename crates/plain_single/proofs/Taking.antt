@@ -20,12 +20,12 @@ use Rattle.guest_board.specs.declared.setup.Setup.{Setup}
 use Rattle.plain_single.specs.SingleState.{SingleState, StandsFor, guest_with, input_refusal, may_take_key, may_accept, address_under, after_taking, disk_after, ReadsSector}
 use Rattle.plain_single.specs.Behind.{devices_of}
 use Rattle.plain_single.specs.Image.{IsSector, sector_at}
-use Rattle.guest_trace.specs.Reach.{Own, bare, timed, steps, image, image_from, writes}
+use Rattle.guest_lockstep.specs.Reach.{Own, bare, timed, steps, image, image_from, writes}
 use Rattle.plain_single.specs.Reaching.{StandsAt}
 use Rattle.plain_single.specs.Serial.{due_unless}
-use Rattle.guest_trace.specs.declared.timed.Bare.{Bare}
-use Rattle.guest_trace.specs.declared.timed.Bare.TheVariants.{Rx, Sent, Sector, Written}
-use Rattle.guest_trace.specs.declared.timed.Timed.{Timed}
+use Rattle.guest_lockstep.specs.declared.timed.Bare.{Bare}
+use Rattle.guest_lockstep.specs.declared.timed.Bare.TheVariants.{Rx, Sent, Sector, Written}
+use Rattle.guest_lockstep.specs.declared.timed.Timed.{Timed}
 use Rattle.plain_single.proofs.Moves.{runs_on, owns_on, inputs_take, steps_take, output_take, writes_take, image_on}
 
 -- ---- the same questions

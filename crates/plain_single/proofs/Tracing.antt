@@ -8,9 +8,9 @@ use Rattle.guest_parts.specs.Guest.{Guest}
 use Rattle.guest_lockstep.specs.Machine.{Machine, Move, Do, Take, Runs}
 use Rattle.guest_lockstep.specs.declared.input.Input.{Input}
 use Rattle.guest_lockstep.specs.declared.input.Input.TheVariants as input
-use Rattle.guest_trace.specs.Reach.{Own, Owns, Reach, bare, image, inputs, steps, timed}
+use Rattle.guest_lockstep.specs.Reach.{Own, Owns, Reach, bare, image, inputs, steps, timed}
 use Rattle.plain_single.specs.Reaching.{Fails, LeavesInput, MeetsRefused, StopsShort, next_count}
-use Rattle.guest_trace.specs.declared.timed.Timed.{Timed}
+use Rattle.guest_lockstep.specs.declared.timed.Timed.{Timed}
 
 -- ---- one step, one input
 

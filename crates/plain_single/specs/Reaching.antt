@@ -9,10 +9,10 @@ use Rattle.guest_lockstep.specs.Machine.{Machine, Move}
 use Rattle.guest_lockstep.specs.declared.input.Input.{Input}
 use Rattle.plain_single.specs.SingleState.{SingleState, StandsFor}
 use Rattle.plain_single.specs.Image.{IsSector, sector_at}
-use Rattle.guest_trace.specs.Reach.{Reach, bare, output, writes, image}
-use Rattle.guest_trace.specs.declared.timed.Bare.{Bare}
-use Rattle.guest_trace.specs.declared.timed.Bare.TheVariants as input
-use Rattle.guest_trace.specs.declared.timed.Timed.{Timed}
+use Rattle.guest_lockstep.specs.Reach.{Reach, bare, output, writes, image}
+use Rattle.guest_lockstep.specs.declared.timed.Bare.{Bare}
+use Rattle.guest_lockstep.specs.declared.timed.Bare.TheVariants as input
+use Rattle.guest_lockstep.specs.declared.timed.Timed.{Timed}
 
 -- the counts of a list of inputs never fall, from this count on
 abbrev pub NeverFall : ℕ → List Timed → Type 0

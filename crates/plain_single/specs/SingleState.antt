@@ -14,12 +14,12 @@ use Rattle.guest_parts.specs.Guest.{Guest}
 use Rattle.guest_board.specs.Guest.{step_of, wired_after, is_spent, is_idle}
 use Rattle.plain_single.specs.Behind.{Behind, behind_of, devices_of, after_wired}
 use Rattle.plain_single.specs.Image.{IsSector, sector_at}
-use Rattle.guest_trace.specs.Reach.{bytes_after}
+use Rattle.guest_lockstep.specs.Reach.{bytes_after}
 use Rattle.plain_single.specs.Serial as serial_line
 use Rattle.plain_single.specs.Serial.{due_unless}
 use Rattle.plain_single.specs.declared.machine.Machine.{Machine}
-use Rattle.guest_trace.specs.declared.timed.Bare.{Bare}
-use Rattle.guest_trace.specs.declared.timed.Bare.TheVariants.{Rx, Sent, Sector, Written}
+use Rattle.guest_lockstep.specs.declared.timed.Bare.{Bare}
+use Rattle.guest_lockstep.specs.declared.timed.Bare.TheVariants.{Rx, Sent, Sector, Written}
 
 -- the processor, what it is wired to, the disk by its places, the count and the interrupt levels
 pub record SingleState : Type 0 where

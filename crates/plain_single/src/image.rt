@@ -7,7 +7,7 @@ ghost use Rattle.disk_dcdd.specs.declared.address.TheConstants.{DRIVE_SECTORS};
 ghost use Rattle.disk_dcdd.specs.declared.controller.TheConstants.{DRIVES};
 ghost use Rattle.i8080_words.specs.declared.refusal.Fault.TheVariants.{OutOfMemory};
 ghost use Rattle.plain_single.specs.Image.{IsSector, zero_sector, sector_at, bytes_with, boot_sectors};
-ghost use Rattle.guest_trace.specs.Reach.{bytes_after};
+ghost use Rattle.guest_lockstep.specs.Reach.{bytes_after};
 
 use disk_dcdd::{SECTOR_BYTES, SectorAddress, SectorWrite, sectors_stand_apart};
 use i8080_words::R;

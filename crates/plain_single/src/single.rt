@@ -8,13 +8,13 @@ ghost use Rattle.i8080_words.specs.declared.refusal.Fault.TheVariants.{OutOfMemo
 ghost use Rattle.plain_single.specs.SingleState.{output_of};
 ghost use Rattle.plain_single.specs.Executor.{byte_at};
 ghost use Rattle.plain_single.specs.Image.{boot_sectors, sector_at};
-ghost use Rattle.guest_trace.specs.Reach.{Reach};
+ghost use Rattle.guest_lockstep.specs.Reach.{Reach};
 ghost use Rattle.plain_single.specs.Reaching.{NeverFall, IsAtBoot, RunsTo, Fails};
 
 use crate::machine::Machine;
 use disk_dcdd::{SECTOR_BYTES, SectorAddress, SectorWrite};
 use guest_board::Setup;
-use guest_trace::Timed;
+use guest_lockstep::Timed;
 use i8080_words::{Processor, R};
 use std::alloc::Global;
 use std::marker::Model;

@@ -10,7 +10,7 @@ use Rattle.log_buffer.specs.Log.{Log, pushed}
 use Rattle.log_entry.specs.Entries.{entries}
 use Rattle.log_entry.specs.declared.entry.Entry.{Entry}
 use Rattle.log_entry.specs.declared.entry.Entry.TheVariants.{Mark}
-use Rattle.guest_trace.specs.Reach.{inputs, steps}
+use Rattle.guest_lockstep.specs.Reach.{inputs, steps}
 use Rattle.recorder.specs.Laws.{RecordsSteps}
 use Rattle.guest_lockstep.proofs.QuietSteps.{quiet_count}
 use Rattle.guest_lockstep.specs.Running.{Quiet, Begin, More, RunsOn, AllTurns, Gives, IsRefused}

@@ -9,7 +9,7 @@ use Rattle.guest_lockstep.specs.declared.reads.Reads.{Reads}
 use Rattle.log_buffer.specs.Log.{Log}
 use Rattle.log_entry.specs.Entries.{entries, marks, entry_of}
 use Rattle.log_entry.specs.declared.entry.Entry.{Entry}
-use Rattle.guest_trace.specs.Reach.{steps}
+use Rattle.guest_lockstep.specs.Reach.{steps}
 use Rattle.recorder.specs.Laws.{Records}
 
 pub is_run : {S : Type 0} (M : Machine S) (s t : S) (moves : List Move) → Recorded M s moves t → Runs M s moves t

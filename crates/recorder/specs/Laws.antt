@@ -7,7 +7,7 @@ use Rattle.guest_lockstep.specs.declared.reads.Reads.{Reads}
 use Rattle.guest_lockstep.specs.declared.running.Stopped.{Stopped}
 use Rattle.log_buffer.specs.Log.{Log}
 use Rattle.log_entry.specs.Entries.{entries}
-use Rattle.guest_trace.specs.Reach.{inputs, steps}
+use Rattle.guest_lockstep.specs.Reach.{inputs, steps}
 use Rattle.recorder.specs.Recording.{Advances, Offers}
 
 -- a recorded run, and a log to which its entries were pushed in their order, and nothing else

@@ -8,8 +8,8 @@ use Rattle.guest_lockstep.specs.declared.replay_end.ReplayEnd.{ReplayEnd}
 use Rattle.guest_lockstep.specs.declared.replay_end.ReplayEnd.TheVariants as ended
 use Rattle.guest_lockstep.specs.declared.running.StopReason.{StopReason}
 use Rattle.guest_lockstep.specs.declared.running.StopReason.TheVariants as stopped
-use Rattle.guest_trace.specs.declared.timed.Bare.{Bare}
-use Rattle.guest_trace.specs.declared.timed.Bare.TheVariants as bare
+use Rattle.guest_lockstep.specs.declared.timed.Bare.{Bare}
+use Rattle.guest_lockstep.specs.declared.timed.Bare.TheVariants as bare
 use Rattle.i8080_words.specs.declared.refusal.Fault.{Fault}
 use Rattle.i8080_words.specs.declared.refusal.Fault.TheVariants as refusal
 use Rattle.pair_events.specs.Printed.{byte_text, ◌␣◌}

@@ -5,7 +5,7 @@ ghost use Rattle.pair_events.specs.Printed.{byte_text, ◌␣◌};
 ghost use Rattle.sequence_diagram.specs.Words.{cargo_text, carried_text, counted_text, entry_text, held_text, input_text, key_text, letter_text, named_byte, part_text, sector_text};
 
 use crate::moment::{Cargo, Moment};
-use guest_trace::Bare;
+use guest_lockstep::Bare;
 use pair_events::Event;
 use std::fmt;
 

@@ -4,7 +4,7 @@ ghost use Rattle.sequence_diagram.specs.Messages.{brought_by, delivered_by, sent
 ghost use Rattle.sequence_diagram.specs.Places.{look_role, role_told};
 
 use disk_dcdd::SectorAddress;
-use guest_trace::Bare;
+use guest_lockstep::Bare;
 use i8080_words::{Fault, R};
 use pair_events::{Event, Reply, Role};
 

@@ -1,7 +1,7 @@
 -- What a book says of a pair: how far its ports have come, its log, and its writes.
 use Rattle.std.specs.Prelude.{◌≡◌, ℕ, zero, suc, ◌+◌, ◌-◌, ◌^◌, ◌==◌, min, Bool, false, not, List, [], filter, replicate, slice_get, slice_set, unwrap_or, vec_len}
-use Rattle.guest_trace.specs.declared.timed.Bare.{Bare}
-use Rattle.guest_trace.specs.declared.timed.Bare.TheVariants.{Rx, Sent, Sector, Written}
+use Rattle.guest_lockstep.specs.declared.timed.Bare.{Bare}
+use Rattle.guest_lockstep.specs.declared.timed.Bare.TheVariants.{Rx, Sent, Sector, Written}
 use Rattle.shell_book.specs.declared.book.Book.{Book}
 use Rattle.shell_book.specs.declared.book.PortNotes.{PortNotes}
 use Rattle.shell_book.specs.declared.book.Waiting.{Waiting}

@@ -4,7 +4,7 @@ ghost use Rattle.shell_book.specs.Noting.{brought};
 ghost use Rattle.shell_book.specs.Notes.{IsBlank, notes_of, progress, put_at, restarted_at, settled, waiting_in, without};
 
 use event_callbacks::PORTS;
-use guest_trace::{Bare, Timed};
+use guest_lockstep::{Bare, Timed};
 use std::alloc::{AllocError, Global};
 
 /// What a message brings.

@@ -6,7 +6,7 @@ ghost use Rattle.plain_single.specs.SingleState.{output_of};
 use super::case::Case;
 use super::difference::Difference;
 use disk_dcdd::{SECTORS, SectorAddress, TRACKS};
-use guest_trace::Timed;
+use guest_lockstep::Timed;
 use i8080_words::{Fault, R};
 use log_entry::Entry;
 use pair_check::{WINDOW, is_all_but, may_have, never_fall};

@@ -3,7 +3,7 @@ use Rattle.std.proofs.Common.{[], ◌++◌, ◌+◌, ◌∙◌, ◌∷◌, ◌�
 use Rattle.std.specs.Prelude.{◌==◌, slice_get}
 use Rattle.pair_protocol.proofs.Words.{Alone, Among, Do, Input, IsPrefix, IsUnwritten, IsWritten, Lawful, Machine, MayTake, Move, Node, Operation, Own, Primary, Runs, SectorAddress, SectorRead, SectorWrite, Take, Timed, World, Write, WriteDone, acceptances, accepted, bare, entries, entry_of, image, inputs, keys, operations, primary_steps, primary_takes, refusal_of, sector_refusal, steps, terminal, timed}
 use Rattle.guest_lockstep.specs.declared.input.Input.TheVariants as input
-use Rattle.guest_trace.specs.declared.timed.Bare.TheVariants.{Rx, Sent, Written}
+use Rattle.guest_lockstep.specs.declared.timed.Bare.TheVariants.{Rx, Sent, Written}
 use Rattle.i8080_words.specs.declared.refusal.Fault.TheVariants.{NotDue, SectorBusy, StaleRead}
 use Rattle.pair_protocol.proofs.Invariant.Frames.{with_own}
 use Rattle.pair_protocol.proofs.Invariant.{ArePut, AtStart, CameIn, HasMade, HasPut, IsPrimary, IsRecord, Line, OfWrite}

@@ -3,7 +3,7 @@
 use Rattle.std.proofs.Common.{[], ◌++◌, ◌∙◌, ◌∷◌, ◌≡◌, ◌⊎◌, List, ap, append-nil, append_assoc, arith, inl, inr, length, refl, subst, sym, ℕ}
 use Rattle.guest_lockstep.specs.declared.input.Input.TheVariants as input
 use Rattle.guest_lockstep.specs.declared.reads.Reads.TheVariants.{Logged, Shared}
-use Rattle.guest_trace.specs.declared.timed.Bare.TheVariants as kind
+use Rattle.guest_lockstep.specs.declared.timed.Bare.TheVariants as kind
 use Rattle.log_entry.specs.declared.entry.Entry.TheVariants as entry
 use Rattle.pair_protocol.proofs.Words.{Among, Copying, Do, Entry, Input, IsPrefix, IsUnwritten, IsWritten, Lawful, Machine, Move, Node, Own, Owns, Reads, Runs, SectorAddress, SectorWrite, Take, World, Write, bare, cut, entry_of, image, operations}
 use Rattle.pair_protocol.proofs.Invariant.Acting.{ActingBackup, line_at}

@@ -4,8 +4,8 @@ use Rattle.std.proofs.lemmas.List.{append_cancel_left, take-append-le, take_at}
 use Rattle.std.proofs.lemmas.Option.{slice_get_within}
 use Rattle.std.specs.Prelude.{slice_get}
 use Rattle.pair_protocol.proofs.Words.{Do, Entry, Input, bare, bare_of, IsPrefix, Machine, Mark, Move, Node, Operation, Recorded, Take, Timed, count_of, cut, entries, entry_of, holds, input_of, inputs, inputs_of, passes_input, passes_mark, plainly_steps, steps, Reads}
-use Rattle.guest_trace.specs.declared.timed.Bare.{Bare}
-use Rattle.guest_trace.specs.declared.timed.Bare.TheVariants as kind
+use Rattle.guest_lockstep.specs.declared.timed.Bare.{Bare}
+use Rattle.guest_lockstep.specs.declared.timed.Bare.TheVariants as kind
 use Rattle.log_entry.specs.declared.entry.Entry.TheVariants as entry
 use Rattle.pair_protocol.proofs.Invariant.Frames.{with_backup}
 use Rattle.pair_protocol.proofs.Invariant.{AtPlace, HasReplayed, Line}

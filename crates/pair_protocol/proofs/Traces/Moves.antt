@@ -3,7 +3,7 @@ use Rattle.std.proofs.Common.{[], ◌++◌, ◌+◌, ◌∙◌, ◌∷◌, ◌�
 use Rattle.pair_protocol.proofs.Words.{Do, Entry, Input, IsPrefix, Lawful, Machine, Mark, Move, Operation, Owns, Runs, SectorWrite, Take, Timed, acceptances, accepted_at, bare, bare_of, byte_to, count_of, entries, entry_of, input_of, inputs, inputs_of, key_at, keys, operations, output, steps, timed, timed_in, timed_of, Reads}
 use Rattle.guest_lockstep.specs.declared.input.Input.TheVariants as input
 use Rattle.guest_lockstep.specs.declared.reads.Reads.TheVariants.{Logged, Shared}
-use Rattle.guest_trace.specs.declared.timed.Bare.TheVariants.{Written}
+use Rattle.guest_lockstep.specs.declared.timed.Bare.TheVariants.{Written}
 use Rattle.pair_protocol.proofs.Invariant.{ArePut}
 use Rattle.pair_protocol.proofs.Traces.Lists.{among-prefix, map-append, same_some}
 

@@ -6,12 +6,12 @@ ghost use Rattle.plain_single.specs.Serial.{due_unless};
 ghost use Rattle.plain_single.specs.SingleState.{state_of, input_refusal, after_input, may_take_key, may_accept, after_key, after_accept, after_taking, disk_after, ReadsSector};
 ghost use Rattle.plain_single.specs.Behind.{behind_of};
 ghost use Rattle.plain_single.specs.Image.{IsSector, sector_at};
-ghost use Rattle.guest_trace.specs.Reach.{bytes_after};
+ghost use Rattle.guest_lockstep.specs.Reach.{bytes_after};
 
 use super::Machine;
 use crate::wires::Wires;
 use disk_dcdd::SectorAddress;
-use guest_trace::Bare;
+use guest_lockstep::Bare;
 use i8080_words::{Fault, R};
 
 impl Machine {

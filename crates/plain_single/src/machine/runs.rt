@@ -9,14 +9,14 @@ ghost use Rattle.plain_single.specs.SingleState.{state_of};
 ghost use Rattle.plain_single.specs.Behind.{behind_of, behind_at_boot};
 ghost use Rattle.plain_single.specs.Image.{IsSector, sector_at, boot_sectors};
 ghost use Rattle.plain_single.specs.Reaching.{NeverFall, StandsAt, Fails, FailsBefore};
-ghost use Rattle.guest_trace.specs.declared.timed.Timed.{Timed};
+ghost use Rattle.guest_lockstep.specs.declared.timed.Timed.{Timed};
 
 use super::Machine;
 use crate::image::DiskImage;
 use crate::wires::Wires;
 use disk_dcdd::SectorWrite;
 use guest_board::Setup;
-use guest_trace::Timed;
+use guest_lockstep::Timed;
 use i8080_words::{Fault, Interrupts, Processor, R, Regs};
 use std::alloc::Global;
 

@@ -1,7 +1,7 @@
 -- None of the writes left out has the number.
 use Rattle.std.proofs.Common.{◌≡◌, ℕ, List, length, reverse}
 use Rattle.disk_dcdd.specs.declared.address.SectorAddress.{SectorAddress}
-use Rattle.guest_trace.specs.Reach.{bytes_after}
+use Rattle.guest_lockstep.specs.Reach.{bytes_after}
 use Rattle.plain_single.proofs.image.latest.Given as goal
 
 abbrev pub invariant-loop-write : goal.invariant-loop-write

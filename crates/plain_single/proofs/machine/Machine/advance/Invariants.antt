@@ -5,7 +5,7 @@ use Rattle.guest_board.specs.Guest.{altair}
 use Rattle.guest_board.specs.declared.setup.Setup.{Setup}
 use Rattle.plain_single.specs.SingleState.{state_of}
 use Rattle.plain_single.specs.Reaching.{StandsAt}
-use Rattle.guest_trace.specs.declared.timed.Timed.{Timed}
+use Rattle.guest_lockstep.specs.declared.timed.Timed.{Timed}
 use Rattle.plain_single.proofs.machine.Machine.advance.Given as goal
 
 abbrev pub invariant-loop : goal.invariant-loop

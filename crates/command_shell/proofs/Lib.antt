@@ -1,3 +1,0 @@
-pub mod Answering
-pub mod Lines
-pub mod Sessions

@@ -1,4 +1,0 @@
-pub mod Answering
-pub mod Lines
-pub mod Running
-pub mod Sessions

@@ -1,0 +1,9 @@
+-- What is printed is of the images and the script that were read.
+use Rattle.pair_main.proofs.Runs.{is_run}
+use Rattle.pair_main.proofs.program.run_order.Goals as goal
+
+pub returns : goal.returns
+returns g c =
+    is_run g.R.Read.remaining g.W.Write.contents c.args.reader.now c.read_input.new.reader c.args.writer.now
+    c.run_script.new.writer c.args.order c.args.images c.deref.result.now c.in_ok-input.input c.run_script.result
+    c.deref.ensures.value c.in_ok-input.ensures c.run_script.ensures

@@ -1,0 +1,243 @@
+-- A running session answers line after line, whatever world its pair shows.
+use Rattle.std.proofs.Common.{◌≡◌, ℕ, ◌++◌, ◌∷◌, Bool, true, Option, Some, None, List, [], refl, subst, sym, append-nil}
+use Rattle.std.specs.Prelude.{map}
+use Rattle.std.specs.List.{concat}
+use Rattle.std.specs.Io.KnownBytes.{Appends}
+use Rattle.std.proofs.lemmas.List.{map-append}
+use Rattle.std.proofs.lemmas.List.Folds.{concat-append}
+use Rattle.ft_world.specs.Applies.{Nothing, Shows}
+use Rattle.ft_world.specs.Running.{Running}
+use Rattle.ft_world.specs.Standing.{Course}
+use Rattle.guest_board.specs.Inputs.{some_altair}
+use Rattle.guest_parts.specs.Guest.{Guest}
+use Rattle.pair_check.proofs.Disks.{records_show, shows_records}
+use Rattle.pair_shell.specs.Looking.{IsSeen, IsSeenSaid, LooksIn}
+use Rattle.pair_shell.specs.Playing.{Plays}
+use Rattle.pair_shell.specs.Sessions.{AltairsPlay, BootsBy, HeedsSaid, IsAsBefore, is_quit, trace_after}
+use Rattle.pair_shell.specs.declared.notes.Notes.{Notes}
+use Rattle.shared_disk.specs.Failing.{Disk, records_in}
+use Rattle.shell_book.specs.Outcomes.{is_ended}
+use Rattle.shell_book.specs.Tapes.{Begins, trace_text}
+use Rattle.shell_book.specs.declared.outcome.Outcome.{Outcome}
+use Rattle.shell_book.specs.declared.outcome.Outcome.TheVariants as outcome
+use Rattle.shell_book.specs.declared.printing.Printed.{Printed}
+use Rattle.shell_book.specs.declared.tape.Played.{Played}
+use Rattle.shell_language.specs.Saying.{said}
+use Rattle.shell_language.specs.declared.line.ShellLine.{ShellLine}
+use Rattle.shell_language.specs.declared.line.ShellLine.TheVariants as shell
+use Rattle.shell_language.specs.declared.look.Look.{Look}
+use Rattle.shell_opening.specs.Openings.{SetsUpSaid}
+use Rattle.shell_opening.specs.declared.opening.Opening.{Opening}
+use Rattle.command_ending.proofs.Handing.{appends_on, keeps-appends, keeps_refl}
+use Rattle.pair_shell.specs.Answering.{AreAnswers, Boots, HasSeen, IsAnswer, Next, NoLine, PairPasses, Passes, Sees, SeesSaid, Sitting, begun}
+use Rattle.pair_shell.specs.Lines.{without_cr}
+use Rattle.pair_shell.specs.Running.{AnswersAll, AnswersEach, Desk, PairShows, sitting}
+
+-- ---- lines after others
+
+are_then : (s mid new : Sitting) (lines more answers others : List (List ℕ)) → AreAnswers s lines answers mid
+    → AreAnswers mid more others new → AreAnswers s (lines ++ more) (answers ++ others) new
+are_then s mid new lines more answers others NoLine next = next
+are_then s mid new lines more answers others (Next {mid = v} {lines = ls} {answers = texts} one rest) next =
+    Next one (are_then v mid new ls more texts others rest next)
+
+-- a line that plays nothing
+passes_none : (opening : Opening) (pair : Option (Course Guest)) → PairPasses opening pair [] pair
+passes_none opening None = refl
+passes_none opening (Some c) = record { after = c.world; rows = Nothing; is = refl }
+
+module _ {B H : Type 0} (guest : B → Guest) where
+  pub each_none : (d : Desk B H) (old : Option (List ℕ)) → AnswersEach guest d [] old old d
+  each_none d old pair shows = record {
+    answers = [];
+    pair = pair;
+    shows = shows;
+    answered = NoLine;
+    written = keeps-appends old old (keeps_refl old);
+  }
+
+  pub each_then : (a b c : Desk B H) (lines more : List (List ℕ)) (old mid new : Option (List ℕ))
+      → AnswersEach guest a lines old mid b → AnswersEach guest b more mid new c → AnswersEach guest a (lines ++ more) old new c
+  each_then a b c lines more old mid new first next pair shows =
+      let f = first pair shows in
+      let n = next f.pair f.shows in
+      record {
+        answers = f.answers ++ n.answers;
+        pair = n.pair;
+        shows = n.shows;
+        answered = subst (λ ls. AreAnswers (sitting a pair) ls (f.answers ++ n.answers) (sitting c n.pair))
+            (sym (map-append without_cr lines more))
+            (are_then (sitting a pair) (sitting b f.pair) (sitting c n.pair) (map without_cr lines) (map without_cr more) f.answers
+            n.answers f.answered n.answered);
+        written = subst (Appends old new) (sym (concat-append f.answers n.answers))
+            (appends_on old mid new (concat f.answers) (concat n.answers) f.written n.written);
+      }
+
+  -- what the session is after them does not matter any more
+  pub each_all : (a b : Desk B H) (lines : List (List ℕ)) (old new : Option (List ℕ)) → AnswersEach guest a lines old new b
+      → AnswersAll guest a lines old new
+  each_all a b lines old new each pair shows =
+      let h = each pair shows in
+      record { last = sitting b h.pair; answers = h.answers; answered = h.answered; written = h.written }
+
+  -- ---- what a line does to the pair
+
+  passes : (old new : Running B H Disk) (tape : List Played) → Plays guest guest some_altair old tape new → (c : Course Guest)
+      → Shows guest guest some_altair records_in old c
+      → (d : Course Guest) × (Passes c tape d × Shows guest guest some_altair records_in new d)
+  passes old new tape plays c shows =
+      let r = plays c (shows_records guest guest some_altair old c shows) in
+      let d : Course Guest = record c { world = r.after } in
+      (d, (record { after = r.after; rows = r.rows; is = refl }, records_show guest guest some_altair new d r.shows))
+
+  boots : (opening : Opening) (v : Running B H Disk) → BootsBy guest opening v
+      → (c : Course Guest) × (Boots opening c × Shows guest guest some_altair records_in v c)
+  boots opening v b = (
+    record (begun opening b.store) { world = b.world },
+    (
+      record {
+        records = b.store;
+        has_drives = b.has_drives;
+        unwritten = b.unwritten;
+        at_boot = b.at_boot;
+        world = b.world;
+        come = b.come;
+        is = refl;
+      },
+      b.shows,
+    ),
+  )
+
+  pair_passes : (opening : Opening) (old new : Option (Running B H Disk)) (tape : List Played) (pair : Option (Course Guest))
+      → PairShows guest old pair → AltairsPlay guest opening old tape new
+      → (after : Option (Course Guest)) × (PairPasses opening pair tape after × PairShows guest new after)
+  pair_passes opening (Some old) (Some new) tape (Some c) shows plays =
+      let r = passes old new tape plays c shows in (Some r.0, (r.1.0, r.1.1))
+  pair_passes opening (Some old) (Some new) tape None shows plays = absurd shows
+  pair_passes opening (Some old) None tape pair shows plays = absurd plays
+  pair_passes opening None (Some new) tape None shows plays =
+      let b = boots opening plays.0 plays.1.0 in
+      let r = passes plays.0 new tape plays.1.1 b.0 b.1.1 in
+      (Some r.0, ((b.0, (b.1.0, r.1.0)), r.1.1))
+  pair_passes opening None (Some new) tape (Some c) shows plays = absurd shows
+  pair_passes opening None None tape None shows plays = (None, (plays, tt))
+  pair_passes opening None None tape (Some c) shows plays = absurd shows
+
+  sees : (look : Look) (world : Option (Running B H Disk)) (pair : Option (Course Guest)) (old new : Printed)
+      → PairShows guest world pair → LooksIn guest look world old new → Sees look pair old new
+  sees look None None old new shows h = h
+  sees look None (Some c) old new shows h = absurd shows
+  sees look (Some v) None old new shows h = absurd shows
+  sees look (Some v) (Some c) old new shows h = h c shows
+
+  has_seen : (look : Look) (tape : List Played) (world : Option (Running B H Disk)) (pair : Option (Course Guest)) (is_traced : Bool)
+      (answer : List ℕ) → PairShows guest world pair → IsSeen guest look tape world is_traced answer
+      → HasSeen look tape pair is_traced answer
+  has_seen look tape world pair is_traced answer shows h = record {
+    nothing_played = h.nothing_played;
+    before = h.before;
+    after = h.after;
+    blank = h.blank;
+    traced = h.traced;
+    told = h.told;
+    seen = sees look world pair h.before h.after shows h.seen;
+  }
+
+  sees_said : (line : Option ShellLine) (tape : List Played) (world : Option (Running B H Disk)) (pair : Option (Course Guest))
+      (is_traced : Bool) (answer : List ℕ) → PairShows guest world pair → IsSeenSaid guest line tape world is_traced answer
+      → SeesSaid line tape pair is_traced answer
+  sees_said (Some (shell.Look look)) tape world pair is_traced answer shows h =
+      has_seen look tape world pair is_traced answer shows h
+  sees_said line tape world pair is_traced answer shows h = tt
+
+  -- ---- one line
+
+  -- what a session promises of a line
+  pub record Promise (old new : Desk B H) (noted noted' : Notes) (line : List ℕ) (tape : List Played) (told : Outcome)
+      (answer : List ℕ) : Type 0 where
+    pub played : AltairsPlay guest old.opening old.world tape new.world
+    pub traced : old.is_traced ≡ true → Begins (trace_text tape) answer
+    pub heeded : told ≡ outcome.Done → HeedsSaid (said line) tape old.is_traced [] answer
+    pub seen : told ≡ outcome.Done → IsSeenSaid guest (said line) tape new.world old.is_traced answer
+    pub wrong : said line ≡ None → told ≡ outcome.Refused
+    pub set : told ≡ outcome.Done → SetsUpSaid (said line) old.opening new.opening
+    pub switched : new.is_traced ≡ trace_after (said line) old.is_traced
+    pub left : told ≡ outcome.Refused → IsAsBefore old.opening new.opening old.world new.world noted noted' old.is_traced new.is_traced
+    pub ended : is_ended told ≡ is_quit (said line)
+
+  -- a line that is not refused
+  answer_by : (old new : Desk B H) (noted noted' : Notes) (line : List ℕ) (tape : List Played) (told : Outcome) (answer : List ℕ)
+      → (told ≡ outcome.Refused → ⊥) → Promise old new noted noted' line tape told answer → (pair : Option (Course Guest))
+      → PairShows guest old.world pair
+      → (after : Option (Course Guest)) × (PairShows guest new.world after × IsAnswer line (sitting old pair) answer (sitting new after))
+  answer_by old new noted noted' line tape told answer not p pair shows =
+      let r = pair_passes old.opening old.world new.world tape pair shows p.played in (
+        r.0,
+        (
+          r.1.1,
+          record {
+            outcome = told;
+            tape = tape;
+            played = r.1.0;
+            traced = p.traced;
+            heeded = p.heeded;
+            seen = λ is. sees_said (said line) tape new.world r.0 old.is_traced answer r.1.1 (p.seen is);
+            wrong = p.wrong;
+            set = p.set;
+            switched = p.switched;
+            left = λ is. absurd (not is);
+            ended = p.ended;
+          },
+        ),
+      )
+
+  -- a line that is refused
+  answer_left : (old new : Desk B H) (noted noted' : Notes) (line : List ℕ) (tape : List Played) (answer : List ℕ)
+      → Promise old new noted noted' line tape outcome.Refused answer → (pair : Option (Course Guest))
+      → PairShows guest old.world pair
+      → (after : Option (Course Guest)) × (PairShows guest new.world after × IsAnswer line (sitting old pair) answer (sitting new after))
+  answer_left old new noted noted' line tape answer p pair shows =
+      let same = p.left refl in (
+        pair,
+        (
+          subst (λ w. PairShows guest w pair) (sym same.world) shows,
+          record {
+            outcome = outcome.Refused;
+            tape = [];
+            played = passes_none old.opening pair;
+            traced = λ is. (answer, refl);
+            heeded = λ is. absurd (cc);
+            seen = λ is. absurd (cc);
+            wrong = λ is. refl;
+            set = λ is. absurd (cc);
+            switched = p.switched;
+            left = λ is. record { nothing_played = refl; opening = same.opening; pair = refl; is_traced = same.is_traced };
+            ended = p.ended;
+          },
+        ),
+      )
+
+  answers : (old new : Desk B H) (noted noted' : Notes) (line : List ℕ) (tape : List Played) (told : Outcome) (answer : List ℕ)
+      → Promise old new noted noted' line tape told answer → (pair : Option (Course Guest)) → PairShows guest old.world pair
+      → (after : Option (Course Guest)) × (PairShows guest new.world after × IsAnswer line (sitting old pair) answer (sitting new after))
+  answers old new noted noted' line tape outcome.Refused answer p pair shows =
+      answer_left old new noted noted' line tape answer p pair shows
+  answers old new noted noted' line tape outcome.Done answer p pair shows =
+      answer_by old new noted noted' line tape outcome.Done answer (λ is. cc) p pair shows
+  answers old new noted noted' line tape outcome.Ended answer p pair shows =
+      answer_by old new noted noted' line tape outcome.Ended answer (λ is. cc) p pair shows
+
+  -- its answer was written
+  pub each_one : (old new : Desk B H) (noted noted' : Notes) (line text : List ℕ) (tape : List Played) (told : Outcome)
+      (answer : List ℕ) (before after : Option (List ℕ)) → text ≡ without_cr line
+      → Promise old new noted noted' text tape told answer → Appends before after answer
+      → AnswersEach guest old (line ∷ []) before after new
+  each_one old new noted noted' line text tape told answer before after is p written pair shows =
+      let r = answers old new noted noted' text tape told answer p pair shows in
+      record {
+        answers = answer ∷ [];
+        pair = r.0;
+        shows = r.1.0;
+        answered = Next (subst (λ t. IsAnswer t (sitting old pair) answer (sitting new r.0)) is r.1.1) NoLine;
+        written = subst (Appends before after) (sym (append-nil answer)) written;
+      }
