@@ -20,7 +20,7 @@ use std::alloc::{AllocError, Global};
 
 /// How many events of a session are kept for pictures, from its first one on. With each of them a session that prints would
 /// keep two thousand bytes for each byte that it prints.
-pub const KEPT: usize = 262_144;
+pub const KEPT: usize = 200_000;
 
 /// Makes the events of a plan happen, one after another, each chosen when the one before it was answered. The tape has
 /// exactly these afterwards, with their answers; also if memory for the next one is refused.
@@ -92,7 +92,7 @@ fn play_next<B: Copies<H> + Drop, H: Drop>(
 // Keeps an event for pictures, if it is among the first ones.
 fn keep(past: &mut Vec<Moment>, moment: Moment)
     requires room { vec_len past.old < vec_capacity past.old }
-    ensures { past.new.items ≡ cond (nat_lt (vec_len past.old) 262_144) (past.old.items ++ moment ∷ []) past.old.items }
+    ensures { past.new.items ≡ cond (nat_lt (vec_len past.old) 200_000) (past.old.items ++ moment ∷ []) past.old.items }
 {
     if past.len() < KEPT {
         past.push_reserved(moment);

@@ -1,7 +1,9 @@
 -- What a book says of a pair: how far its ports have come, its log, and its writes.
-use Rattle.std.specs.Prelude.{◌≡◌, ℕ, zero, suc, ◌+◌, ◌-◌, ◌^◌, ◌==◌, min, Bool, false, not, List, [], filter, replicate, slice_get, slice_set, unwrap_or, vec_len}
+use Rattle.std.specs.Prelude.{◌≡◌, ℕ, zero, suc, ◌+◌, ◌-◌, ◌^◌, ◌==◌, min, Bool, false, not, List, [], ◌∷◌, filter, map, replicate, slice_get, slice_set, unwrap_or, vec_len}
+use Rattle.std.specs.List.{range_with_len}
 use Rattle.guest_lockstep.specs.declared.timed.Bare.{Bare}
 use Rattle.guest_lockstep.specs.declared.timed.Bare.TheVariants.{Rx, Sent, Sector, Written}
+use Rattle.guest_lockstep.specs.declared.timed.Timed.{Timed}
 use Rattle.shell_book.specs.declared.book.Book.{Book}
 use Rattle.shell_book.specs.declared.book.PortNotes.{PortNotes}
 use Rattle.shell_book.specs.declared.book.Waiting.{Waiting}
@@ -82,3 +84,16 @@ settled (Written number) p = record p { undone = without p.undone number }
 -- before the settled inputs of a node that has won: no key of a port was taken, and no byte accepted
 abbrev pub restarted_at : ℕ → Progress → Progress
 restarted_at port p = with_port port (record (notes_of p.ports port) { taken = 0; heard = 0 }) p
+
+-- the numbers of all writes up to one
+abbrev pub writes_up_to : ℕ → List ℕ
+writes_up_to last = map (λ k. k + 1) (range_with_len 0 last)
+
+-- What is known once a node has won: its ports as they were before any input, and of the writes that were given none is done;
+-- and then what its settled inputs say, in their order.
+abbrev pub restarted : Progress → Progress
+restarted p = restarted_at 1 (restarted_at 0 (record p { undone = writes_up_to p.writes }))
+
+abbrev pub all_settled : List Timed → Progress → Progress
+all_settled [] p = p
+all_settled (timed ∷ more) p = all_settled more (settled timed.input p)

@@ -1,7 +1,7 @@
 //! What the shell has noted of a pair: the messages that were sent, and how far the node that runs the guest has come.
-ghost use Rattle.std.specs.Prelude.{◌≡◌, ◌-◌, ◌<◌, IfOk, length, slice_get, vec_capacity, vec_len};
+ghost use Rattle.std.specs.Prelude.{◌≡◌, ◌-◌, ◌<◌, IfErr, IfOk, length, slice_get, vec_capacity, vec_len};
 ghost use Rattle.shell_book.specs.Noting.{brought};
-ghost use Rattle.shell_book.specs.Notes.{IsBlank, notes_of, progress, put_at, restarted_at, settled, waiting_in, without};
+ghost use Rattle.shell_book.specs.Notes.{IsBlank, all_settled, notes_of, progress, put_at, restarted, restarted_at, settled, waiting_in, without, writes_up_to};
 
 use event_callbacks::PORTS;
 use guest_lockstep::{Bare, Timed};
@@ -160,19 +160,25 @@ impl Book {
     /// Begins again from what is settled, for a node that has won: which keys its guest has taken, and what it has heard
     /// of the bytes and the writes that were given before.
     pub fn begin_again(&mut self, alloc: Global, inputs: &[Timed]) -> Result<(), AllocError>
-        ensures { self.new.letters ≡ self.old.letters }
+        ensures letters { self.new.letters ≡ self.old.letters }
+        ensures progress { IfOk result (λ _. progress self.new ≡ all_settled inputs.now (restarted (progress self.old))) }
+        ensures refused { IfErr result (λ _. self.new ≡ self.old) }
     {
-        let mut undone = Vec::new(alloc);
-        for number in 0..self.writes {
-            undone.push(number + 1)?;
-        }
-        self.undone = undone;
+        self.undone = writes_up_to(alloc, self.writes)?;
         self.restart(0);
         self.restart(1);
+        self.settle(inputs);
+        Ok(())
+    }
+
+    // What settled inputs say, one after another.
+    fn settle(&mut self, inputs: &[Timed])
+        ensures progress { progress self.new ≡ all_settled inputs.now (progress self.old) }
+        ensures letters { self.new.letters ≡ self.old.letters }
+    {
         for timed in inputs {
             self.note_input(timed.input);
         }
-        Ok(())
     }
 
     // No key of a port was taken yet, and no byte accepted.
@@ -211,6 +217,18 @@ impl Book {
             Bare::Sector(..) => {}
         }
     }
+}
+
+// The numbers of all writes up to one.
+#[tactic(auto, using(crate::proofs::Settling::one_write_more))]
+fn writes_up_to(alloc: Global, last: u64) -> Result<Vec<u64>, AllocError>
+    ensures { IfOk result (λ numbers. numbers.items ≡ writes_up_to last) }
+{
+    let mut numbers = Vec::new(alloc);
+    for number in 0..last {
+        numbers.push(number + 1)?;
+    }
+    Ok(numbers)
 }
 
 // How many bytes of a port its terminal has not accepted.
