@@ -1,5 +1,5 @@
 //! What a line of a script answers, in the words of its output.
-ghost use Rattle.std.specs.Prelude.{Some};
+ghost use Rattle.std.specs.Prelude.{◌∷◌, Some};
 ghost use Rattle.std.specs.Fmt.{WritesOnOk};
 ghost use Rattle.pair_events.specs.Printed.{accepted_text, answer_text, byte_text, bytes_text, node_text, packet_text};
 
@@ -57,10 +57,16 @@ impl fmt::Display for Spaced<'_> {
 
     fn fmt<W: fmt::Write>(&self, f: &mut fmt::Formatter<W>) -> fmt::Result {
         for byte in self.0 {
-            write!(f, " {}", Hexadecimal(*byte))?;
+            write_spaced(f, *byte)?;
         }
         Ok(())
     }
+}
+
+fn write_spaced<W: fmt::Write>(f: &mut fmt::Formatter<W>, byte: u8) -> fmt::Result
+    ensures { WritesOnOk W.write_str_gives f.old result (32 ∷ byte_text byte) f.new }
+{
+    write!(f, " {}", Hexadecimal(byte))
 }
 
 impl fmt::Display for Answer<'_> {

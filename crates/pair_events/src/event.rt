@@ -4,7 +4,7 @@ use event_callbacks::OpId;
 
 /// One action of one actor. Nodes, messages and indexes count from 0, ports are 0 and 1, sectors 0 to 31. A number need
 /// not be one that exists: an event that names what does not exist is refused as unknown.
-#[derive(Clone, Copy, PartialEq, Eq)]
+#[derive(Clone, Copy)]
 pub enum Event {
     /// The machine of a node executes at most this many steps, and stops after the first operation that it gives.
     Step { node: u64, turns: u64 },

@@ -39,7 +39,10 @@ fn events_are_spelled_as_lines(rt: HostRuntime) -> Result<(), Fail> {
         let text = format!(in rt.alloc(); "{}", Spelled(*event))?;
         assert!(rt; text.as_str() == *line);
         match read_line(line.as_bytes()) {
-            Ok(ShellLine::Event(said)) => assert!(rt; said == *event, "{line}"),
+            Ok(ShellLine::Event(said)) => {
+                let again = format!(in rt.alloc(); "{}", Spelled(said))?;
+                assert!(rt; again.as_str() == *line);
+            }
             _ => assert!(rt; false, "{line}"),
         }
     }

@@ -88,10 +88,15 @@ impl Drawing {
         let right = at.x.saturating_add(5);
         let above = at.y.saturating_sub(5);
         let below = at.y.saturating_add(5);
-        writeln!(
-            self.text,
-            "<path class=\"cross\" d=\"M{left} {above}L{right} {below}M{left} {below}L{right} {above}\"/>"
-        )
+        self.text.push_str("<path class=\"cross\" d=\"")?;
+        self.stroke(Point { x: left, y: above }, Point { x: right, y: below })?;
+        self.stroke(Point { x: left, y: below }, Point { x: right, y: above })?;
+        self.text.push_str("\"/>\n")
+    }
+
+    // A stroke of a path, from one point to another.
+    fn stroke(&mut self, from: Point, to: Point) -> Result<(), AllocError> {
+        write!(self.text, "M{} {}L{} {}", from.x, from.y, to.x, to.y)
     }
 
     /// How many letters words have.

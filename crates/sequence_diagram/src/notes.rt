@@ -1,8 +1,8 @@
 //! What happens at one place, in words.
-ghost use Rattle.std.specs.Prelude.{◌≡◌, Some};
+ghost use Rattle.std.specs.Prelude.{◌≡◌, Some, codes};
 ghost use Rattle.std.specs.Fmt.{WritesOnOk};
 ghost use Rattle.pair_events.specs.Printed.{◌␣◌};
-ghost use Rattle.sequence_diagram.specs.Words.{after_moves, attempt_text, because_text, done_text, event_text, fault_text, late_attempt, lost_text, moves_text, named_text, note_text, operation_text, reason_text, refused_text, run_text, stopped_text};
+ghost use Rattle.sequence_diagram.specs.Words.{after_moves, attempt_text, because_text, done_text, event_text, fault_text, late_attempt, lost_text, moves_text, named_byte, named_text, note_text, operation_text, reason_text, refused_text, run_text, stopped_text};
 
 use crate::cargo::{Byte, write_count, write_number, write_number_and};
 use crate::moment::{Moment, delivered};
@@ -10,7 +10,7 @@ use event_callbacks::OpId;
 use guest_lockstep::{ReplayEnd, StopReason};
 use i8080_words::Fault;
 use pair_events::{Event, Reply};
-use std::fmt;
+use std::fmt::{self, Display};
 
 /// What an event does at its place, or what was refused there. Of an exchange, what passes.
 #[derive(Clone, Copy)]
@@ -199,7 +199,7 @@ fn write_event<W: fmt::Write>(f: &mut fmt::Formatter<W>, event: Event) -> fmt::R
     ensures { WritesOnOk W.write_str_gives f.old result (event_text event) f.new }
 {
     match event {
-        Event::TypeByte { byte, .. } => write!(f, "types {}", Byte(byte)),
+        Event::TypeByte { byte, .. } => write_typed(f, byte),
         Event::TakeKey { index, .. } => write_number(f, "key", index),
         Event::TellSent { number, .. } => write_number_and(f, "byte", number, " was accepted"),
         Event::Release { id, .. } => write_operation(f, "release of", id),
@@ -207,6 +207,13 @@ fn write_event<W: fmt::Write>(f: &mut fmt::Formatter<W>, event: Event) -> fmt::R
         Event::Stop { .. } => f.write_str("stops"),
         other => write_attempt(f, other),
     }
+}
+
+fn write_typed<W: fmt::Write>(f: &mut fmt::Formatter<W>, byte: u8) -> fmt::Result
+    ensures { WritesOnOk W.write_str_gives f.old result (codes "types" ␣ named_byte byte) f.new }
+{
+    f.write_str("types ")?;
+    Byte(byte).fmt(f)
 }
 
 // An event that is named only if it was refused.

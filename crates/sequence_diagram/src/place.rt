@@ -9,7 +9,7 @@ use pair_events::{Event, Reply};
 use std::fmt;
 
 /// A column of the diagram.
-#[derive(Clone, Copy, PartialEq, Eq)]
+#[derive(Clone, Copy)]
 pub enum Place {
     Terminal(u8),
     Node(u64),

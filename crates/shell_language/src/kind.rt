@@ -1,7 +1,8 @@
 //! The kinds of words in a line.
 
 ghost use Rattle.std.specs.Prelude.{◌≡◌, Some};
-ghost use Rattle.shell_language.specs.Forms.{word_of};
+ghost use Rattle.std.specs.Fmt.{WritesOnOk};
+ghost use Rattle.shell_language.specs.Forms.{Exactly, Within, word_of};
 ghost use Rattle.shell_language.specs.Mistakes.{fits, is_range, word_text};
 
 use script_language::Words;
@@ -62,12 +63,25 @@ impl fmt::Display for Kind {
     fn fmt<W: fmt::Write>(&self, f: &mut fmt::Formatter<W>) -> fmt::Result {
         match self {
             Kind::Number => f.write_str("a number below 18446744073709551616"),
-            Kind::Within(least, greatest) => write!(f, "a number from {least} to {greatest}"),
+            Kind::Within(least, greatest) => write_range(f, *least, *greatest),
             Kind::Byte | Kind::Bytes(_) => f.write_str("a byte of two hexadecimal digits"),
             Kind::Address => f.write_str("an address of four hexadecimal digits"),
-            Kind::Exactly(text) => write!(f, "the word {text}"),
+            Kind::Exactly(text) => write_word(f, text),
             Kind::Text => f.write_str("text in double quotes"),
             Kind::Record => f.write_str("a record of Intel HEX"),
         }
     }
+}
+
+fn write_range<W: fmt::Write>(f: &mut fmt::Formatter<W>, least: u16, greatest: u16) -> fmt::Result
+    ensures { WritesOnOk W.write_str_gives f.old result (word_text (Within least greatest)) f.new }
+{
+    write!(f, "a number from {least} to {greatest}")
+}
+
+fn write_word<W: fmt::Write>(f: &mut fmt::Formatter<W>, text: &str) -> fmt::Result
+    ensures { WritesOnOk W.write_str_gives f.old result (word_text (Exactly text.now)) f.new }
+{
+    f.write_str("the word ")?;
+    f.write_str(text)
 }

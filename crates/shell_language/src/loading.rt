@@ -82,12 +82,16 @@ impl fmt::Display for RecordMistake {
                 kind,
                 " puts what follows past FFFF: 0000 is expected, as memory has 64K",
             ),
-            RecordMistake::Past(address) => {
-                let address = Address(address);
-                write!(f, "the record's bytes from {address} on go past FFFF")
-            }
+            RecordMistake::Past(address) => write_past(f, address),
         }
     }
+}
+
+fn write_past<W: fmt::Write>(f: &mut fmt::Formatter<W>, address: u16) -> fmt::Result
+    ensures { WritesOnOk W.write_str_gives f.old result (record_text (mistake.Past address)) f.new }
+{
+    let address = Address(address);
+    write!(f, "the record's bytes from {address} on go past FFFF")
 }
 
 fn write_length<W: fmt::Write>(f: &mut fmt::Formatter<W>, said: u8, there: usize) -> fmt::Result

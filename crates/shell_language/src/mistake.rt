@@ -3,13 +3,13 @@
 ghost use Rattle.std.specs.Prelude.{◌≡◌, ◌++◌, Some};
 ghost use Rattle.std.specs.Fmt.{WritesOnOk};
 ghost use Rattle.shell_language.specs.Forms.{shape_of, word_of};
-ghost use Rattle.shell_language.specs.Mistakes.{Detached, Late, Misfit, Missing, OneTooMany, Surplus, Unprintable, flaw_of, flaw_text, gives_way, is_one_too_many, is_out_of_range, more_text, usage_text};
+ghost use Rattle.shell_language.specs.Mistakes.{Detached, Late, Misfit, Missing, OneTooMany, Surplus, TooLong, Unknown, Unprintable, flaw_of, flaw_text, gives_way, is_one_too_many, is_out_of_range, more_text, usage_text};
 
 use crate::form::Form;
 use crate::kind::Kind;
 use crate::loading::RecordMistake;
 use crate::shown::{Hexadecimal, Shown};
-use std::fmt;
+use std::fmt::{self, Display};
 
 /// How many bytes a line may have, without its end.
 pub const LINE_BYTES: usize = 65_536;
@@ -114,12 +114,10 @@ impl fmt::Display for Mistake<'_> {
 
     fn fmt<W: fmt::Write>(&self, f: &mut fmt::Formatter<W>) -> fmt::Result {
         match *self {
-            Mistake::TooLong => write!(f, "the line has more than {LINE_BYTES} bytes"),
+            Mistake::TooLong => write_too_long(f),
             Mistake::Unprintable { place, byte } => write_unprintable(f, place, byte),
             Mistake::Blank => f.write_str("the line has spaces alone; `help` lists the lines"),
-            Mistake::Unknown { word } => {
-                write!(f, "{} begins no line; `help` lists the lines", Shown(word))
-            }
+            Mistake::Unknown { word } => write_unknown(f, word),
             Mistake::Missing { place, form, kind } => write_missing(f, place, form, kind),
             Mistake::Wrong {
                 place,
@@ -146,7 +144,7 @@ fn write_more<W: fmt::Write>(f: &mut fmt::Formatter<W>, mistake: Mistake<'_>) ->
         } => write_surplus(f, place, word, form, most),
         Mistake::Text { form } => write_words(f, TEXT, form),
         Mistake::Range { form } => write_words(f, RANGE, form),
-        Mistake::Record(mistake) => write!(f, "{mistake}"),
+        Mistake::Record(mistake) => mistake.fmt(f),
         Mistake::Late { line } => write_late(f, line),
         Mistake::Detached {
             drive,
@@ -155,6 +153,19 @@ fn write_more<W: fmt::Write>(f: &mut fmt::Formatter<W>, mistake: Mistake<'_>) ->
         } => write_detached(f, drive, track, sector),
         _ => Ok(()),
     }
+}
+
+fn write_too_long<W: fmt::Write>(f: &mut fmt::Formatter<W>) -> fmt::Result
+    ensures { WritesOnOk W.write_str_gives f.old result (flaw_text TooLong) f.new }
+{
+    write!(f, "the line has more than {LINE_BYTES} bytes")
+}
+
+fn write_unknown<W: fmt::Write>(f: &mut fmt::Formatter<W>, word: &[u8]) -> fmt::Result
+    ensures { WritesOnOk W.write_str_gives f.old result (flaw_text (Unknown word.now)) f.new }
+{
+    Shown(word).fmt(f)?;
+    f.write_str(" begins no line; `help` lists the lines")
 }
 
 fn write_unprintable<W: fmt::Write>(

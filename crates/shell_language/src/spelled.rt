@@ -1,8 +1,8 @@
 //! Events as the lines of a script.
-ghost use Rattle.std.specs.Prelude.{Some};
+ghost use Rattle.std.specs.Prelude.{Some, codes};
 ghost use Rattle.std.specs.Fmt.{WritesOnOk, decimal};
-ghost use Rattle.pair_events.specs.Printed.{◌␣◌};
-ghost use Rattle.shell_language.specs.Spelling.{change_text, effect_text, event_text};
+ghost use Rattle.pair_events.specs.Printed.{byte_text, ◌␣◌};
+ghost use Rattle.shell_language.specs.Spelling.{change_text, effect_text, event_text, operation_text};
 
 use crate::shown::Hexadecimal;
 use event_callbacks::OpId;
@@ -18,14 +18,12 @@ pub struct Spelled(pub Event);
 struct Named(OpId);
 
 impl fmt::Display for Named {
-    ghost use Rattle.shell_language.specs.Spelling.{operation_text};
-
     ghost output = { λ named. Some (operation_text named.0) };
 
     fn fmt<W: fmt::Write>(&self, f: &mut fmt::Formatter<W>) -> fmt::Result {
         match self.0 {
-            OpId::Byte(port, number) => write!(f, "byte {port} {number}"),
-            OpId::Write(number) => write!(f, "write {number}"),
+            OpId::Byte(port, number) => write_two(f, "byte", u64::from(port), number),
+            OpId::Write(number) => write_one(f, "write", number),
         }
     }
 }
@@ -43,14 +41,14 @@ fn write_event<W: fmt::Write>(f: &mut fmt::Formatter<W>, event: Event) -> fmt::R
 {
     match event {
         Event::Step { node, turns } => write_two(f, "step", node, turns),
-        Event::TypeByte { port, byte } => write!(f, "type {port} {}", Hexadecimal(byte)),
+        Event::TypeByte { port, byte } => write_typed(f, port, byte),
         Event::TakeKey { node, port, index } => write_three(f, "key", node, port, index),
         Event::Send { node, index } => write_two(f, "send", node, index),
         Event::DeliverLog { message, node } => write_two(f, "log", message, node),
         Event::Acknowledge { node } => write_one(f, "ack", node),
         Event::DeliverAcknowledgement { message, node } => write_two(f, "acked", message, node),
         Event::Replay { node, turns } => write_two(f, "replay", node, turns),
-        Event::Release { node, id } => write!(f, "release {node} {}", Named(id)),
+        Event::Release { node, id } => write_release(f, node, id),
         other => write_effect(f, other),
     }
 }
@@ -87,6 +85,18 @@ fn write_change<W: fmt::Write>(f: &mut fmt::Formatter<W>, event: Event) -> fmt::
         Event::Stop { node } => write_one(f, "stop", node),
         _ => Ok(()),
     }
+}
+
+fn write_typed<W: fmt::Write>(f: &mut fmt::Formatter<W>, port: u8, byte: u8) -> fmt::Result
+    ensures { WritesOnOk W.write_str_gives f.old result (codes "type" ␣ decimal port ␣ byte_text byte) f.new }
+{
+    write!(f, "type {port} {}", Hexadecimal(byte))
+}
+
+fn write_release<W: fmt::Write>(f: &mut fmt::Formatter<W>, node: u64, id: OpId) -> fmt::Result
+    ensures { WritesOnOk W.write_str_gives f.old result (codes "release" ␣ decimal node ␣ operation_text id) f.new }
+{
+    write!(f, "release {node} {}", Named(id))
 }
 
 // A word and the numbers after it.

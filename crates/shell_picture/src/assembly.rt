@@ -4,10 +4,10 @@ ghost use Rattle.std.specs.Fmt.{WritesOnOk, decimal};
 ghost use Rattle.pair_events.specs.Printed.{◌␣◌};
 ghost use Rattle.shell_picture.specs.Assembly.{accumulator_word, arithmetic_text, arithmetic_word, branch_text, byte_data, condition_text, immediate_word, instruction_text, lead, machine_text, machine_word, pair_text, register_text, stack_text, word_data};
 
-use crate::digits::{Address, Hexadecimal};
 use i8080_words::{
     AccumulatorOperation, AluOperation, Condition, Op, Register, RegisterPair, StackPair,
 };
+use shell_language::{Address, Hexadecimal};
 use std::fmt;
 
 /// An instruction that prints as an assembler takes it.
@@ -28,8 +28,8 @@ fn write_instruction<W: fmt::Write>(f: &mut fmt::Formatter<W>, op: Op) -> fmt::R
 {
     match op {
         Op::Mov(to, from) => write_two(f, "MOV", register(to), register(from)),
-        Op::Mvi(to, byte) => write!(f, "MVI {},{}", register(to), ByteData(byte)),
-        Op::Lxi(to, word) => write!(f, "LXI {},{}", pair(to), WordData(word)),
+        Op::Mvi(to, byte) => write_mvi(f, register(to), byte),
+        Op::Lxi(to, word) => write_lxi(f, pair(to), word),
         Op::Lda(address) => write_word(f, "LDA", address),
         Op::Sta(address) => write_word(f, "STA", address),
         Op::Lhld(address) => write_word(f, "LHLD", address),
@@ -69,8 +69,8 @@ fn write_branch<W: fmt::Write>(f: &mut fmt::Formatter<W>, op: Op) -> fmt::Result
         Op::Call(address) => write_word(f, "CALL", address),
         Op::CallIf(when, address) => write_if(f, "C", when, address),
         Op::Ret => f.write_str("RET"),
-        Op::ReturnIf(when) => write!(f, "R{}", condition(when)),
-        Op::Rst(number) => write!(f, "RST {number}"),
+        Op::ReturnIf(when) => write_return_if(f, when),
+        Op::Rst(number) => write_rst(f, number),
         Op::Pchl => f.write_str("PCHL"),
         other => write_machine(f, other),
     }
@@ -122,6 +122,19 @@ fn write_two<W: fmt::Write>(
     write!(f, "{word} {first},{second}")
 }
 
+// A register or a pair, and the data that it is given.
+fn write_mvi<W: fmt::Write>(f: &mut fmt::Formatter<W>, to: &str, byte: u8) -> fmt::Result
+    ensures { WritesOnOk W.write_str_gives f.old result (codes "MVI" ␣ (to.now ++ (codes "," ++ byte_data byte))) f.new }
+{
+    write!(f, "MVI {to},{}", ByteData(byte))
+}
+
+fn write_lxi<W: fmt::Write>(f: &mut fmt::Formatter<W>, to: &str, word: u16) -> fmt::Result
+    ensures { WritesOnOk W.write_str_gives f.old result (codes "LXI" ␣ (to.now ++ (codes "," ++ word_data word))) f.new }
+{
+    write!(f, "LXI {to},{}", WordData(word))
+}
+
 fn write_byte<W: fmt::Write>(f: &mut fmt::Formatter<W>, word: &str, byte: u8) -> fmt::Result
     ensures { WritesOnOk W.write_str_gives f.old result (word.now ␣ byte_data byte) f.new }
 {
@@ -144,6 +157,21 @@ fn write_if<W: fmt::Write>(
     ensures { WritesOnOk W.write_str_gives f.old result (letter.now ++ (condition_text when ␣ word_data address)) f.new }
 {
     write!(f, "{letter}{} {}", condition(when), WordData(address))
+}
+
+// A return on a condition.
+fn write_return_if<W: fmt::Write>(f: &mut fmt::Formatter<W>, when: Condition) -> fmt::Result
+    ensures { WritesOnOk W.write_str_gives f.old result (codes "R" ++ condition_text when) f.new }
+{
+    f.write_str("R")?;
+    f.write_str(condition(when))
+}
+
+// A restart, by its number.
+fn write_rst<W: fmt::Write>(f: &mut fmt::Formatter<W>, number: u8) -> fmt::Result
+    ensures { WritesOnOk W.write_str_gives f.old result (codes "RST" ␣ decimal number) f.new }
+{
+    write!(f, "RST {number}")
 }
 
 // A byte of data, which begins with a digit from 0 to 9.

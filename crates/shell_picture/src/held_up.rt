@@ -1,5 +1,6 @@
 //! What is told after a day of the refusals that hold something up.
-ghost use Rattle.std.specs.Prelude.{IfOk, Some};
+ghost use Rattle.std.specs.Prelude.{◌++◌, IfOk, Some};
+ghost use Rattle.std.specs.Fmt.{WritesOnOk, decimal};
 ghost use Rattle.shell_book.specs.HeldUp.{meeting_of};
 ghost use Rattle.shell_book.specs.Texts.{AddsSome, Prints};
 ghost use Rattle.shell_picture.specs.HeldUp.{held_if, held_rows, named_last, output_text};
@@ -67,11 +68,21 @@ impl fmt::Display for Output {
     fn fmt<W: fmt::Write>(&self, f: &mut fmt::Formatter<W>) -> fmt::Result {
         let Waiting { bytes, writes } = self.0;
         match (bytes, writes) {
-            (_, 0) => write!(f, "{bytes} bytes wait"),
-            (0, _) => write!(f, "{writes} writes wait"),
-            (_, _) => write!(f, "{bytes} bytes and {writes} writes wait"),
+            (_, 0) => write_count(f, bytes, " bytes wait"),
+            (0, _) => write_count(f, writes, " writes wait"),
+            (_, _) => {
+                write_count(f, bytes, " bytes and ")?;
+                write_count(f, writes, " writes wait")
+            }
         }
     }
+}
+
+// A number, and what it counts.
+fn write_count<W: fmt::Write>(f: &mut fmt::Formatter<W>, count: u64, what: &str) -> fmt::Result
+    ensures { WritesOnOk W.write_str_gives f.old result (decimal count ++ what.now) f.new }
+{
+    write!(f, "{count}{what}")
 }
 
 // The last event that was refused, if it is known.

@@ -3,7 +3,7 @@
 
 mod answers;
 mod assembly;
-mod digits;
+mod characters;
 mod head;
 mod held_up;
 mod lanes;

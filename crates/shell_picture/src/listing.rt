@@ -5,9 +5,10 @@ ghost use Rattle.shell_picture.specs.Listings.{byte_in, gap_text, listing_rows, 
 
 use crate::answers::after;
 use crate::assembly::Assembly;
-use crate::digits::{Address, Spaced};
+use crate::characters::Spaced;
 use i8080_words::{decode, length};
 use shell_book::Printed;
+use shell_language::Address;
 use std::alloc::AllocError;
 use std::fmt;
 

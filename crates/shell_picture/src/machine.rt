@@ -1,12 +1,16 @@
 //! What a machine has in its registers and in its memory.
-ghost use Rattle.std.specs.Prelude.{◌≡◌, IfOk, Some, take};
+ghost use Rattle.std.specs.Prelude.{◌≡◌, ◌++◌, IfOk, Some, codes, take};
+ghost use Rattle.std.specs.Fmt.{WritesOnOk};
+ghost use Rattle.i8080_words.specs.Arithmetic.{flag_byte};
+ghost use Rattle.pair_events.specs.Printed.{byte_text};
 ghost use Rattle.shell_book.specs.Texts.{Prints};
-ghost use Rattle.shell_picture.specs.Machines.{flags_text, halt_text, interrupts_text, letter_text, memory_rows, memory_text, register_rows, registers_text, state_text};
+ghost use Rattle.shell_picture.specs.Machines.{address_text, flags_text, halt_text, interrupts_text, letter_text, memory_rows, memory_text, register_rows, registers_text, state_text};
 
 use crate::answers::after;
-use crate::digits::{Address, Characters, Hexadecimal, Spaced};
+use crate::characters::{Characters, Spaced};
 use i8080_words::{Flags, Interrupts, Processor, Regs, psw};
 use shell_book::Printed;
+use shell_language::{Address, Hexadecimal};
 use std::alloc::AllocError;
 use std::fmt;
 
@@ -61,21 +65,48 @@ impl fmt::Display for Registers {
 
     fn fmt<W: fmt::Write>(&self, f: &mut fmt::Formatter<W>) -> fmt::Result {
         let regs = &self.0;
-        write!(
-            f,
-            "A {} F {} B {} C {} D {} E {} H {} L {} SP {} PC {}",
-            Hexadecimal(regs.a),
-            Hexadecimal(psw(regs.flags)),
-            Hexadecimal(regs.b),
-            Hexadecimal(regs.c),
-            Hexadecimal(regs.d),
-            Hexadecimal(regs.e),
-            Hexadecimal(regs.h),
-            Hexadecimal(regs.l),
-            Address(regs.sp.get()),
-            Address(regs.pc.get())
-        )
+        write_accumulator(f, regs)?;
+        write_others(f, regs)?;
+        write_pointers(f, regs)
     }
+}
+
+// The accumulator, and the flags as PUSH PSW has them.
+fn write_accumulator<W: fmt::Write>(f: &mut fmt::Formatter<W>, regs: &Regs) -> fmt::Result
+    ensures { WritesOnOk W.write_str_gives f.old result
+        (codes "A " ++ (byte_text regs.now.a ++ (codes " F " ++ byte_text (flag_byte regs.now.flags)))) f.new }
+{
+    let flags = psw(regs.flags);
+    write!(f, "A {} F {}", Hexadecimal(regs.a), Hexadecimal(flags))
+}
+
+// The other registers of a byte.
+fn write_others<W: fmt::Write>(f: &mut fmt::Formatter<W>, regs: &Regs) -> fmt::Result
+    ensures { WritesOnOk W.write_str_gives f.old result
+        (codes " B " ++ (byte_text regs.now.b ++ (codes " C " ++ (byte_text regs.now.c ++ (codes " D " ++ (byte_text regs.now.d
+        ++ (codes " E " ++ (byte_text regs.now.e ++ (codes " H " ++ (byte_text regs.now.h ++ (codes " L "
+        ++ byte_text regs.now.l))))))))))) f.new }
+{
+    write!(
+        f,
+        " B {} C {} D {} E {} H {} L {}",
+        Hexadecimal(regs.b),
+        Hexadecimal(regs.c),
+        Hexadecimal(regs.d),
+        Hexadecimal(regs.e),
+        Hexadecimal(regs.h),
+        Hexadecimal(regs.l)
+    )
+}
+
+// The stack pointer and the program counter.
+fn write_pointers<W: fmt::Write>(f: &mut fmt::Formatter<W>, regs: &Regs) -> fmt::Result
+    ensures { WritesOnOk W.write_str_gives f.old result
+        (codes " SP " ++ (address_text regs.now.sp ++ (codes " PC " ++ address_text regs.now.pc))) f.new }
+{
+    let stack = regs.sp.get();
+    let program = regs.pc.get();
+    write!(f, " SP {} PC {}", Address(stack), Address(program))
 }
 
 // The rest of a processor, and the count.

@@ -1,7 +1,7 @@
 //! What a terminal shows, as text.
 ghost use Rattle.std.specs.Prelude.{◌≡◌, Some};
 ghost use Rattle.std.specs.Fmt.{WritesOnOk};
-ghost use Rattle.shell_picture.specs.Screens.{escaped_byte, escaped_text, head_text, screen_text, without};
+ghost use Rattle.shell_picture.specs.Screens.{bytes_word, escaped_byte, escaped_text, head_text, screen_text, without};
 
 use shell_language::Hexadecimal;
 use std::fmt;
@@ -23,11 +23,15 @@ impl fmt::Display for ScreenHead {
             count,
             is_new,
         } = *self;
-        if is_new {
-            return write!(f, "screen {port}: {count} new bytes");
-        }
-        write!(f, "screen {port}: {count} bytes")
+        let what = bytes_word(is_new);
+        write!(f, "screen {port}: {count}{what}")
     }
+}
+
+fn bytes_word(is_new: bool) -> &'static str
+    ensures { result.now ≡ bytes_word is_new }
+{
+    if is_new { " new bytes" } else { " bytes" }
 }
 
 /// A line of a terminal between two bars: LF ends it, CR is left out before that, and a byte that is not printable is

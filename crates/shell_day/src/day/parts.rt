@@ -1,6 +1,7 @@
 //! The events of each part of a round.
 ghost use Rattle.std.specs.Prelude.{◌≡◌, ◌++◌, IfOk, false, true, length};
 ghost use Rattle.shell_day.specs.Parts.{CarriesOn, FillsPart, acceptances_told, acknowledged, both, bytes_released, entries_sent, fetched, is_news, key_at, looked, marked, may_take, patience, replayed, reported, sector_asked, since_key, steps_made, told_at, waited, waits, writes_released};
+ghost use Rattle.shell_day.specs.declared.phase.Phase.TheVariants as round;
 
 use super::{Day, STEPS};
 use crate::ending::Ending;
@@ -36,11 +37,7 @@ impl Day {
             Phase::Fetch => self.fill_fetch(book, agenda),
             Phase::Tell => self.fill_tell(book, agenda),
             Phase::Release => self.fill_release(book, agenda),
-            Phase::Complete => {
-                self.tell_acceptances(0, book, agenda)?;
-                self.tell_acceptances(1, book, agenda)?;
-                self.carry_all(part, book, agenda)
-            }
+            Phase::Complete => self.fill_complete(book, agenda),
             Phase::Under | Phase::Log | Phase::Acknowledged | Phase::Fetched | Phase::Arrive => {
                 self.carry_all(part, book, agenda)
             }
@@ -252,6 +249,16 @@ impl Day {
         let notes = book.port(port);
         let node = self.node;
         Series::Bytes { node, port }.add(book, notes.heard, notes.sent, agenda)
+    }
+
+    // What the terminals have accepted, and the writes that are done.
+    fn fill_complete(&mut self, book: &Book, agenda: &mut Vec<Event>) -> Result<(), AllocError>
+        ensures { IfOk result (λ _. CarriesOn round.Complete self.old book.now
+            (agenda.old.items ++ both (acceptances_told self.old book.now)) agenda.new.items self.new) }
+    {
+        self.tell_acceptances(0, book, agenda)?;
+        self.tell_acceptances(1, book, agenda)?;
+        self.carry_all(Phase::Complete, book, agenda)
     }
 
     // What a terminal has accepted and the guest has not heard of.
