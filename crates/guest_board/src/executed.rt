@@ -5,7 +5,7 @@ ghost use Rattle.guest_board.specs.Stepping.{given_by};
 use event_callbacks::{OpId, Operation};
 
 /// What a step was.
-#[derive(Clone, Copy, PartialEq, Eq)]
+#[derive(Clone, Copy)]
 pub enum Executed {
     /// One instruction, with the operation that it gave.
     Ran(Option<Operation>),

@@ -8,7 +8,7 @@ ghost use Rattle.guest_board.specs.Wiring.{IsThere};
 pub(crate) const OPEN_BUS: u8 = 0xff;
 
 /// What is at a port number (MITS 88-2SIO and 88-DCDD manuals). Serial ports are numbered from 0.
-#[derive(Clone, Copy, PartialEq, Eq)]
+#[derive(Clone, Copy)]
 pub(crate) enum Device {
     SerialControl(u8),
     SerialData(u8),

@@ -1,7 +1,7 @@
 //! What each instruction does, one line for each: from registers to registers, with what it stores.
-ghost use Rattle.std.specs.Prelude.{◌≡◌, ℕ, false};
+ghost use Rattle.std.specs.Prelude.{◌≡◌, ℕ, false, true};
 ghost use Rattle.i8080_words.specs.Effects as table;
-ghost use Rattle.plain_single.specs.Executor.{byte_at, outcome_of, is_at_port};
+ghost use Rattle.plain_single.specs.Executor.{byte_at, outcome_of, is_among_registers, is_at_port, is_jump, is_load_or_store};
 
 mod groups;
 mod operands;
@@ -50,6 +50,29 @@ pub fn effect(op: Op, regs: &Regs, memory: &Memory) -> Outcome
         Op::Mov(to, from) => put(to, operand(memory, from, regs), regs),
         Op::Mvi(to, byte) => put(to, byte, regs),
         Op::Lxi(pair, word) => quiet(with_pair(pair, word, regs)),
+        Op::Xchg => quiet(Regs {
+            d: regs.h,
+            e: regs.l,
+            h: regs.d,
+            l: regs.e,
+            ..*regs
+        }),
+        Op::Pchl => quiet(with_pc(pair_value(RegisterPair::HL, regs), regs)),
+        Op::Sphl => quiet(Regs {
+            sp: AddressRegister::new(pair_value(RegisterPair::HL, regs)),
+            ..*regs
+        }),
+        _ => loaded_or_stored(op, regs, memory),
+    }
+}
+
+// The effect of loads and stores, the stack's among them, and of all that comes after them.
+fn loaded_or_stored(op: Op, regs: &Regs, memory: &Memory) -> Outcome
+    requires port { is_at_port op ≡ false }
+    requires registers { is_among_registers op ≡ false }
+    ensures { (ports : ℕ → ℕ) → outcome_of result ≡ table.effect op regs.now (byte_at memory.now.bytes.items) ports }
+{
+    match op {
         Op::Stax(pair) => writing(pair_value(pair, regs), regs.a, regs),
         Op::Ldax(pair) => quiet(Regs {
             a: memory.read(pair_value(pair, regs)),
@@ -62,13 +85,21 @@ pub fn effect(op: Op, regs: &Regs, memory: &Memory) -> Outcome
         }),
         Op::Shld(address) => writing_word(address, regs.l, regs.h, regs),
         Op::Lhld(address) => quiet(loaded_pair(memory, address, regs)),
-        Op::Xchg => quiet(Regs {
-            d: regs.h,
-            e: regs.l,
-            h: regs.d,
-            l: regs.e,
-            ..*regs
-        }),
+        Op::Push(pair) => pushed_word(pushed_value(pair, regs), regs),
+        Op::Pop(pair) => quiet(popped_pair(memory, pair, regs)),
+        Op::Xthl => top_exchanged(memory, regs),
+        _ => calculated(op, regs, memory),
+    }
+}
+
+// The effect of arithmetic, and of jumps.
+fn calculated(op: Op, regs: &Regs, memory: &Memory) -> Outcome
+    requires port { is_at_port op ≡ false }
+    requires registers { is_among_registers op ≡ false }
+    requires memory { is_load_or_store op ≡ false }
+    ensures { (ports : ℕ → ℕ) → outcome_of result ≡ table.effect op regs.now (byte_at memory.now.bytes.items) ports }
+{
+    match op {
         Op::Arithmetic(operation, from) => quiet(operated(
             operation,
             operand(memory, from, regs),
@@ -81,6 +112,16 @@ pub fn effect(op: Op, regs: &Regs, memory: &Memory) -> Outcome
         Op::Dcx(pair) => quiet(decremented_pair(pair, regs)),
         Op::Dad(pair) => quiet(pair_added(pair, regs)),
         Op::Accumulator(operation) => quiet(accumulated(operation, regs)),
+        _ => jumped(op, regs, memory),
+    }
+}
+
+// The effect of jumps, calls and returns.
+fn jumped(op: Op, regs: &Regs, memory: &Memory) -> Outcome
+    requires { is_jump op ≡ true }
+    ensures { (ports : ℕ → ℕ) → outcome_of result ≡ table.effect op regs.now (byte_at memory.now.bytes.items) ports }
+{
+    match op {
         Op::Jmp(address) => quiet(with_pc(address, regs)),
         Op::JumpIf(condition, address) if holds(condition, regs.flags) => quiet(with_pc(
             address, regs,
@@ -91,14 +132,6 @@ pub fn effect(op: Op, regs: &Regs, memory: &Memory) -> Outcome
         Op::ReturnIf(condition) if holds(condition, regs.flags) => quiet(returned(memory, regs)),
         Op::JumpIf(..) | Op::CallIf(..) | Op::ReturnIf(_) => quiet(*regs),
         Op::Rst(number) => called(8 * number as u16, regs),
-        Op::Push(pair) => pushed_word(pushed_value(pair, regs), regs),
-        Op::Pop(pair) => quiet(popped_pair(memory, pair, regs)),
-        Op::Xthl => top_exchanged(memory, regs),
-        Op::Pchl => quiet(with_pc(pair_value(RegisterPair::HL, regs), regs)),
-        Op::Sphl => quiet(Regs {
-            sp: AddressRegister::new(pair_value(RegisterPair::HL, regs)),
-            ..*regs
-        }),
-        Op::In(_) | Op::Out(_) => unreachable!(),
+        _ => unreachable!(),
     }
 }

@@ -65,7 +65,7 @@ pub(super) fn are_zeros(bytes: &[u8]) -> bool
 pub(super) fn is_flag_byte(byte: u8) -> bool
     ensures { result ≡ grammar.is_flag_byte byte }
 {
-    byte / 32 % 2 == 0 && byte / 8 % 2 == 0 && byte / 2 % 2 == 1
+    byte / 32 % 2 != 1 && byte / 8 % 2 != 1 && byte / 2 % 2 == 1
 }
 
 pub(super) fn interrupts_of(byte: u8) -> Option<Interrupts>

@@ -26,12 +26,7 @@ pub(super) fn setting(attached: u8, levels: [u8; 3], sense: u8, count: u64) -> [
 {
     let [first, second, third] = levels;
     let mut bytes = [0; 14];
-    bytes[0] = VERSION;
-    bytes[1] = attached;
-    bytes[2] = first;
-    bytes[3] = second;
-    bytes[4] = third;
-    bytes[5] = sense;
+    bytes[..6].copy_from_slice(&[VERSION, attached, first, second, third, sense]);
     bytes[6..].copy_from_slice(&spelled_number(count));
     bytes
 }

@@ -108,7 +108,7 @@ impl Controller {
 }
 
 // Whether one of these writes goes to this sector.
-fn has_write_at(places: &[Place], drive: u8, track: u8, sector: u8) -> bool
+pub(super) fn has_write_at(places: &[Place], drive: u8, track: u8, sector: u8) -> bool
     ensures { result ≡ list_any (is_at drive track sector) places.now }
 {
     places.iter().any(|place| place.is_at(drive, track, sector))

@@ -1,12 +1,13 @@
 //! A controller in an image of the machine: a reader for each field, and the controller that an image describes.
-ghost use Rattle.std.specs.Prelude.{◌≡◌, ◌<◌, ◌≤◌, ◌↔◌, IsTrue, IsOk, IfSome, IfOk, IsOkUnless, length};
+ghost use Rattle.std.specs.Prelude.{◌≡◌, ◌<◌, ◌≤◌, ◌↔◌, None, IsTrue, IsOk, IfSome, IfOk, IsOkUnless, length};
 ghost use Rattle.std.specs.Option.{option_copied};
 ghost use Rattle.disk_dcdd.specs.Drive.{drive_of};
-ghost use Rattle.disk_dcdd.specs.Controller.{IsDrives, AreDrives, AreOutstanding, Follows, MayFollow};
+ghost use Rattle.disk_dcdd.specs.Controller.{IsDrives, IsUnderHead, AreDrives, AreOutstanding, Follows, MayFollow};
 ghost use Rattle.disk_dcdd.specs.Image.{imaged};
 ghost use Rattle.disk_dcdd.specs.declared.controller.TheConstants.{DRIVES, OUTSTANDING};
 ghost use Rattle.i8080_words.specs.declared.refusal.Fault.TheVariants.{Malformed};
 
+use super::completions::has_write_at;
 use super::{Controller, DRIVES, OUTSTANDING};
 use crate::drive::{Drive, TRACKS};
 use crate::sector::{CurrentSector, Place, SECTORS};
@@ -78,34 +79,18 @@ impl Controller {
         ensures as_imaged { IfOk result (λ controller. controller ≡ imaged image.now) }
         ensures malformed { IsOkUnless result Malformed }
     {
-        if image.attached < 1
-            || image.attached as usize > DRIVES
-            || !selects_attached(image.attached, image.selected)
-            || image.issued > GREATEST_NUMBER
-            || !are_drives(image.attached, &image.drives)
-            || !are_outstanding(image.attached, image.issued, image.outstanding)
-        {
+        if !stands_without_sector(image) || !stands_with_sector(image) {
             return Err(Fault::Malformed);
         }
-        let mut controller = Controller {
+        Ok(Controller {
             attached: image.attached,
             selected: image.selected,
             drives: image.drives,
             interrupts: image.interrupts,
-            current: None,
+            current: image.current,
             outstanding: copied(image.outstanding),
             issued: image.issued,
-        };
-        if let Some(current) = &image.current {
-            if !controller.is_sector_due(current.sector)
-                || controller.is_sector_busy(current.sector)
-                || !current.is_unfinished()
-            {
-                return Err(Fault::Malformed);
-            }
-            controller.current = Some(*current);
-        }
-        Ok(controller)
+        })
     }
 
     /// A copy of the controller. Allocates no memory.
@@ -122,6 +107,36 @@ impl Controller {
             issued: self.issued,
         }
     }
+}
+
+// Whether a controller can be in the state that the image describes, but for the sector under the head.
+fn stands_without_sector(image: &ControllerImage<'_>) -> bool
+    ensures { IsTrue result ↔ IsDrives (record (imaged image.now) { current = None }) }
+{
+    1 <= image.attached
+        && image.attached as usize <= DRIVES
+        && selects_attached(image.attached, image.selected)
+        && image.issued <= GREATEST_NUMBER
+        && are_drives(image.attached, &image.drives)
+        && are_outstanding(image.attached, image.issued, image.outstanding)
+}
+
+// Whether the sector under the head, if there is one, can be there.
+fn stands_with_sector(image: &ControllerImage<'_>) -> bool
+    requires { IfSome image.now.selected (λ drive. drive < DRIVES) }
+    ensures { IsTrue result ↔ IfSome image.now.current (IsUnderHead (imaged image.now)) }
+{
+    let Some(current) = &image.current else {
+        return true;
+    };
+    let Some(selected) = image.selected else {
+        return false;
+    };
+    let drive = image.drives[selected as usize];
+    drive.loaded
+        && current.sector < SECTORS
+        && current.is_unfinished()
+        && !has_write_at(image.outstanding, selected, drive.track, current.sector)
 }
 
 // A copy of the places.
