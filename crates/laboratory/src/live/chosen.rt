@@ -29,13 +29,13 @@ fn given_of(alloc: Global, chance: &mut Chance) -> R<Given> {
 fn echoing(alloc: Global, chance: &mut Chance) -> R<Given> {
     let first = chance.bytes(alloc, 30)?;
     let second = chance.bytes(alloc, 30)?;
-    Given::typed(alloc, &ECHO, [first, second])
+    Given::new(alloc, &ECHO, Vec::new(alloc), [first, second])
 }
 
 fn storing(alloc: Global, chance: &mut Chance) -> R<Given> {
     let program = storer(chance.byte() % 6 + 1);
     let sectors = sectors_of(alloc, chance)?;
-    Given::stored(alloc, &program, sectors)
+    Given::new(alloc, &program, sectors, [Vec::new(alloc), Vec::new(alloc)])
 }
 
 // How a pair runs: its turns are too few, or somebody may ask to go on alone.
