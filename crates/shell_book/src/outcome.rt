@@ -10,7 +10,7 @@ use shell_language::Mistake;
 use std::alloc::AllocError;
 
 /// What became of a line.
-#[derive(Clone, Copy, PartialEq, Eq)]
+#[derive(Clone, Copy)]
 pub enum Outcome {
     /// It is wrong: this was told, and nothing changed.
     Refused,
