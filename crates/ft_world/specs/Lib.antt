@@ -16,3 +16,4 @@ pub mod Beginning
 pub mod Offers
 pub mod Chaining
 pub mod Choices
+pub mod EventKinds

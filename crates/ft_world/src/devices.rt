@@ -8,6 +8,7 @@ ghost use Rattle.terminals.specs.Screen.{after_telling};
 ghost use Rattle.ft_world.specs.Devices as table;
 
 use crate::message::Message;
+use crate::messages::say_reserved;
 use disk_dcdd::{SECTOR_BYTES, SectorAddress, SectorWrite};
 use event_callbacks::{OpId, PORTS};
 use i8080_words::{Fault, R};
@@ -54,11 +55,7 @@ pub(crate) fn put<D: SectorStore>(
 {
     messages.reserve(1)?;
     disk.put(write)?;
-    let message = messages.len() as u64;
-    match messages.push(Message::Written(write.number)) {
-        Ok(()) => Ok(Reply::Message { message }),
-        Err(_) => unreachable!(),
-    }
+    Ok(say_reserved(messages, Message::Written(write.number)))
 }
 
 /// The key that was typed at an index, from 0, at the terminal of a port. `Unknown` if there is none.
@@ -150,9 +147,5 @@ pub(crate) fn get<D: SectorStore>(
     messages.reserve(1)?;
     let mut read = Box::new(alloc, nothing_read())?;
     *read = disk.get(address)?;
-    let message = messages.len() as u64;
-    match messages.push(Message::Sector(read)) {
-        Ok(()) => Ok(Reply::Message { message }),
-        Err(_) => unreachable!(),
-    }
+    Ok(say_reserved(messages, Message::Sector(read)))
 }

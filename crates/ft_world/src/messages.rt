@@ -1,5 +1,6 @@
 //! The messages that were sent: how one more is sent, and what a message brings.
-ghost use Rattle.std.specs.Prelude.{◌≡◌, option_map};
+ghost use Rattle.std.specs.Prelude.{◌≡◌, ◌<◌, ◌∷◌, ◌++◌, [], length, option_map, vec_capacity, vec_len};
+ghost use Rattle.pair_events.specs.declared.reply.Reply.TheVariants as reply;
 ghost use Rattle.ft_world.specs.Messages as table;
 
 use crate::message::Message;
@@ -17,6 +18,17 @@ pub(crate) fn say(messages: &mut Vec<Message>, message: Message) -> R<Reply>
     let number = messages.len() as u64;
     messages.push(message)?;
     Ok(Reply::Message { message: number })
+}
+
+/// A message is sent, for which there is room; returns its number.
+pub(crate) fn say_reserved(messages: &mut Vec<Message>, message: Message) -> Reply
+    requires { vec_len messages.old < vec_capacity messages.old }
+    ensures number { result ≡ reply.Message (length messages.old.items) }
+    ensures sent { messages.new.items ≡ messages.old.items ++ message ∷ [] }
+{
+    let number = messages.len() as u64;
+    messages.push_reserved(message);
+    Reply::Message { message: number }
 }
 
 /// An operation is released to its device; returns the number of the message.

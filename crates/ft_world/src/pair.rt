@@ -1,5 +1,5 @@
 //! A pair with everything that it shares, how it begins, and the events that happen in it.
-ghost use Rattle.std.specs.Prelude.{◌≡◌, ◌+◌, [], ◌∷◌, ◌++◌, length, IfErr, IfOk, OnErr, OnOk};
+ghost use Rattle.std.specs.Prelude.{◌≡◌, ◌+◌, [], ◌∷◌, ◌++◌, false, true, length, IfErr, IfOk, OnErr, OnOk};
 ghost use Rattle.i8080_words.specs.declared.refusal.Fault.TheVariants.{OutOfMemory};
 ghost use Rattle.pair_protocol.specs.Copying.{Copying};
 ghost use Rattle.pair_protocol.specs.Grows.{Grows};
@@ -8,6 +8,7 @@ ghost use Rattle.shared_disk.specs.Records.{faults_in, refusal_at};
 ghost use Rattle.ft_world.specs.Applies.{IsFaithful, IsSectorOf, Runs, Shows, ShowsSome, failures_over};
 ghost use Rattle.ft_world.specs.Beginning.{MayBegin, MayBeginSome, beginning};
 ghost use Rattle.ft_world.specs.Chaining.{HasApplied, HaveApplied};
+ghost use Rattle.ft_world.specs.EventKinds.{is_at_node, is_read_or_copy};
 ghost use Rattle.ft_world.specs.Standing.{Course, machine_of};
 ghost use Rattle.ft_world.specs.Pairs.{running_of};
 ghost use Rattle.ft_world.specs.Staying.{SparesLeft};
@@ -74,8 +75,6 @@ impl<B: Copies<H> + Drop, D: SectorStore, H: Drop> Pair<B, D, H> {
     {
         match event {
             Event::Step { node, turns } => self.step(node, turns),
-            Event::TypeByte { port, byte } => self.type_byte(port, byte),
-            Event::TakeKey { node, port, index } => self.take_key(node, port, index),
             Event::Send { node, index } => self.send(alloc, node, index),
             Event::DeliverLog { message, node } => self.deliver_log(message, node),
             Event::Acknowledge { node } => self.acknowledge(alloc, node),
@@ -83,23 +82,50 @@ impl<B: Copies<H> + Drop, D: SectorStore, H: Drop> Pair<B, D, H> {
                 message, node,
             ),
             Event::Replay { node, turns } => self.replay(node, turns),
+            Event::Suspect { node } => self.suspect(node),
+            Event::Drain { node, turns } => self.drain(node, turns),
+            Event::Stop { node } => self.stop(node),
+            _ => self.apply_at_device(alloc, event),
+        }
+    }
+
+    // An event happens at a terminal or at the disk, or with the copy of a machine.
+    fn apply_at_device(&mut self, alloc: Global, event: Event) -> R<Reply>
+        requires shown { ShowsSome B.state B.copied B.machine D.records (running_of self.old) }
+        requires beyond { is_at_node event ≡ false }
+        ensures { HasApplied B.state B.copied B.machine D.records D.failures B.writes B.stale (running_of self.old) event result
+            (running_of self.new) }
+    {
+        match event {
+            Event::TypeByte { port, byte } => self.type_byte(port, byte),
+            Event::TakeKey { node, port, index } => self.take_key(node, port, index),
             Event::Release { node, id } => self.release(alloc, node, id),
             Event::Arrive { message } => self.arrive(message),
             Event::TellSent { node, port, number } => self.tell_sent(node, port, number),
             Event::Told { node, port } => self.tell(node, port),
             Event::Put { message } => self.put(message),
             Event::PutReply { message, node } => self.put_reply(message, node),
+            _ => self.apply_with_copies(alloc, event),
+        }
+    }
+
+    // A sector is read, or an event happens with the copy of a machine.
+    fn apply_with_copies(&mut self, alloc: Global, event: Event) -> R<Reply>
+        requires shown { ShowsSome B.state B.copied B.machine D.records (running_of self.old) }
+        requires beyond { is_read_or_copy event ≡ true }
+        ensures { HasApplied B.state B.copied B.machine D.records D.failures B.writes B.stale (running_of self.old) event result
+            (running_of self.new) }
+    {
+        match event {
             Event::Get { node, sector } => self.get(alloc, node, sector),
             Event::GetReply { message, node } => self.get_reply(message, node),
             Event::Fetch { node } => self.fetch(alloc, node),
             Event::Fetched { message, node } => self.fetched(message, node),
-            Event::Suspect { node } => self.suspect(node),
-            Event::Drain { node, turns } => self.drain(node, turns),
-            Event::Stop { node } => self.stop(node),
             Event::BeginPair { node, host } => self.begin_pair(alloc, node, host),
             Event::SendPart { node, index } => self.send_part(alloc, node, index),
             Event::PartComes { message, node } => self.part_comes(alloc, message, node),
             Event::Freshen { node, pages } => self.freshen(alloc, node, pages),
+            _ => unreachable!(),
         }
     }
 
@@ -120,10 +146,7 @@ impl<B: Copies<H> + Drop, D: SectorStore, H: Drop> Pair<B, D, H> {
         let mut answers = Vec::with_capacity(alloc, events.len())?;
         for event in events {
             let answer = self.apply(alloc, *event);
-            match answers.push(answer) {
-                Ok(()) => {}
-                Err(_) => unreachable!(),
-            }
+            answers.push_reserved(answer);
         }
         Ok(answers)
     }
@@ -163,9 +186,7 @@ impl<B: Copies<H> + Drop, D: SectorStore, H: Drop> Pair<B, D, H> {
             Err(_) => return Err((resources, Fault::OutOfMemory)),
         }
         let number = self.hosts.len() as u64;
-        match self.hosts.push(Host::Spare(resources)) {
-            Ok(()) => Ok(number),
-            Err(_) => unreachable!(),
-        }
+        self.hosts.push_reserved(Host::Spare(resources));
+        Ok(number)
     }
 }

@@ -11,8 +11,8 @@ use Rattle.ft_world.proofs.pair.Pair.host.Goals as goal
 
 pub returns-clause-ok : goal.returns-clause-ok
 returns-clause-ok g c = λ course h.
-    let e : c.push.new.self.items ≡ c.args.self.now.hosts.items ++ host.Spare c.args.resources ∷ [] =
-    cc (c.in-Ok-push.ensures.items, c.reserve.ensures.items, c.in-Ok.ensures.items) in
+    let e : c.push_reserved.new.self.items ≡ c.args.self.now.hosts.items ++ host.Spare c.args.resources ∷ [] =
+    cc (c.push_reserved.ensures.items, c.reserve.ensures.items, c.in-Ok.ensures.items) in
     subst
     (λ hs. Shows g.B.Lockstep.state g.B.Copies.copied g.B.Lockstep.machine g.D.SectorStore.records
     (record (running_of c.args.self.now) { hosts = hs })
@@ -35,6 +35,6 @@ returns-clause-grows g c = λ course h.
 
 pub returns-clause-others : goal.returns-clause-others
 returns-clause-others g c =
-    let e : c.push.new.self.items ≡ c.args.self.now.hosts.items ++ host.Spare c.args.resources ∷ [] =
-    cc (c.in-Ok-push.ensures.items, c.reserve.ensures.items, c.in-Ok.ensures.items) in
+    let e : c.push_reserved.new.self.items ≡ c.args.self.now.hosts.items ++ host.Spare c.args.resources ∷ [] =
+    cc (c.push_reserved.ensures.items, c.reserve.ensures.items, c.in-Ok.ensures.items) in
     ap (λ hs. record (running_of c.args.self.now) { hosts = hs }) e

@@ -41,24 +41,24 @@ loop-event-preserved g c = record {
   runs = λ course h.
       runs_on g.B.Lockstep.state g.B.Copies.copied g.B.Lockstep.machine g.D.SectorStore.records (running_of c.args.self.now)
       (running_of c.loop-event.self) (running_of c.apply-answer.new.self) course c.args.events.now
-      c.loop-event.event-index (event.Step 0 0) c.loop-event.answers.items c.push.new.self.items
+      c.loop-event.event-index (event.Step 0 0) c.loop-event.answers.items c.push_reserved.new.self.items
       c.apply-answer.result h c.loop-event-test.true
-      c.in-Ok.ensures.items (c.loop-event.invariant.runs course h) c.apply-answer.ensures.row;
+      c.push_reserved.ensures.items (c.loop-event.invariant.runs course h) c.apply-answer.ensures.row;
   each = applied_on g.B.Lockstep.state g.B.Copies.copied g.B.Lockstep.machine g.D.SectorStore.records
       g.D.SectorStore.failures g.B.Lockstep.writes g.B.Lockstep.stale (running_of c.args.self.now) (running_of c.loop-event.self)
       (running_of c.apply-answer.new.self) c.args.events.now c.loop-event.event-index (event.Step 0 0)
-      c.loop-event.answers.items c.push.new.self.items c.apply-answer.result c.loop-event-test.true c.in-Ok.ensures.items
+      c.loop-event.answers.items c.push_reserved.new.self.items c.apply-answer.result c.loop-event-test.true c.push_reserved.ensures.items
       c.loop-event.invariant.each c.apply-answer.ensures;
   counted = counts_on c.args.events.now c.loop-event.event-index (event.Step 0 0) c.loop-event.answers.items
-      c.push.new.self.items c.apply-answer.result (g.D.SectorStore.failures c.args.self.now.disk)
+      c.push_reserved.new.self.items c.apply-answer.result (g.D.SectorStore.failures c.args.self.now.disk)
       (g.D.SectorStore.failures c.loop-event.self.disk) (g.D.SectorStore.failures c.apply-answer.new.self.disk)
-      c.loop-event-test.true (sym c.loop-event.answers.ok.0 ∙ c.loop-event.invariant.many) c.in-Ok.ensures.items c.loop-event.invariant.counted
+      c.loop-event-test.true (sym c.loop-event.answers.ok.0 ∙ c.loop-event.invariant.many) c.push_reserved.ensures.items c.loop-event.invariant.counted
       c.apply-answer.ensures.counted;
   spares = left_then c.loop-event.invariant.spares
       (after_event (get_or c.args.events.now c.loop-event.event-index (event.Step 0 0)) c.apply-answer.result
       c.loop-event.self.hosts.items c.apply-answer.new.self.hosts.items c.apply-answer.ensures.spares);
-  many = c.in-Ok.ensures.len ∙ ap (λ n. n + 1) c.loop-event.invariant.many;
-  room = omega (arith, c.loop-event.invariant.room, c.in-Ok.ensures.capacity);
+  many = c.push_reserved.ensures.len ∙ ap (λ n. n + 1) c.loop-event.invariant.many;
+  room = omega (arith, c.loop-event.invariant.room, c.push_reserved.ensures.capacity);
 }
 
 pub returns-clause-ok : goal.returns-clause-ok
