@@ -1,7 +1,6 @@
 //! Numbers that are drawn, and bytes that are folded, as in the independent program that made the expected folds.
 
-/// Numbers drawn by x = x * 1664525 + 1013904223 modulo 2^32: a byte is the highest eight bits of x, and a word is two bytes, high
-/// byte first.
+/// Numbers drawn by x = x * 1664525 + 1013904223 modulo 2^32: a byte is the highest eight bits of x.
 #[derive(Drop)]
 pub(crate) struct Draw {
     drawn: u32,
@@ -16,12 +15,6 @@ impl Draw {
     pub(crate) fn byte(&mut self) -> u8 {
         self.drawn = self.drawn.wrapping_mul(1664525).wrapping_add(1013904223);
         (self.drawn >> 24) as u8
-    }
-
-    pub(crate) fn word(&mut self) -> u16 {
-        let high = self.byte();
-        let low = self.byte();
-        u16::from_be_bytes([high, low])
     }
 }
 

@@ -1,14 +1,11 @@
-//! Tests of the processor, of the devices, of the guest's memory and its board, of the second executor, by itself and against the
-//! first, and of parts of an image that no primary sends, over the public items of their crates: a crate of their own, so that
-//! those are proved once.
+//! Tests of the processor, of the devices, of the guest's memory, and of parts of an image that no primary sends, over the public items
+//! of their crates: a crate of their own, so that those are proved once.
 #![tactic(auto)]
 
 #[cfg(test)]
 mod completions;
 #[cfg(test)]
 mod disk;
-#[cfg(test)]
-mod executors;
 #[cfg(test)]
 mod folds;
 #[cfg(test)]
@@ -17,8 +14,6 @@ mod images;
 mod memory;
 #[cfg(test)]
 mod serial;
-#[cfg(test)]
-mod singles;
 #[cfg(test)]
 mod steps;
 #[cfg(test)]

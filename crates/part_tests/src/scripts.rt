@@ -1,4 +1,4 @@
-//! Scripts that are bad, and where. What good ones say, and that a script may be too long, is in tests/transcripts and in `endings`.
+//! Scripts that are bad, and where. What good ones say, and that a script may be too long, is in tests/transcripts and tests/ends.
 use script_language::{ScriptError, parse};
 
 // Scripts, with the first bad line of each.

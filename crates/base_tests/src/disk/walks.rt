@@ -1,13 +1,11 @@
-//! Long walks of the drives by calls drawn at random: of the controller, and of the second executor's drives beside it. The expected
-//! folds were made by an independent program.
+//! Long walks of the controller by calls drawn at random. The expected folds were made by an independent program. The second executor's
+//! drives are proved to do what the same table says.
 //!
 //! Walk r draws from x = r, has r mod 4 + 1 drives, and makes 2,000 rounds. A round draws which call it makes, modulo 16, and a byte for
 //! it; it folds what the call returns, and at its end the status and the line. An answer is folded as 0, or as the number of its refusal.
 use crate::folds::{Draw, Fold};
 use disk_dcdd::*;
 use i8080_words::{GREATEST_NUMBER, R};
-use plain_single::DiskDrives;
-use std::alloc::Global;
 use std::process::Abort;
 
 #[rattlefmt::skip]
@@ -46,155 +44,109 @@ fn fold_write(fold: &mut Fold, write: &SectorWrite) {
     fold.bytes(&write.bytes);
 }
 
-// A controller, the second executor's drives, which are given the same calls, and the fold of what both have answered.
-#[derive(Drop)]
-struct Walk {
-    controller: Controller,
-    drives: DiskDrives,
-    fold: Fold,
+// Brings a sector under the head.
+fn bring(disk: &mut Controller, fold: &mut Fold, sector: u8, bytes: [u8; SECTOR_BYTES]) {
+    fold.byte(number_of(disk.sector(sector, bytes)));
 }
 
-impl Walk {
-    // Folds an answer that both have given.
-    fn agree(&mut self, rt: &impl Abort, first: u8, second: u8) {
-        assert!(rt; first == second);
-        self.fold.byte(first);
+// Sends a byte, and folds the write that it completes, or 0.
+fn send(rt: &impl Abort, disk: &mut Controller, fold: &mut Fold, byte: u8) {
+    assert!(rt; disk.issued() < GREATEST_NUMBER);
+    match disk.data_out(byte) {
+        None => fold.byte(0),
+        Some(write) => fold_write(fold, &write),
     }
+}
 
-    fn select(&mut self, byte: u8) {
-        self.controller.select(byte);
-        self.drives.select(byte);
+// Sends this many bytes, that count up from the first one, each exclusive-ored with another.
+fn send_all(
+    rt: &impl Abort,
+    disk: &mut Controller,
+    fold: &mut Fold,
+    first: u8,
+    crossed: u8,
+    count: u8,
+) {
+    for place in 0..count {
+        send(rt, disk, fold, first.wrapping_add(place) ^ crossed);
     }
+}
 
-    fn command(&mut self, byte: u8) {
-        self.controller.command(byte);
-        self.drives.command(byte);
-    }
+fn finish(rt: &impl Abort, disk: &mut Controller, fold: &mut Fold, drawn: u8) {
+    let issued = disk.issued();
+    assert!(rt; issued < GREATEST_NUMBER);
+    let number = 1 + u64::from(drawn) % (issued + 2);
+    fold.byte(number_of(disk.written(number)));
+}
 
-    fn look(&mut self, rt: &impl Abort) {
-        let (first, second) = (self.controller.position(), self.drives.position());
-        self.agree(rt, first, second);
+// The calls that select, step, look and bring sectors.
+fn call(disk: &mut Controller, fold: &mut Fold, kind: u8, drawn: u8) {
+    match kind {
+        0 => disk.select(drawn),
+        1 => disk.select(drawn & 3),
+        2 => disk.command(drawn),
+        3 => disk.command(0x04),
+        4 => disk.command(drawn & 0x17),
+        5 => disk.command(0x01),
+        6 => fold.byte(disk.position()),
+        7 => bring(disk, fold, drawn & 31, counting_from(drawn)),
+        _ => bring(disk, fold, drawn & 63, counting_from(drawn)),
     }
+}
 
-    // Brings a sector under the head.
-    fn bring(&mut self, rt: &impl Abort, sector: u8, bytes: [u8; SECTOR_BYTES]) {
-        let first = self.controller.sector(sector, bytes);
-        let second = self.drives.arrive(sector, bytes);
-        self.agree(rt, number_of(first), number_of(second));
+// Reads this many bytes.
+fn read_all(disk: &mut Controller, fold: &mut Fold, count: u8) {
+    for _ in 0..count {
+        fold.byte(disk.data_in());
     }
+}
 
-    fn read(&mut self, rt: &impl Abort) {
-        let (first, second) = (self.controller.data_in(), self.drives.read());
-        self.agree(rt, first, second);
-    }
+// Writes all of a sector of zeros.
+fn write_whole(rt: &impl Abort, disk: &mut Controller, fold: &mut Fold, drawn: u8) {
+    disk.command(0x04);
+    bring(disk, fold, drawn & 31, [0; SECTOR_BYTES]);
+    disk.command(0x80);
+    send_all(rt, disk, fold, drawn, 0, 137);
+}
 
-    // Sends a byte, and folds the write that it completes, or 0.
-    fn send(&mut self, rt: &impl Abort, byte: u8) -> R<()> {
-        let issued = self.drives.writes.len();
-        assert!(rt; (issued as u64) < GREATEST_NUMBER && self.controller.issued() == issued as u64);
-        self.drives.fill(byte)?;
-        let write = self.controller.data_out(byte);
-        assert!(rt; write.as_ref() == self.drives.writes.get(issued));
-        match write {
-            None => self.fold.byte(0),
-            Some(write) => fold_write(&mut self.fold, &write),
-        }
-        Ok(())
+// The calls that read and write the bytes of sectors, and complete writes.
+fn transfer(rt: &impl Abort, disk: &mut Controller, fold: &mut Fold, kind: u8, drawn: u8) {
+    match kind {
+        9 => read_all(disk, fold, drawn),
+        10 => send_all(rt, disk, fold, drawn, 0, drawn % 160),
+        11 => disk.command(0x80),
+        12 => write_whole(rt, disk, fold, drawn),
+        13 => send_all(rt, disk, fold, 0, drawn, 137),
+        14 => finish(rt, disk, fold, drawn),
+        _ => {}
     }
+}
 
-    // Sends this many bytes, that count up from the first one, each exclusive-ored with another.
-    fn send_all(&mut self, rt: &impl Abort, first: u8, crossed: u8, count: u8) -> R<()> {
-        for place in 0..count {
-            self.send(rt, first.wrapping_add(place) ^ crossed)?;
-        }
-        Ok(())
+fn round(rt: &impl Abort, disk: &mut Controller, fold: &mut Fold, kind: u8, drawn: u8) {
+    if kind < 9 {
+        call(disk, fold, kind, drawn);
+    } else {
+        transfer(rt, disk, fold, kind, drawn);
     }
-
-    fn finish(&mut self, rt: &impl Abort, drawn: u8) {
-        let issued = self.controller.issued();
-        assert!(rt; issued < GREATEST_NUMBER);
-        let number = 1 + u64::from(drawn) % (issued + 2);
-        let (first, second) = (self.controller.written(number), self.drives.finish(number));
-        self.agree(rt, number_of(first), number_of(second));
-    }
-
-    // The calls that select, step, read and bring sectors.
-    fn call(&mut self, rt: &impl Abort, kind: u8, drawn: u8) {
-        match kind {
-            0 => self.select(drawn),
-            1 => self.select(drawn & 3),
-            2 => self.command(drawn),
-            3 => self.command(0x04),
-            4 => self.command(drawn & 0x17),
-            5 => self.command(0x01),
-            6 => self.look(rt),
-            7 => self.bring(rt, drawn & 31, counting_from(drawn)),
-            _ => self.bring(rt, drawn & 63, counting_from(drawn)),
-        }
-    }
-
-    // Writes all of a sector of zeros.
-    fn write_whole(&mut self, rt: &impl Abort, drawn: u8) -> R<()> {
-        self.command(0x04);
-        self.bring(rt, drawn & 31, [0; SECTOR_BYTES]);
-        self.command(0x80);
-        self.send_all(rt, drawn, 0, 137)
-    }
-
-    // The calls that read and write the bytes of sectors, and complete writes.
-    fn transfer(&mut self, rt: &impl Abort, kind: u8, drawn: u8) -> R<()> {
-        match kind {
-            9 => {
-                for _ in 0..drawn {
-                    self.read(rt);
-                }
-            }
-            10 => self.send_all(rt, drawn, 0, drawn % 160)?,
-            11 => self.command(0x80),
-            12 => self.write_whole(rt, drawn)?,
-            13 => self.send_all(rt, 0, drawn, 137)?,
-            14 => self.finish(rt, drawn),
-            _ => {}
-        }
-        Ok(())
-    }
-
-    fn round(&mut self, rt: &impl Abort, kind: u8, drawn: u8) -> R<()> {
-        if kind < 9 {
-            self.call(rt, kind, drawn);
-        } else {
-            self.transfer(rt, kind, drawn)?;
-        }
-        let (first, second) = (self.controller.status(), self.drives.status());
-        self.agree(rt, first, second);
-        let (first, second) = (self.controller.line(), self.drives.asks());
-        self.agree(rt, u8::from(first), u8::from(second));
-        Ok(())
-    }
+    fold.byte(disk.status());
+    fold.byte(u8::from(disk.line()));
 }
 
 // The fold at the end of a walk.
-fn folded_by(rt: &impl Abort, alloc: Global, number: u8) -> R<u32> {
+fn folded_by(rt: &impl Abort, number: u8) -> u32 {
     let mut draw = Draw::new(u32::from(number));
-    let mut walk = Walk {
-        controller: Controller::new(number % 4 + 1),
-        drives: DiskDrives::new(alloc, number % 4 + 1),
-        fold: Fold::new(),
-    };
+    let mut fold = Fold::new();
+    let mut disk = Controller::new(number % 4 + 1);
     for _ in 0..2000 {
         let kind = draw.byte() % 16;
-        walk.round(rt, kind, draw.byte())?;
+        round(rt, &mut disk, &mut fold, kind, draw.byte());
     }
-    Ok(walk.fold.folded)
+    fold.folded
 }
 
 #[test]
-fn walks_fold_to_the_numbers_of_another_program(rt: HostRuntime) -> R<()> {
+fn walks_fold_to_the_numbers_of_another_program(rt: HostRuntime) {
     for (number, folded) in (0..64).zip(&FOLDED) {
-        assert!(rt;
-            folded_by(&rt, rt.alloc(), number)? == *folded,
-            "walk {number}"
-        );
+        assert!(rt; folded_by(&rt, number) == *folded, "walk {number}");
     }
-    Ok(())
 }

@@ -1,19 +1,16 @@
-//! Each code from 256 states, in both executors. The expected folds were made by an independent program, whose arithmetic produces
+//! Each code from 256 states. The expected folds were made by an independent program, whose arithmetic produces
 //! the published checksums of an 8080 exerciser.
 //!
 //! Memory holds the 65,536 bytes drawn from x = 8080. For each code, numbers are drawn from x = code; a round draws A, F, B, C, D, E,
 //! H, L, SP, PC and two bytes of data, which go after the code at PC, and executes one step with interrupts off. IN p reads p XOR 5A.
 //! A round folds the registers, the interrupts (0 off, 1 soon, 2 on), whether the processor is halted, each port access (49 and the
 //! port; 4F, the port and the byte), and the sum over the bytes written of (address * 256 + byte) * 2654435761 modulo 2^32, highest
-//! byte first. The second executor makes the same step, and must do the same.
+//! byte first. The second executor is proved to do what the same definitions say.
 
 use super::machine::{Machine, PortAccess};
 use crate::folds::{Draw, Fold};
-use guest_board::Setup;
-use guest_lockstep::Reads;
-use i8080_core::{Bus, Cpu};
-use i8080_words::{AddressRegister, Fault, Interrupts, Processor, R, Regs, of_psw, psw};
-use plain_single::{Wires, run};
+use i8080_core::Cpu;
+use i8080_words::{AddressRegister, Interrupts, Processor, R, Regs, of_psw, psw};
 use std::alloc::Global;
 use std::process::Abort;
 
@@ -53,26 +50,44 @@ static FOLDED: [u32; 256] = [
     0xa2fa_72d5, 0x2d94_cea4, 0xfb0c_0cf2, 0x561c_c9cc, 0x6fc8_2e74, 0x9138_8a10, 0x2f08_37a6, 0x3b6e_736c,
 ];
 
+// What a round draws: registers, flags, and the data after the code.
+fn drawn_bytes(draw: &mut Draw) -> [u8; 14] {
+    let mut bytes = [0; 14];
+    for byte in bytes.iter_mut() {
+        *byte = draw.byte();
+    }
+    bytes
+}
+
 // A processor with drawn registers, whose interrupts are off.
-fn drawn_processor(draw: &mut Draw) -> Processor {
-    let a = draw.byte();
-    let flags = of_psw(draw.byte());
-    let (b, c) = (draw.byte(), draw.byte());
-    let (d, e) = (draw.byte(), draw.byte());
-    let (h, l) = (draw.byte(), draw.byte());
-    let sp = AddressRegister::new(draw.word());
-    let pc = AddressRegister::new(draw.word());
-    let regs = Regs {
+fn processor_of(drawn: [u8; 14]) -> Processor {
+    let [
         a,
-        flags,
+        f,
         b,
         c,
         d,
         e,
         h,
         l,
-        sp,
-        pc,
+        sp_high,
+        sp_low,
+        pc_high,
+        pc_low,
+        _,
+        _,
+    ] = drawn;
+    let regs = Regs {
+        a,
+        flags: of_psw(f),
+        b,
+        c,
+        d,
+        e,
+        h,
+        l,
+        sp: AddressRegister::new(u16::from_be_bytes([sp_high, sp_low])),
+        pc: AddressRegister::new(u16::from_be_bytes([pc_high, pc_low])),
     };
     Processor {
         regs,
@@ -103,117 +118,72 @@ fn fold_processor(fold: &mut Fold, processor: &Processor) {
     fold.byte(u8::from(processor.halted));
 }
 
-fn fold_port(fold: &mut Fold, access: Option<PortAccess>) {
+fn fold_port(fold: &mut Fold, access: &Option<PortAccess>) {
     match access {
         None => {}
-        Some(PortAccess::In(port)) => fold.bytes(&[0x49, port]),
-        Some(PortAccess::Out(port, byte)) => fold.bytes(&[0x4f, port, byte]),
+        Some(PortAccess::In(port)) => fold.bytes(&[0x49, *port]),
+        Some(PortAccess::Out(port, byte)) => fold.bytes(&[0x4f, *port, *byte]),
     }
 }
 
-// What both executors execute on, with the same bytes in memory, and those that it has before and after each round.
-#[derive(Drop)]
-struct Memories {
-    machine: Machine,
-    wires: Wires,
-    before: Vec<u8>,
+// Puts the byte that memory had before the first round.
+fn restore(machine: &mut Machine, before: &[u8], address: u16) {
+    let byte = before.get(address as usize).copied().unwrap_or(0);
+    machine.put(address, byte);
 }
 
-impl Memories {
-    fn put(&mut self, address: u16, byte: u8) {
-        self.machine.put(address, byte);
-        self.wires.memory.write(address, byte);
+// Puts a code and its data at an address.
+fn load(machine: &mut Machine, address: u16, bytes: &[u8; 3]) {
+    let mut at = address;
+    for byte in bytes {
+        machine.put(at, *byte);
+        at = at.wrapping_add(1);
     }
+}
 
-    fn restore(&mut self, address: u16) {
-        let byte = self.before.get(address as usize).copied().unwrap_or(0);
-        self.put(address, byte);
+// Restores what a step and its code overwrote, and forgets the step.
+fn take_back(machine: &mut Machine, before: &[u8], address: u16) {
+    let written = machine.written;
+    for at in written.iter().flatten() {
+        restore(machine, before, *at);
     }
+    for offset in 0..3 {
+        restore(machine, before, address.wrapping_add(offset));
+    }
+    machine.written = [None; 2];
+    machine.port = None;
+}
 
-    // Puts a code and its data at an address.
-    fn load(&mut self, address: u16, bytes: &[u8; 3]) {
-        let mut at = address;
-        for byte in bytes {
-            self.put(at, *byte);
-            at = at.wrapping_add(1);
-        }
-    }
-
-    // Restores what a step and its code overwrote, and forgets the step.
-    fn take_back(&mut self, address: u16) {
-        let written = self.machine.written;
-        for at in written.iter().flatten() {
-            self.restore(*at);
-        }
-        for offset in 0..3 {
-            self.restore(address.wrapping_add(offset));
-        }
-        self.machine.written = [None; 2];
-        self.machine.port = None;
-    }
-
-    // The processor after a step.
-    fn stepped(&mut self, processor: &Processor) -> Processor {
-        let mut cpu = Cpu::resume(*processor);
-        let _ran = cpu.step(&mut self.machine, None);
-        *cpu.processor()
-    }
-
-    // The same step of the second executor, in which IN p is made to read p XOR 5A.
-    fn ran(&mut self, processor: &Processor) -> R<Processor> {
-        let mut after = *processor;
-        if self.wires.is_spent() {
-            return Err(Fault::Spent);
-        }
-        run(&mut after, &mut self.wires)?;
-        if let Some(PortAccess::In(port)) = self.machine.port {
-            after.regs.a = port ^ 0x5a;
-        }
-        Ok(after)
-    }
-
-    // Whether both memories have the same where a step wrote.
-    fn are_alike(&self) -> bool {
-        self.machine
-            .written
-            .iter()
-            .flatten()
-            .all(|at| self.wires.memory.read(*at) == self.machine.read(*at))
-    }
+// The processor after a step.
+fn stepped(machine: &mut Machine, processor: &Processor) -> Processor {
+    let mut cpu = Cpu::resume(*processor);
+    let _ran = cpu.step(machine, None);
+    *cpu.processor()
 }
 
 // One round of a code.
-fn round(
-    rt: &impl Abort,
-    code: u8,
-    draw: &mut Draw,
-    fold: &mut Fold,
-    memories: &mut Memories,
-) -> R<()> {
-    let processor = drawn_processor(draw);
+fn round(code: u8, draw: &mut Draw, fold: &mut Fold, machine: &mut Machine, before: &[u8]) {
+    let drawn = drawn_bytes(draw);
+    let [.., first, second] = drawn;
+    let processor = processor_of(drawn);
     let regs = processor.regs;
     let address = regs.pc.get();
-    let low = draw.byte();
-    let high = draw.byte();
-    memories.load(address, &[code, low, high]);
-    let after = memories.stepped(&processor);
-    assert!(rt; memories.ran(&processor)? == after);
-    assert!(rt; memories.are_alike());
+    load(machine, address, &[code, first, second]);
+    let after = stepped(machine, &processor);
     fold_processor(fold, &after);
-    fold_port(fold, memories.machine.port);
-    fold.bytes(&memories.machine.written_sum().to_be_bytes());
-    memories.take_back(address);
-    Ok(())
+    fold_port(fold, &machine.port);
+    fold.bytes(&machine.written_sum().to_be_bytes());
+    take_back(machine, before, address);
 }
 
 // The fold of a code after 256 rounds.
-fn folded_by(rt: &impl Abort, code: u8, memories: &mut Memories) -> R<u32> {
+fn folded_by(code: u8, machine: &mut Machine, before: &[u8]) -> u32 {
     let mut draw = Draw::new(u32::from(code));
     let mut fold = Fold::new();
     for _ in 0..256 {
-        round(rt, code, &mut draw, &mut fold, memories)?;
+        round(code, &mut draw, &mut fold, machine, before);
     }
-    Ok(fold.folded)
+    fold.folded
 }
 
 // The first 65,536 bytes drawn from 8080.
@@ -226,51 +196,19 @@ fn drawn_memory(alloc: Global) -> R<Vec<u8>> {
     Ok(bytes)
 }
 
-// The second executor's ports at boot, and this memory.
-fn wires_of(alloc: Global, memory: Vec<u8>) -> R<Wires> {
-    if memory.len() != 65536 {
-        return Err(Fault::Malformed);
+// Each code has its fold, and no step has written anywhere else.
+fn expect_folds(rt: &impl Abort, machine: &mut Machine, before: &[u8]) {
+    for (code, folded) in (0..=255).zip(&FOLDED) {
+        assert!(rt; folded_by(code, machine, before) == *folded, "code {code}");
     }
-    let setup = Setup {
-        memory,
-        drives: 1,
-        levels: [7, 7, 7],
-        sense: 0x00,
-        reads: Reads::Logged,
-    };
-    Wires::new(alloc, &setup)
-}
-
-fn memories_of(alloc: Global) -> R<Memories> {
-    let before = drawn_memory(alloc)?;
-    let machine = Machine::of(before.clone()?);
-    let wires = wires_of(alloc, before.clone()?)?;
-    Ok(Memories {
-        machine,
-        wires,
-        before,
-    })
-}
-
-// No step has written anywhere else.
-fn expect_restored(rt: &impl Abort, memories: &Memories) {
-    for (address, byte) in (0..=u16::MAX).zip(&memories.before) {
-        assert!(rt; memories.machine.read(address) == *byte);
-        assert!(rt; memories.wires.memory.read(address) == *byte);
-    }
+    assert!(rt; machine.bytes.as_slice() == before);
 }
 
 #[test]
 fn codes_fold_to_the_numbers_of_another_program(rt: HostRuntime) -> R<()> {
-    let mut memories = memories_of(rt.alloc())?;
-    let first = memories.before.first_chunk();
-    assert!(rt; first == Some(&[0x5e, 0x2a, 0x43, 0xc2, 0x6e, 0x20, 0x1f, 0x27]));
-    for (code, folded) in (0..=255).zip(&FOLDED) {
-        assert!(rt;
-            folded_by(&rt, code, &mut memories)? == *folded,
-            "code {code}"
-        );
-    }
-    expect_restored(&rt, &memories);
+    let before = drawn_memory(rt.alloc())?;
+    assert!(rt; before.starts_with(&[0x5e, 0x2a, 0x43, 0xc2, 0x6e, 0x20, 0x1f, 0x27]));
+    let mut machine = Machine::of(before.clone()?);
+    expect_folds(&rt, &mut machine, &before);
     Ok(())
 }
