@@ -13,7 +13,7 @@ use std::alloc::Global;
 const BYTES: u64 = 1 << 20;
 
 /// What a guest alone has come to.
-#[derive(Drop)]
+#[derive(Clone, Copy)]
 pub struct Alone {
     pub regs: Regs,
     pub steps: u64,

@@ -13,7 +13,7 @@ use hex::FromHex;
 use i8080_core::Cpu;
 use i8080_words::{R, Regs};
 use plain_single::Single;
-use std::alloc::{AllocError, Global};
+use std::alloc::Global;
 
 // The bytes of a program, each of two hex digits.
 fn program_of(alloc: Global, words: &[String]) -> Result<Vec<u8>> {
@@ -26,23 +26,18 @@ fn program_of(alloc: Global, words: &[String]) -> Result<Vec<u8>> {
 }
 
 // Runs the processor by itself, over a flat memory.
-fn run_processor(alloc: Global, setup: &Setup, steps: u64) -> Result<Regs, AllocError> {
+fn run_processor(setup: Setup, steps: u64) -> Regs {
     let mut memory = FlatMemory {
-        bytes: Vec::from_slice(alloc, &setup.memory)?,
+        bytes: setup.memory,
     };
-    Ok(run_over(&mut memory, steps))
-}
-
-// Runs the processor over this memory.
-fn run_over(memory: &mut FlatMemory, steps: u64) -> Regs {
     let mut cpu = Cpu::reset();
     let mut left = steps;
     for _ in 0..steps {
-        left -= cpu.run_quietly(memory, left);
+        left -= cpu.run_quietly(&mut memory, left);
         if left == 0 {
             break;
         }
-        let _ = cpu.step(memory, None);
+        let _ = cpu.step(&mut memory, None);
         left -= 1;
     }
     cpu.processor().regs
@@ -55,11 +50,11 @@ fn run_single(alloc: Global, setup: &Setup, steps: u64) -> R<Regs> {
 }
 
 // The registers that the program reaches on this executor.
-fn regs_on(alloc: Global, executor: &str, setup: &Setup, steps: u64) -> Result<Regs> {
+fn regs_on(alloc: Global, executor: &str, setup: Setup, steps: u64) -> Result<Regs> {
     match executor {
-        "processor" => Ok(run_processor(alloc, setup, steps)?),
-        "board" => Ok(alone::run(alloc, setup, steps)?.regs),
-        "single" => Ok(run_single(alloc, setup, steps)?),
+        "processor" => Ok(run_processor(setup, steps)),
+        "board" => Ok(alone::run(alloc, &setup, steps)?.regs),
+        "single" => Ok(run_single(alloc, &setup, steps)?),
         _ => bail!("no executor {executor}"),
     }
 }
@@ -69,7 +64,7 @@ fn execute<H: Print>(
     rt: &H,
     alloc: Global,
     executor: &str,
-    setup: &Setup,
+    setup: Setup,
     steps: u64,
 ) -> Result<()> {
     let regs = regs_on(alloc, executor, setup, steps)?;
@@ -109,6 +104,6 @@ pub fn run<H: Print>(
     let setup = setup_of(alloc, &program_of(alloc, words)?)?;
     match Made::of(what) {
         Some(made) => make(rt, alloc, &setup, what, made, number),
-        None => execute(rt, alloc, what, &setup, number),
+        None => execute(rt, alloc, what, setup, number),
     }
 }

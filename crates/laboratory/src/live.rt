@@ -21,7 +21,6 @@ use compare::compare;
 use difference::Difference;
 use done::Done;
 use i8080_words::{Fault, R};
-use pair::PairEnd;
 use std::alloc::Global;
 use std::thread::Threads;
 use std::time::{Clock, Instant};
@@ -38,48 +37,21 @@ fn make_run<H: Threads + Sync + Clock>(
     run_case(rt, alloc, &case)
 }
 
-// Runs a pair, and judges how it ends.
+// Runs a pair, and compares its end with one machine, if it is to come to one.
 fn run_case<H: Threads + Sync + Clock>(
     rt: &H,
     alloc: Global,
     case: &Case,
 ) -> Result<(), Difference> {
     match pair::run(rt, alloc, case, &case.how.gate) {
-        Ok(mut end) => judge_end(alloc, case, &mut end),
-        Err(fault) => judge_fault(case, fault),
+        Ok(_) if case.how.stalls => Err(Difference::Said("it came to an end in too few turns")),
+        Ok(mut end) => compare(alloc, case, &mut end),
+        Err(Fault::Stalled) if case.how.stalls => Ok(()),
+        Err(fault) => Err(Difference::Failed(fault)),
     }
 }
 
-// Compares the end of a pair with one machine, if it is to come to one.
-fn judge_end(alloc: Global, case: &Case, end: &mut PairEnd) -> Result<(), Difference> {
-    if case.how.stalls {
-        return Err(Difference::Said("it came to an end in too few turns"));
-    }
-    compare(alloc, case, end)
-}
-
-// Whether a pair is to come to no end.
-fn judge_fault(case: &Case, fault: Fault) -> Result<(), Difference> {
-    match fault {
-        Fault::Stalled if case.how.stalls => Ok(()),
-        _ => Err(Difference::Failed(fault)),
-    }
-}
-
-// Makes one run of a seed. It is an error if it does not end as one machine does.
-fn check_run<H: Threads + Sync + Clock>(
-    rt: &H,
-    alloc: Global,
-    seed: u64,
-    number: u64,
-) -> Result<()> {
-    match make_run(rt, alloc, seed, number) {
-        Ok(()) => Ok(()),
-        Err(difference) => bail!("run {number}, seed {seed}: {difference}"),
-    }
-}
-
-// Makes so many runs of a seed, up to the first that is an error.
+// Makes so many runs of a seed. The first that does not end as one machine does is an error.
 fn make_runs<H: Threads + Sync + Clock + Print>(
     rt: &H,
     alloc: Global,
@@ -87,7 +59,9 @@ fn make_runs<H: Threads + Sync + Clock + Print>(
     count: u64,
 ) -> Result<()> {
     for number in 0..count {
-        check_run(rt, alloc, seed, number)?;
+        if let Err(difference) = make_run(rt, alloc, seed, number) {
+            bail!("run {number}, seed {seed}: {difference}");
+        }
     }
     println!(rt; "{count} runs, seed {seed}: all as one machine does")?;
     Ok(())
@@ -96,7 +70,7 @@ fn make_runs<H: Threads + Sync + Clock + Print>(
 // Runs the guest of a case alone, and prints how long that takes.
 fn time_alone<H: Clock + Print>(rt: &H, alloc: Global, case: &Case) -> Result<()> {
     let start = Instant::now(rt)?;
-    let done = Done::alone(&alone::run(alloc, &case.given.setup, u64::MAX)?);
+    let done = Done::alone(alone::run(alloc, &case.given.setup, u64::MAX)?);
     let micros = start.elapsed(rt)?.as_micros();
     println!(rt; "{done} in {micros} microseconds")?;
     Ok(())

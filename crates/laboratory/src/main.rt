@@ -47,18 +47,12 @@ fn measure<H: Threads + Wait + Sync + Clock + Print>(
     }
 }
 
-// The arguments.
-fn words_of(rt: &HostRuntime) -> Result<Vec<String>> {
-    let mut words = Vec::new(rt.alloc());
-    for word in env::args(rt)?.skip(1) {
-        words.push(word)?;
-    }
-    Ok(words)
-}
-
 // Arguments: commands, with `--` between them.
 fn main(rt: HostRuntime) -> Result<()> {
-    let words = words_of(&rt)?;
+    let mut words = Vec::new(rt.alloc());
+    for word in env::args(&rt)?.skip(1) {
+        words.push(word)?;
+    }
     for command in words.split(|word| word.as_str() == "--") {
         carry_out(&rt, rt.alloc(), command)?;
     }

@@ -4,7 +4,6 @@ mod channels;
 mod rings;
 mod steps;
 mod threads;
-mod ways;
 
 use anyhow::{Result, bail};
 use pair_rule::Fabric;
@@ -40,8 +39,8 @@ fn last_of<H: Threads + Wait + Sync>(
     if what == "threads" {
         return run_threads(rt, alloc, rounds);
     }
-    match last_index(rt, alloc, what, rounds)? {
-        Some(last) => Ok(last),
+    match last_index(rt, alloc, what, rounds) {
+        Some(last) => Ok(last?),
         None => bail!("no seats work at {what}"),
     }
 }
@@ -52,15 +51,14 @@ fn last_index<H: Threads + Wait + Sync>(
     alloc: Global,
     what: &str,
     rounds: u64,
-) -> Result<Option<u64>, AllocError> {
-    let last = match what {
-        "channel" => ways::run(rt, channels::make(alloc)?, rounds),
-        "channel_threads" => ways::run_threads(rt, channels::make(alloc)?, rounds),
-        "ring" => ways::run(rt, rings::make(alloc)?, rounds),
-        "ring_threads" => ways::run_threads(rt, rings::make(alloc)?, rounds),
-        _ => return Ok(None),
-    };
-    Ok(Some(last))
+) -> Option<Result<u64, AllocError>> {
+    match what {
+        "channel" => Some(channels::run(rt, alloc, rounds)),
+        "channel_threads" => Some(channels::run_threads(rt, alloc, rounds)),
+        "ring" => Some(rings::run(alloc, rounds)),
+        "ring_threads" => Some(rings::run_threads(rt, alloc, rounds)),
+        _ => None,
+    }
 }
 
 /// Makes so many rounds of what this word names, and prints what was acknowledged last.

@@ -174,21 +174,11 @@ fn gather<T: Completes, S: Completes, W: Completes>(
 ) -> R<(Assembly, u64)> {
     board.disk().stands();
     let mut assembly = Assembly::new(alloc, GENERATION, board.disk().attached())?;
-    let parts = send_all(alloc, board, &mut assembly)?;
-    Ok((assembly, parts))
-}
-
-// All parts of the image of a board come, and are counted.
-fn send_all<T: Completes, S: Completes, W: Completes>(
-    alloc: Global,
-    board: &Board<T, S, W>,
-    assembly: &mut Assembly,
-) -> R<u64> {
     let image = image_of(alloc, board, GENERATION)?;
     for index in 0..image.parts() {
-        send(alloc, &image, index, assembly)?;
+        send(alloc, &image, index, &mut assembly)?;
     }
-    Ok(u64::from(image.parts()))
+    Ok((assembly, u64::from(image.parts())))
 }
 
 // A part of an image comes as its message.

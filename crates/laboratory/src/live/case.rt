@@ -28,31 +28,30 @@ pub struct Given {
 impl Given {
     /// A program without inputs.
     pub fn quiet(alloc: Global, program: &[u8]) -> R<Given> {
-        Given::new(
-            alloc,
-            program,
-            Vec::new(alloc),
-            [Vec::new(alloc), Vec::new(alloc)],
-        )
+        Given::typed(alloc, program, [Vec::new(alloc), Vec::new(alloc)])
     }
 
-    /// A program with this on its disk, at whose ports this is typed.
-    pub fn new(
-        alloc: Global,
-        program: &[u8],
-        sectors: Vec<SectorWrite>,
-        typed: [Vec<u8>; 2],
-    ) -> R<Given> {
+    /// A program at whose ports this is typed.
+    pub fn typed(alloc: Global, program: &[u8], typed: [Vec<u8>; 2]) -> R<Given> {
+        Ok(Given {
+            setup: setup_of(alloc, program)?,
+            sectors: Vec::new(alloc),
+            typed,
+        })
+    }
+
+    /// A program with this on its disk.
+    pub fn stored(alloc: Global, program: &[u8], sectors: Vec<SectorWrite>) -> R<Given> {
         Ok(Given {
             setup: setup_of(alloc, program)?,
             sectors,
-            typed,
+            typed: [Vec::new(alloc), Vec::new(alloc)],
         })
     }
 }
 
 /// How a pair runs.
-#[derive(Drop)]
+#[derive(Clone, Copy)]
 pub struct How {
     /// The turn at which the primary, or the backup, asks to go on alone.
     pub primary_contests: Option<u64>,
@@ -141,7 +140,7 @@ fn given_by(alloc: Global, name: &str, number: u64) -> Option<R<Given>> {
 fn keys(alloc: Global, number: usize) -> R<Given> {
     let mut typed = Vec::new(alloc);
     typed.resize(number, 0x41)?;
-    Given::new(alloc, &KEEPER, Vec::new(alloc), [typed, Vec::new(alloc)])
+    Given::typed(alloc, &KEEPER, [typed, Vec::new(alloc)])
 }
 
 // A number of two bytes from 1 up, the nearest to this one.

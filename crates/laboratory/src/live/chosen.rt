@@ -29,13 +29,13 @@ fn given_of(alloc: Global, chance: &mut Chance) -> R<Given> {
 fn echoing(alloc: Global, chance: &mut Chance) -> R<Given> {
     let first = chance.bytes(alloc, 30)?;
     let second = chance.bytes(alloc, 30)?;
-    Given::new(alloc, &ECHO, Vec::new(alloc), [first, second])
+    Given::typed(alloc, &ECHO, [first, second])
 }
 
 fn storing(alloc: Global, chance: &mut Chance) -> R<Given> {
     let program = storer(chance.byte() % 6 + 1);
     let sectors = sectors_of(alloc, chance)?;
-    Given::new(alloc, &program, sectors, [Vec::new(alloc), Vec::new(alloc)])
+    Given::stored(alloc, &program, sectors)
 }
 
 // How a pair runs: its turns are too few, or somebody may ask to go on alone.

@@ -23,52 +23,33 @@ pub fn compare(alloc: Global, case: &Case, end: &mut PairEnd) -> Result<(), Diff
         None => Reached::All,
         Some(_) => Reached::Last,
     };
-    has_all_keys(alloc, case, list_of(end), reached)?;
-    let machine = Machine::follow(alloc, case, list_of(end), count_of(end))?;
-    machine.has(&end.accepted, &mut end.disk, reached)
-}
-
-// The count up to which a machine is to run: that of the primary, or of the last entry of the one that goes on alone.
-fn count_of(end: &PairEnd) -> u64 {
-    if end.winner.is_none() {
-        return end.steps;
-    }
-    match list_of(end).last() {
-        Some(entry) => entry.count(),
-        None => 0,
-    }
-}
-
-// Whether the keys of a list are those typed at each port.
-fn has_all_keys(
-    alloc: Global,
-    case: &Case,
-    list: &[Entry],
-    reached: Reached,
-) -> Result<(), Difference> {
+    let list = list_of(end);
+    let count = match reached {
+        Reached::All => end.steps,
+        Reached::Last => list.last().map_or(0, |entry| entry.count()),
+    };
     let [first, second] = &case.given.typed;
     has_keys(alloc, list, 0, first, reached)?;
-    has_keys(alloc, list, 1, second, reached)
+    has_keys(alloc, list, 1, second, reached)?;
+    let machine = Machine::follow(alloc, case, list, count)?;
+    machine.has(&end.accepted, &mut end.disk, reached)
 }
 
 // Whether only one who asked to goes on alone, and the lists and acknowledgements are those of both, or of one who may not have all.
 fn is_as_asked(case: &Case, end: &PairEnd) -> Result<(), Difference> {
-    match end.winner {
-        None => judge(
+    let entries = end.primary.len() as u64;
+    let (asked, lists, held) = match end.winner {
+        None => (
             !case.how.is_contested(),
             end.primary == end.backup,
-            end.held == end.primary.len() as u64,
+            end.held == entries,
         ),
-        Some(winner) => judge(
+        Some(winner) => (
             case.how.is_asked_by(winner),
             end.primary.starts_with(&end.backup),
             end.held <= end.backup.len() as u64,
         ),
-    }
-}
-
-// What is wrong with an end, by whether one goes on alone as asked, and the lists and the acknowledgements are as they must be.
-fn judge(asked: bool, lists: bool, held: bool) -> Result<(), Difference> {
+    };
     if !asked {
         return Err(Difference::Said("one goes on alone unasked, or nobody when asked"));
     }

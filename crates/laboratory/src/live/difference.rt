@@ -4,7 +4,7 @@ use i8080_words::Fault;
 use std::fmt;
 
 /// What differs.
-#[derive(Drop)]
+#[derive(Clone, Copy)]
 pub enum Difference {
     /// The run failed.
     Failed(Fault),

@@ -6,7 +6,7 @@ use log_entry::Entry;
 use std::fmt;
 
 /// What a guest has done, alone or in a pair.
-#[derive(Drop)]
+#[derive(Clone, Copy)]
 pub struct Done {
     steps: u64,
     // How many bytes were accepted.
@@ -18,7 +18,7 @@ pub struct Done {
 
 impl Done {
     /// What a guest has done alone.
-    pub fn alone(alone: &Alone) -> Done {
+    pub fn alone(alone: Alone) -> Done {
         Done {
             steps: alone.steps,
             bytes: alone.bytes,

@@ -15,7 +15,7 @@ use shared_disk::{MemoryStore, SharedDisk};
 use std::alloc::Global;
 
 /// How far a pair has come.
-#[derive(Clone, Copy)]
+#[derive(Clone, Copy, PartialEq, Eq)]
 pub enum Reached {
     /// All keys are taken, all output is accepted, all writes are done.
     All,
@@ -62,11 +62,8 @@ pub fn has_keys(
     reached: Reached,
 ) -> Result<(), Difference> {
     let keys = keys_of(alloc, list, port)?;
-    let has_all = match reached {
-        Reached::All => keys.len() == typed.len(),
-        Reached::Last => true,
-    };
-    if has_all && typed.starts_with(&keys) {
+    let whole = reached == Reached::Last || keys.len() == typed.len();
+    if whole && typed.starts_with(&keys) {
         Ok(())
     } else {
         Err(Difference::Keys(port))
@@ -85,26 +82,6 @@ fn has_output(single: &Single, port: u8, accepted: &[u8], window: usize) -> Resu
     }
 }
 
-// Runs a machine on these inputs to this count.
-fn run_on(alloc: Global, case: &Case, inputs: &[Timed], count: u64) -> Result<Single, Difference> {
-    if !never_fall(inputs) {
-        return Err(Difference::Said("the counts of the list fall"));
-    }
-    let boot = Single::boot(alloc, &case.given.setup, &case.given.sectors)?;
-    match boot.run(alloc, inputs, count) {
-        Ok(single) => Ok(single),
-        Err(fault) => Err(refusal(fault)),
-    }
-}
-
-// Why a machine does not run on.
-fn refusal(fault: Fault) -> Difference {
-    match fault {
-        Fault::OutOfMemory => Difference::Failed(fault),
-        _ => Difference::Refused(fault),
-    }
-}
-
 impl Machine {
     /// Runs a machine on the inputs of a list to this count.
     pub fn follow(
@@ -114,8 +91,15 @@ impl Machine {
         count: u64,
     ) -> Result<Machine, Difference> {
         let inputs = inputs_of(alloc, list)?;
-        let single = run_on(alloc, case, &inputs, count)?;
-        Ok(Machine { single, inputs })
+        if !never_fall(&inputs) {
+            return Err(Difference::Said("the counts of the list fall"));
+        }
+        let boot = Single::boot(alloc, &case.given.setup, &case.given.sectors)?;
+        match boot.run(alloc, &inputs, count) {
+            Ok(single) => Ok(Machine { single, inputs }),
+            Err(Fault::OutOfMemory) => Err(Difference::Failed(Fault::OutOfMemory)),
+            Err(fault) => Err(Difference::Refused(fault)),
+        }
     }
 
     /// Whether the terminals and the disk have what the machine has, as far as a pair has come.

@@ -5,7 +5,7 @@ ghost use Rattle.event_callbacks.specs.Keeping.{Keeps};
 ghost use Rattle.guest_board.specs.Guest.{guest_at_boot};
 ghost use Rattle.shared_disk.specs.Records.{IsUnwritten};
 
-use super::case::{Case, How};
+use super::case::Case;
 use crate::boards::boot;
 use altair_laws::altairs_are_lawful;
 use disk_dcdd::SectorWrite;
@@ -68,9 +68,8 @@ fn run_with<
     requires written { Keeps (W.may written) (W.gives written) WRITTEN }
 {
     altairs_are_lawful();
-    let begin = begin_of(alloc, case)?;
     let (primary, backup) = boards(alloc, &case.given.setup, sent, sector, written)?;
-    let workers = workers_of(begin, &case.how, primary, backup);
+    let workers = workers_of(alloc, case, primary, backup)?;
     match run_generation(rt, alloc, workers, gate, case.how.turns) {
         Ok(end) => Ok(without_boards(end)),
         Err(fault) => Err(fault),
@@ -127,26 +126,26 @@ fn copies_of(alloc: Global, typed: &[Vec<u8>; 2]) -> R<(Vec<u8>, Vec<u8>)> {
 
 // The workers of these guests.
 fn workers_of<B: Lockstep + Drop>(
-    begin: Begin,
-    how: &How,
+    alloc: Global,
+    case: &Case,
     primary: B,
     backup: B,
-) -> Workers<B, MemoryStore>
-    requires unwritten { IsUnwritten begin.disk }
-    ensures guests { (result.primary ≡ primary) × (result.backup ≡ backup) }
-    ensures unwritten { IsUnwritten result.disk }
+) -> R<Workers<B, MemoryStore>>
+    ensures guests { IfOk result (λ workers. (workers.primary ≡ primary) × (workers.backup ≡ backup)) }
+    ensures unwritten { IfOk result (λ workers. IsUnwritten workers.disk) }
 {
-    Workers {
+    let begin = begin_of(alloc, case)?;
+    Ok(Workers {
         primary,
         backup,
         disk: begin.disk,
         typed0: begin.typed0,
         typed1: begin.typed1,
         fates: begin.fates,
-        primary_contests: how.primary_contests,
-        backup_contests: how.backup_contests,
-        steps: how.steps,
-    }
+        primary_contests: case.how.primary_contests,
+        backup_contests: case.how.backup_contests,
+        steps: case.how.steps,
+    })
 }
 
 // Lets the boards go.

@@ -5,7 +5,7 @@ use pair_threads::{Gate, Who};
 use std::thread;
 
 /// Lets everybody pass, but delays one worker, if there is one: at one turn of `every`, for `yields` yields.
-#[derive(Drop)]
+#[derive(Clone, Copy)]
 pub struct SlowGate {
     pub who: Option<Who>,
     pub seed: u64,
