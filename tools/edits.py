@@ -95,6 +95,12 @@ def without_brackets(text):
     return kept.strip()
 
 
+def module_of(path):
+    """The module that a file is, and two colons after it, as in `due::` for `src/due.rt`; nothing for the root of a crate."""
+    module = path.removeprefix("src/").removesuffix(".rt").replace("/", "::")
+    return "" if module in ("lib", "main") else f"{module}::"
+
+
 def functions(edit, folder):
     """The functions whose bodies an edit changes, each by the end of its name; None if it changes anything else."""
     found = set()
@@ -106,7 +112,7 @@ def functions(edit, folder):
         name = function_at(text, text.index(old) + len(old) - len(old.lstrip()))
         if name is None:
             return None
-        found.add(name)
+        found.add(name if "::" in name else f"{module_of(path)}{name}")
     return frozenset(found)
 
 
