@@ -2,20 +2,22 @@
 use Rattle.std.proofs.Common.{◌≡◌, ◌∙◌, ℕ, List, Option, Some, None, ap, refl, subst, sym}
 use Rattle.std.specs.Prelude.{Result, option_map, slice_get}
 use Rattle.ft_world.specs.Shows.{Agree, IsStatusAt}
+use Rattle.ft_world.specs.Standing.{Course, machine_of}
 use Rattle.ft_world.specs.Words.{IsMessage}
 use Rattle.ft_world.specs.declared.hosts.NodeStatus.{NodeStatus}
 use Rattle.ft_world.specs.declared.message.Message.{Message}
 use Rattle.ft_world.specs.declared.message.Message.TheVariants as message
 use Rattle.guest_lockstep.specs.Machine.{Machine}
+use Rattle.guest_lockstep.specs.declared.timed.Timed.{Timed}
 use Rattle.i8080_words.specs.declared.refusal.Fault.{Fault}
 use Rattle.pair_events.specs.declared.event.Event.{Event}
 use Rattle.pair_events.specs.declared.reply.Reply.{Reply}
 use Rattle.pair_events.specs.declared.reply.Role.{Role}
 use Rattle.pair_events.specs.declared.reply.Role.TheVariants.{Primary, Backup, Joining, Draining, Alone, Halted}
-use Rattle.pair_protocol.specs.Node.{Node}
+use Rattle.pair_protocol.specs.Settled.{Settled}
 use Rattle.pair_protocol.specs.World as protocol
 use Rattle.pair_shell.specs.Books.{HasBook, IsBookOf, IsNoted, brings_in, brings_of, brought_by, released_brings, sent_in}
-use Rattle.shell_book.specs.Notes.{progress}
+use Rattle.shell_book.specs.Notes.{all_settled, progress, restarted}
 use Rattle.shell_book.specs.Noting.{letters_after, noted, posted}
 use Rattle.shell_book.specs.declared.book.Book.{Book}
 use Rattle.shell_book.specs.declared.book.Brings.{Brings}
@@ -69,21 +71,24 @@ notes messages happened answer sent old mid new is letters so_far after noted_so
       ∙ ap (λ p. noted happened answer (posted happened (sent_in messages answer) old.letters.items) p) so_far;
 }
 
-module _ {S : Type 0} (M : Machine S) (nodes : List (Node S)) (old new : Book) where
+module _ {S : Type 0} (M : Machine S) (c : Course S) (old new : Book) where
   -- no node has this number
-  pub book_of_none : (number : ℕ) → IsStatusAt M (slice_get nodes number) None → new ≡ old → HasBook M nodes number old new
+  pub book_of_none : (number : ℕ) → IsStatusAt M (slice_get c.world.nodes number) None → new ≡ old → HasBook M c number old new
   book_of_none number there same = record { status = None; is_there = there; book = same }
 
   -- it is alone, or it is not
-  pub book_of_alone : (number : ℕ) (status : NodeStatus) → IsStatusAt M (slice_get nodes number) (Some status) → status.role ≡ Alone
-      → new.letters ≡ old.letters → HasBook M nodes number old new
-  book_of_alone number status there is begins = record {
+  pub book_of_alone : (number : ℕ) (status : NodeStatus) → IsStatusAt M (slice_get c.world.nodes number) (Some status)
+      → status.role ≡ Alone → new.letters ≡ old.letters → (inputs : List Timed) (count : ℕ)
+      → Settled (machine_of M c) c.world inputs count → progress new ≡ all_settled inputs (restarted (progress old))
+      → HasBook M c number old new
+  book_of_alone number status there is same inputs count settled begins = record {
     status = Some status;
     is_there = there;
-    book = subst (λ role. IsBookOf M nodes role old new) (sym is) begins;
+    book = subst (λ role. IsBookOf M c role old new) (sym is)
+        (record { letters = same; inputs = inputs; count = count; settled = settled; progress_is = begins });
   }
 
-  other_book : (role : Role) → (role ≡ Alone → ⊥) → new ≡ old → IsBookOf M nodes role old new
+  other_book : (role : Role) → (role ≡ Alone → ⊥) → new ≡ old → IsBookOf M c role old new
   other_book Primary not_alone same = same
   other_book Backup not_alone same = same
   other_book Joining not_alone same = same
@@ -91,18 +96,18 @@ module _ {S : Type 0} (M : Machine S) (nodes : List (Node S)) (old new : Book) w
   other_book Alone not_alone same = absurd (not_alone refl)
   other_book Halted not_alone same = same
 
-  pub book_of_other : (number : ℕ) (status : NodeStatus) → IsStatusAt M (slice_get nodes number) (Some status)
-      → (status.role ≡ Alone → ⊥) → new ≡ old → HasBook M nodes number old new
+  pub book_of_other : (number : ℕ) (status : NodeStatus) → IsStatusAt M (slice_get c.world.nodes number) (Some status)
+      → (status.role ≡ Alone → ⊥) → new ≡ old → HasBook M c number old new
   book_of_other number status there not_alone same = record {
     status = Some status;
     is_there = there;
     book = other_book status.role not_alone same;
   }
 
-  pub book_of_primary : (number : ℕ) (status : NodeStatus) → IsStatusAt M (slice_get nodes number) (Some status)
-      → status.role ≡ Primary → new ≡ old → HasBook M nodes number old new
+  pub book_of_primary : (number : ℕ) (status : NodeStatus) → IsStatusAt M (slice_get c.world.nodes number) (Some status)
+      → status.role ≡ Primary → new ≡ old → HasBook M c number old new
   book_of_primary number status there is same = record {
     status = Some status;
     is_there = there;
-    book = subst (λ role. IsBookOf M nodes role old new) (sym is) same;
+    book = subst (λ role. IsBookOf M c role old new) (sym is) same;
   }

@@ -3,19 +3,21 @@ use Rattle.std.specs.Prelude.{◌≡◌, ℕ, List, Option, Some, None, option_m
 use Rattle.event_callbacks.specs.declared.operations.Operation.{Operation}
 use Rattle.event_callbacks.specs.declared.operations.Operation.TheVariants as operation
 use Rattle.ft_world.specs.Shows.{IsStatusAt}
+use Rattle.ft_world.specs.Standing.{Course, machine_of}
 use Rattle.ft_world.specs.declared.hosts.NodeStatus.{NodeStatus}
 use Rattle.ft_world.specs.declared.message.Message.{Message}
 use Rattle.ft_world.specs.declared.message.Message.TheVariants as message
 use Rattle.guest_lockstep.specs.Machine.{Machine}
+use Rattle.guest_lockstep.specs.declared.timed.Timed.{Timed}
 use Rattle.i8080_words.specs.declared.refusal.Fault.{Fault}
 use Rattle.pair_events.specs.declared.event.Event.{Event}
 use Rattle.pair_events.specs.declared.reply.Reply.{Reply}
 use Rattle.pair_events.specs.declared.reply.Reply.TheVariants as reply
 use Rattle.pair_events.specs.declared.reply.Role.{Role}
 use Rattle.pair_events.specs.declared.reply.Role.TheVariants.{Alone}
-use Rattle.pair_protocol.specs.Node.{Node}
+use Rattle.pair_protocol.specs.Settled.{Settled}
 use Rattle.pair_protocol.specs.World as protocol
-use Rattle.shell_book.specs.Notes.{progress}
+use Rattle.shell_book.specs.Notes.{all_settled, progress, restarted}
 use Rattle.shell_book.specs.Noting.{letters_after, noted, posted}
 use Rattle.shell_book.specs.declared.book.Book.{Book}
 use Rattle.shell_book.specs.declared.book.Brings.{Brings}
@@ -59,10 +61,18 @@ pub record IsNoted (messages : List protocol.Message) (happened : Event) (answer
   pub progress_is : progress new
       ≡ noted happened answer (posted happened (sent_in messages answer) old.letters.items) (progress old)
 
-module _ {S : Type 0} (M : Machine S) (nodes : List (Node S)) where
-  -- the book of a node's day: if the node is alone it may begin again, with the same messages, and if not it goes on
+module _ {S : Type 0} (M : Machine S) (c : Course S) where
+  -- a book begins again, with the same messages: from the inputs that are settled
+  pub record BeginsAgain (old new : Book) : Type 0 where
+    pub letters : new.letters ≡ old.letters
+    pub inputs : List Timed
+    pub count : ℕ
+    pub settled : Settled (machine_of M c) c.world inputs count
+    pub progress_is : progress new ≡ all_settled inputs (restarted (progress old))
+
+  -- the book of a node's day: if the node is alone it begins again, and if not it goes on
   abbrev pub IsBookOf : Role → Book → Book → Type 0
-  IsBookOf Alone old new = new.letters ≡ old.letters
+  IsBookOf Alone old new = BeginsAgain old new
   IsBookOf other old new = new ≡ old
 
   abbrev pub IsBookBy : Option NodeStatus → Book → Book → Type 0
@@ -72,5 +82,5 @@ module _ {S : Type 0} (M : Machine S) (nodes : List (Node S)) where
   -- the same by what the node of this number shows of itself
   pub record HasBook (number : ℕ) (old new : Book) : Type 0 where
     pub status : Option NodeStatus
-    pub is_there : IsStatusAt M (slice_get nodes number) status
+    pub is_there : IsStatusAt M (slice_get c.world.nodes number) status
     pub book : IsBookBy status old new

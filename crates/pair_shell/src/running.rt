@@ -46,7 +46,8 @@ impl Notes {
         }
     }
 
-    // The backup of a node's day, if it has one; or why the node has no day. The book of one that is alone begins again.
+    // The backup of a node's day, if it has one; or why the node has no day. The book of one that is alone begins
+    // again from what is settled.
     #[tactic(auto, using(crate::proofs::Backups::day_of_none, crate::proofs::Backups::day_of_primary, crate::proofs::Backups::day_of_alone, crate::proofs::Backups::day_of_other, crate::proofs::Books::book_of_none, crate::proofs::Books::book_of_primary, crate::proofs::Books::book_of_alone, crate::proofs::Books::book_of_other))]
     fn backup_for<B: Copies<H> + Drop, H: Drop>(
         &mut self,
@@ -59,7 +60,7 @@ impl Notes {
         ensures found { IfOk result (λ found. (c : Course B.State) → Shows B.state B.copied B.machine records_in world.now c
             → HasDay B.machine c.world.nodes opening.now.setup.hosts node found) }
         ensures book { IfOk result (λ _. (c : Course B.State) → Shows B.state B.copied B.machine records_in world.now c
-            → HasBook B.machine c.world.nodes node self.old.book self.new.book) }
+            → HasBook B.machine c node self.old.book self.new.book) }
     {
         let Some(status) = world.node(node) else {
             return Ok(Err(Fault::Unknown));
