@@ -8,6 +8,9 @@ Of the words after the command these are taken, each as often as it is given; al
   --disk D=FILE         for `script`, `check`, `picture`, `live` and `shell`: the image of a disk in drive D, before the input
   --save-disk D=FILE    for `live` and `shell`: at the end the disk of drive D is written to a file
   --type P=TEXT         for `live`: keys typed at port P, as lines `type` after the input; \\r, \\n, \\t, \\\\ and \\xHH are one key each
+  --stop HOST@TURN      for `live`: a host fails at this turn of its generation, so that the other one goes on; one for each generation
+  --spares K            for `live`: how many spare hosts there are to copy the guest to; as many as --stop is given, if it is not said
+  --generations N       for `live`: how many generations there are at most
 
 If the input is a terminal, `shell` has a prompt there.
 
@@ -33,6 +36,9 @@ OPTIONS = {
     "--disk": ("script", "check", "picture", "live", "shell"),
     "--save-disk": ("live", "shell"),
     "--type": ("live",),
+    "--stop": ("live",),
+    "--spares": ("live",),
+    "--generations": ("live",),
 }
 ESCAPES = {"r": b"\r", "n": b"\n", "t": b"\t", "\\": b"\\"}
 # No line of the shell begins with this word; what it answers to it comes between the session and the saved disks.
@@ -109,6 +115,36 @@ def drives_in(images):
     return ",".join(map(str, images))
 
 
+def count_in(option, word, least):
+    """The number that an option was given."""
+    if not re.fullmatch(r"[0-9]{1,9}", word) or int(word) < least:
+        complain(f"{option} {word}: expected a number from {least}")
+    return int(word)
+
+
+def stop_in(word):
+    """The host that fails, and the turn."""
+    found = re.fullmatch(r"([0-9]{1,9})@([0-9]{1,9})", word)
+    if not found:
+        complain(f"--stop {word}: expected a host, `@` and a turn, as 0@500")
+    return int(found[1]), int(found[2])
+
+
+def asks_of(stops, generations):
+    """Who asks to go on alone in each generation, and at which turn. Hosts 0 and 1 begin; whoever is left is the primary of the next
+    generation, and the next spare host, from 2 on, its backup."""
+    primary, backup, asks = 0, 1, []
+    for host, turn in stops:
+        generation = len(asks) + 1
+        if generation > generations:
+            complain(f"--stop {host}@{turn}: there is no generation {generation}")
+        if host not in (primary, backup):
+            complain(f"--stop {host}@{turn}: generation {generation} has host {primary} as its primary and host {backup} as its backup")
+        asks.append(("primary" if host == backup else "backup", turn))
+        primary, backup = backup if host == primary else primary, generation + 1
+    return asks + [("nobody", 0)] * (len(asks) < generations)
+
+
 def key_lines(port, text):
     """The lines of a script for `live` that type a text."""
     keys, rest = b"", text
@@ -129,6 +165,7 @@ class Given:
     def __init__(self, command, words):
         self.command, self.own = command, [command]
         self.images, self.before, self.after, self.saves = {}, [], [], {}
+        self.stops, self.spares, self.generations = [], None, None
         words = iter(words)
         for word in words:
             option, equals, value = word.partition("=")
@@ -147,9 +184,26 @@ class Given:
         else:
             self.own += ["--images", drives_in(self.images)] * bool(self.images)
             self.own += ["--saved", drives_in(self.saves)] * bool(self.saves)
+            self.own += self.generation_words()
+
+    def generation_words(self):
+        """The program's own options that say what happens in which generation."""
+        most = len(self.stops) if self.spares is None else self.spares
+        asks = asks_of(self.stops, min(most + 1, self.generations or most + 1))
+        (first, turn), later = asks[0], asks[1:]
+        words = [f"--{first}-asks", str(turn)] if first != "nobody" else []
+        if later:
+            words += ["--next", ",".join(who for who, _ in later), "--next-at", ",".join(str(at) for _, at in later)]
+        return words
 
     def take(self, option, value):
-        if option == "--load":
+        if option == "--stop":
+            self.stops.append(stop_in(value))
+        elif option == "--spares":
+            self.spares = count_in(option, value, 0)
+        elif option == "--generations":
+            self.generations = count_in(option, value, 1)
+        elif option == "--load":
             self.before += hex_lines(value)
         elif option == "--type":
             self.after += key_lines(*numbered(option, value, 1))

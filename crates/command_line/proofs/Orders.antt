@@ -1,11 +1,11 @@
 -- From what an option was given to the number that it says, and from what was found to what is asked for.
-use Rattle.std.proofs.Common.{◌≡◌, ℕ, List, Option, Some, None, Result, Ok, Err, inl, inr, refl, subst, unwrap_or}
+use Rattle.std.proofs.Common.{◌≡◌, ℕ, List, [], ◌∷◌, ◌++◌, Option, Some, None, Result, Ok, Err, inl, inr, refl, subst, unwrap_or}
 use Rattle.std.specs.Prelude.{IfOk}
 use Rattle.std.specs.Str.Parse.{ParsesUnsigned}
 use Rattle.clap.specs.Words.{ReadsOne}
 use Rattle.clap.specs.declared.parser.matches.ArgMatches.{ArgMatches}
 use Rattle.clap.specs.declared.parser.matches.Found.{Found}
-use Rattle.command_line.specs.Orders.{Asks, AsksHelp, AsksIn, HasFound, IsAfter, IsAsked, IsGiven, IsGivenOr, IsNumber, command_word}
+use Rattle.command_line.specs.Orders.{AreTurns, Asks, AsksHelp, AsksIn, HasFound, IsAfter, IsAsked, IsGiven, IsGivenOr, IsNumber, command_word}
 use Rattle.command_line.specs.declared.options.Request.{Request}
 
 is_number : {E : Type 0} (gives : List ℕ → Result ℕ E → Type 0) (text : List ℕ) (given : Option ℕ) → ReadsOne gives text given
@@ -47,3 +47,11 @@ module _ {E : Type 0} where
 pub asked_by_found : (words : List (List ℕ)) (word : List ℕ) (asked : Request) → word ≡ command_word words
     → HasFound word asked → IsAsked words asked
 asked_by_found words word asked is h = inl (subst (λ w. HasFound w asked) is h)
+
+-- one more word says one more turn
+pub one_more_turn : (words : List (List ℕ)) (turns : List ℕ) (word : List ℕ) (turn : ℕ) → AreTurns words turns
+    → IsGivenOr 0 (Some word) turn → AreTurns (words ++ word ∷ []) (turns ++ turn ∷ [])
+one_more_turn [] [] word turn are is = (is, tt)
+one_more_turn [] (x ∷ turns) word turn are is = absurd are
+one_more_turn (w ∷ words) [] word turn are is = absurd are
+one_more_turn (w ∷ words) (x ∷ turns) word turn are is = (are.0, one_more_turn words turns word turn are.1 is)

@@ -5,6 +5,8 @@ use Rattle.std.specs.Str.Parse.{IsNumeral, digits_value, without_leading_plus}
 use Rattle.clap.specs.Words.{found_of, matched_of, one_text, raw_values, rows_of, subcommand_name_of, subcommand_rows_of}
 use Rattle.clap.specs.declared.parser.matches.ArgMatches.{ArgMatches}
 use Rattle.clap.specs.declared.parser.matches.Found.{Found}
+use Rattle.command_line.specs.declared.live_order.Asker.{Asker}
+use Rattle.command_line.specs.declared.live_order.Asker.TheVariants.{Nobody, Primary, Backup}
 use Rattle.command_line.specs.declared.live_order.LiveOrder.{LiveOrder}
 use Rattle.command_line.specs.declared.options.Request.{Request}
 use Rattle.command_line.specs.declared.options.Request.TheVariants as request
@@ -15,6 +17,11 @@ use Rattle.pair_threads.specs.declared.link.Fate.TheVariants.{Pass, Drop, Twice}
 abbrev pub fate_of : List ℕ → Fate
 fate_of word =
     if bytes_eq word (codes "drop") then Drop else (if bytes_eq word (codes "twice") then Twice else Pass)
+
+-- who asks to go on alone, by the name; `nobody` is the third
+abbrev pub asker_of : List ℕ → Asker
+asker_of word =
+    if bytes_eq word (codes "primary") then Primary else (if bytes_eq word (codes "backup") then Backup else Nobody)
 
 -- the values that an option was given, in their order
 abbrev pub values_of : Found → List ℕ → List (List ℕ)
@@ -34,6 +41,12 @@ IsGiven (Some text) given = IsNumber text given
 abbrev pub IsGivenOr : ℕ → Option (List ℕ) → ℕ → Type 0
 IsGivenOr default text number = (given : Option ℕ) × (IsGiven text given × (number ≡ unwrap_or given default))
 
+-- the turns that words say, 0 for a word that is no number
+abbrev pub AreTurns : List (List ℕ) → List ℕ → Type 0
+AreTurns [] [] = Unit {0}
+AreTurns (word ∷ words) (turn ∷ turns) = IsGivenOr 0 (Some word) turn × AreTurns words turns
+AreTurns _ _ = ⊥
+
 -- a drive, by its name; 0 is the fourth
 abbrev pub drive_of : List ℕ → ℕ
 drive_of word =
@@ -43,13 +56,15 @@ drive_of word =
 abbrev pub drives_in : Found → List ℕ → List ℕ
 drives_in found option = map drive_of (values_of found option)
 
--- each option of `live` sets what it says: how many turns, when somebody asks, these fates in this order, and the drives
--- whose disks are saved; the drives with images are given
+-- each option of `live` sets what it says: how many turns, when somebody asks, these fates in this order, who asks in further
+-- generations and when, and the drives whose disks are saved; the drives with images are given
 pub record IsOrdered (found : Found) (images : List ℕ) (order : LiveOrder) : Type 0 where
   pub turns : IsGivenOr 1000000 (one_text found (codes "turns")) order.turns
   pub primary_asks : IsGiven (one_text found (codes "primary-asks")) order.primary_asks
   pub backup_asks : IsGiven (one_text found (codes "backup-asks")) order.backup_asks
   pub link : order.link.items ≡ map fate_of (values_of found (codes "link"))
+  pub next : order.next.items ≡ map asker_of (values_of found (codes "next"))
+  pub next_at : AreTurns (values_of found (codes "next-at")) order.next_at.items
   pub images_are : order.images.items ≡ images
   pub saved : order.saved.items ≡ drives_in found (codes "saved")
 

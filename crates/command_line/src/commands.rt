@@ -31,6 +31,9 @@ const LIVE_USAGE: &str =
 // The names of the fates of a packet: it is brought, it is lost, it is brought twice.
 static FATES: &[&str] = &["pass", "drop", "twice"];
 
+// Who asks to go on alone in a further generation.
+static ASKERS: &[&str] = &["nobody", "primary", "backup"];
+
 static DRIVES: &[&str] = &["0", "1", "2", "3"];
 
 const IMAGES: &str =
@@ -158,7 +161,24 @@ fn with_turns<'a>(alloc: Global, live: Command<'a>) -> Result<Command<'a>, Alloc
 // The command with its options whose values are words.
 fn with_words<'a>(alloc: Global, live: Command<'a>) -> Result<Command<'a>, AllocError> {
     let command = live.arg(link(alloc))?;
-    command.arg(images(alloc))?.arg(saved(alloc))
+    with_next(alloc, command.arg(images(alloc))?.arg(saved(alloc))?)
+}
+
+// The command with its options that say what happens in further generations.
+fn with_next<'a>(alloc: Global, live: Command<'a>) -> Result<Command<'a>, AllocError> {
+    live.arg(next(alloc))?.arg(next_at(alloc))
+}
+
+fn next<'a>(alloc: Global) -> Arg<'a> {
+    words(alloc, "next", "WHO", ASKERS).help(
+        "Who asks to go on alone in each further generation; ./pair sends them for --stop",
+    )
+}
+
+fn next_at<'a>(alloc: Global) -> Arg<'a> {
+    turn(alloc, "next-at", 0)
+        .value_delimiter(',')
+        .help("At which turn, in the same order")
 }
 
 fn link<'a>(alloc: Global) -> Arg<'a> {

@@ -5,5 +5,5 @@ mod commands;
 mod live_order;
 mod options;
 
-pub use live_order::LiveOrder;
+pub use live_order::{Asker, LiveOrder};
 pub use options::{Request, request_of};

@@ -1,11 +1,11 @@
 //! The command line.
-ghost use Rattle.std.specs.Prelude.{◌≡◌, IfErr, IfOk, codes, map, string_bytes, true};
+ghost use Rattle.std.specs.Prelude.{◌≡◌, IfErr, IfOk, Some, codes, map, string_bytes, true};
 ghost use Rattle.clap.specs.Words.{found_of, one_text};
 ghost use Rattle.command_ending.specs.Statuses.{is_of_command_line};
-ghost use Rattle.command_line.specs.Orders.{Asks, AsksHelp, AsksIn, HasFound, IsAsked, IsGiven, IsOrdered, command_word, drive_of, drives_in, fate_of, values_of};
+ghost use Rattle.command_line.specs.Orders.{AreTurns, Asks, AsksHelp, AsksIn, HasFound, IsAsked, IsGiven, IsGivenOr, IsOrdered, command_word, asker_of, drive_of, drives_in, fate_of, values_of};
 
 use crate::commands::pair_command;
-use crate::live_order::LiveOrder;
+use crate::live_order::{Asker, LiveOrder};
 use clap::error::ErrorKind;
 use clap::{ArgMatches, Error};
 use command_ending::Failure;
@@ -149,11 +149,14 @@ fn live_order(alloc: Global, matches: &ArgMatches<'_>, images: Vec<u8>) -> Resul
     let backup_asks = number(matches, "backup-asks");
     let link = fates_of(alloc, matches.get_strs("link").unwrap_or(&[]))?;
     let saved = drives_of(alloc, matches.get_strs("saved").unwrap_or(&[]))?;
+    let (next, next_at) = next_of(alloc, matches)?;
     Ok(LiveOrder {
         turns,
         primary_asks,
         backup_asks,
         link,
+        next,
+        next_at,
         images,
         saved,
     })
@@ -186,6 +189,56 @@ fn fate_of(word: &str) -> Fate
         "twice" => Fate::Twice,
         _ => Fate::Pass,
     }
+}
+
+// Who asks in further generations, and at which turns.
+fn next_of(alloc: Global, matches: &ArgMatches<'_>) -> Result<(Vec<Asker>, Vec<u64>), AllocError>
+    ensures who { IfOk result (λ next. next.0.items ≡ map asker_of (values_of (found_of matches.now) (codes "next"))) }
+    ensures at { IfOk result (λ next. AreTurns (values_of (found_of matches.now) (codes "next-at")) next.1.items) }
+{
+    let next = askers_of(alloc, matches.get_strs("next").unwrap_or(&[]))?;
+    let next_at = turns_of(alloc, matches.get_strs("next-at").unwrap_or(&[]))?;
+    Ok((next, next_at))
+}
+
+// Who asks, by names.
+fn askers_of(alloc: Global, words: &[&str]) -> Result<Vec<Asker>, AllocError>
+    ensures { IfOk result (λ askers. askers.items ≡ map asker_of (map (λ word. word.now) words.now)) }
+{
+    let mut askers = Vec::new(alloc);
+    for word in words {
+        askers.push(asker_of(word))?;
+    }
+    Ok(askers)
+}
+
+// Who asks, by a name.
+fn asker_of(word: &str) -> Asker
+    ensures { result ≡ asker_of word.now }
+{
+    match word {
+        "primary" => Asker::Primary,
+        "backup" => Asker::Backup,
+        _ => Asker::Nobody,
+    }
+}
+
+// Turns, by their digits.
+fn turns_of(alloc: Global, words: &[&str]) -> Result<Vec<u64>, AllocError>
+    ensures { IfOk result (λ turns. AreTurns (map (λ word. word.now) words.now) turns.items) }
+{
+    let mut turns = Vec::new(alloc);
+    for word in words {
+        turns.push(turn_of(word))?;
+    }
+    Ok(turns)
+}
+
+// A turn, by its digits.
+fn turn_of(word: &str) -> u64
+    ensures { IsGivenOr 0 (Some word.now) result }
+{
+    word.parse::<u64>().unwrap_or(0)
 }
 
 // Drives, by their names.

@@ -1,5 +1,5 @@
 -- What a pair on threads prints is an end of its generation; what is typed at it, line by line.
-use Rattle.std.proofs.Common.{◌≡◌, ℕ, ◌+◌, ◌<◌, zero, suc, Option, Some, None, List, [], ◌∷◌, ◌++◌, Result, Ok, Err, inl, inr, refl, subst, sym, ap, ◌∙◌, length, replicate, take, get_or, if◌then◌else◌, append-nil, arith}
+use Rattle.std.proofs.Common.{◌≡◌, ℕ, ◌+◌, ◌<◌, zero, suc, true, Option, Some, None, List, [], ◌∷◌, ◌++◌, Result, Ok, Err, inl, inr, refl, subst, sym, ap, ◌∙◌, length, replicate, take, get_or, if◌then◌else◌, append-nil, arith}
 use Rattle.std.specs.Prelude.{◌⊎◌, IfErr, IfOk, OnOk}
 use Rattle.std.specs.Global.{Vec}
 use Rattle.std.specs.Result.{IsErrAnd}
@@ -162,7 +162,7 @@ pub has_ended : (setup : ScriptSetup) (given : List SectorWrite) (lines : List L
     (booted : List Record) (typed0 typed1 : List ℕ) (winner : Option Who) (primary backup : List Entry) (held : ℕ)
     (screens : List (List ℕ)) (records : List Record) (s t : Guest)
     → BeginsAs setup given lines boot backup_boot booted typed0 typed1
-    → EndsBy (booted_from some_altair boot (bytes_in booted)) typed0 typed1 winner primary backup held screens records s t
+    → EndsBy (booted_from some_altair boot (bytes_in booted)) true typed0 typed1 winner primary backup held screens records s t
     → HasEnded setup given lines winner screens records
 has_ended setup given lines boot backup_boot booted typed0 typed1 winner primary backup held screens records s t begins ends =
     record {
@@ -173,12 +173,12 @@ has_ended setup given lines boot backup_boot booted typed0 typed1 winner primary
       held = held;
       s = s;
       t = t;
-      ends = subst (λ g. EndsBy (booted_from some_altair g (bytes_in booted)) (typed_in 0 lines) (typed_in 1 lines) winner primary
-          backup held screens records s t) begins.primary_is
-          (subst (λ l. EndsBy (booted_from some_altair boot (bytes_in booted)) l (typed_in 1 lines) winner primary backup held screens
-          records s t) begins.typed.0
-          (subst (λ l. EndsBy (booted_from some_altair boot (bytes_in booted)) typed0 l winner primary backup held screens records s
-          t) begins.typed.1 ends));
+      ends = subst (λ g. EndsBy (booted_from some_altair g (bytes_in booted)) true (typed_in 0 lines) (typed_in 1 lines) winner
+          primary backup held screens records s t) begins.primary_is
+          (subst (λ l. EndsBy (booted_from some_altair boot (bytes_in booted)) true l (typed_in 1 lines) winner primary backup held
+          screens records s t) begins.typed.0
+          (subst (λ l. EndsBy (booted_from some_altair boot (bytes_in booted)) true typed0 l winner primary backup held screens
+          records s t) begins.typed.1 ends));
     }
 
 -- what is said of a value, if there is one, is said of what it implies

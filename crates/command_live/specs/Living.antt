@@ -1,5 +1,5 @@
 -- What a pair on threads prints.
-use Rattle.std.specs.Prelude.{◌≡◌, ℕ, ◌==◌, if◌then◌else◌, IsTrue, Option, Some, None, List, [], ◌∷◌, ◌++◌, Result, MatchResult, codes, replicate}
+use Rattle.std.specs.Prelude.{◌≡◌, ℕ, ◌==◌, if◌then◌else◌, IsTrue, Option, Some, None, List, [], ◌∷◌, ◌++◌, map, Bool, Contains, Result, Ok, Err, MatchResult, codes, replicate}
 use Rattle.std.specs.Global.{Vec}
 use Rattle.std.specs.Io.KnownBytes.{Appends, Keeps}
 use Rattle.disk_dcdd.specs.Address.{has_sector}
@@ -7,6 +7,7 @@ use Rattle.disk_dcdd.specs.declared.address.SectorAddress.{SectorAddress}
 use Rattle.disk_dcdd.specs.declared.sector.SectorWrite.{SectorWrite}
 use Rattle.disk_dcdd.specs.declared.sector.TheConstants.{SECTOR_BYTES}
 use Rattle.guest_parts.specs.Guest.{Guest}
+use Rattle.i8080_words.specs.declared.refusal.Fault.{Fault}
 use Rattle.guest_board.specs.Guest.{altair, guest_at_boot}
 use Rattle.log_entry.specs.declared.entry.Entry.{Entry}
 use Rattle.pair_events.specs.Printed.{accepted_text}
@@ -15,10 +16,13 @@ use Rattle.command_ending.specs.Reports.{AddsLine}
 use Rattle.command_ending.specs.declared.failure.Failure.{Failure}
 use Rattle.command_ending.specs.declared.failure.Failure.TheVariants.{OutOfMemory, InputOrOutput, Stalled}
 use Rattle.command_live.specs.Saving.{images_of}
+use Rattle.command_line.specs.declared.live_order.Asker.{Asker}
+use Rattle.command_line.specs.declared.live_order.Asker.TheVariants as asker
 use Rattle.command_line.specs.declared.live_order.LiveOrder.{LiveOrder}
 use Rattle.pair_threads.specs.Ending.{EndsBy, WonBy}
 use Rattle.pair_threads.specs.declared.gate.Who.{Who}
-use Rattle.pair_threads.specs.declared.gate.Who.TheVariants.{Primary}
+use Rattle.pair_threads.specs.declared.workers.GenerationEnd.{GenerationEnd}
+use Rattle.pair_threads.specs.declared.gate.Who.TheVariants.{Primary, Backup}
 use Rattle.script_language.specs.declared.line.Line.{Line}
 use Rattle.script_language.specs.declared.line.Line.TheVariants.{Event}
 use Rattle.script_language.specs.declared.setup.ScriptSetup.{ScriptSetup}
@@ -48,6 +52,12 @@ winner_text (Some who) = 10 ∷ codes "winner: backup"
 abbrev pub end_text : List ℕ → List ℕ → Option Who → List ℕ
 end_text first second winner = accepted_text 0 first ++ (10 ∷ accepted_text 1 second) ++ winner_text winner
 
+-- the one who was to ask goes on alone, or nobody
+abbrev pub IsWonBy : Asker → Option Who → Type 0
+IsWonBy asker.Nobody winner = winner ≡ None
+IsWonBy asker.Primary winner = winner ≡ Some Primary
+IsWonBy asker.Backup winner = winner ≡ Some Backup
+
 -- each sector has the bytes of the last of these that goes there, or zeros
 abbrev pub AreBooted : ScriptSetup → List SectorWrite → (SectorAddress → List ℕ) → Type 0
 AreBooted setup given sectors = (address : SectorAddress) → IsTrue (has_sector setup.guest.drives address)
@@ -65,7 +75,8 @@ pub record EndsOf (setup : ScriptSetup) (given : List SectorWrite) (typed0 typed
   pub records : List Record
   pub s : Guest
   pub t : Guest
-  pub ends : EndsBy (altair setup.guest sectors) typed0 typed1 winner primary backup held screens records s t
+  pub exact : Bool
+  pub ends : EndsBy (altair setup.guest sectors) exact typed0 typed1 winner primary backup held screens records s t
   pub images_are : images ≡ images_of records saved
 
 -- these bytes are what lines type at each port
@@ -92,16 +103,23 @@ pub record HasEnded (setup : ScriptSetup) (given : List SectorWrite) (lines : Li
   pub held : ℕ
   pub s : Guest
   pub t : Guest
-  pub ends : EndsBy (altair setup.guest sectors) (typed_in 0 lines) (typed_in 1 lines) winner primary backup held screens
-      records s t
+  pub exact : Bool
+  pub ends : EndsBy (altair setup.guest sectors) exact (typed_in 0 lines) (typed_in 1 lines) winner primary backup held
+      screens records s t
 
--- such an end is printed; whoever goes on alone in it was to ask, and if nobody does, nobody was
+-- who goes on alone at the end was to ask, in the first generation or in a further one; if nobody does, nobody was to in one
+-- of them
+abbrev pub WonIn : LiveOrder → Option Who → Type 0
+WonIn order winner = WonBy order.primary_asks order.backup_asks winner
+    ⊎ ((asker : Asker) × Contains order.next.items asker × IsWonBy asker winner)
+
+-- such an end is printed
 pub record TellsEnd (setup : ScriptSetup) (given : List SectorWrite) (typed0 typed1 : List ℕ) (order : LiveOrder)
     (images : List ℕ) (old new : Option (List ℕ)) : Type 0 where
   pub first : List ℕ
   pub second : List ℕ
   pub winner : Option Who
-  pub won : WonBy order.primary_asks order.backup_asks winner
+  pub won : WonIn order winner
   pub ends : EndsOf setup given typed0 typed1 order.saved.items winner (first ∷ second ∷ []) images
   pub printed : AddsLine (Some (end_text first second winner)) old new
 
@@ -125,6 +143,17 @@ abbrev pub TellsScreens : Option Who → List (List ℕ) → List Record → Lis
     → Option (List ℕ) → Option (List ℕ) → Type 0
 TellsScreens winner screens records saved result old new = MatchResult result
     (λ images. PrintsScreens winner screens records saved images.items old new) (λ failure. PrintsNone failure old new)
+
+-- the same of a pair that has ended, if it has
+abbrev pub PrintsFailed : Result (Vec ℕ) Failure → Option (List ℕ) → Option (List ℕ) → Type 0
+PrintsFailed (Ok images) old new = ⊥
+PrintsFailed (Err failure) old new = PrintsNone failure old new
+
+abbrev pub TellsEnded : {B D : Type 0} → (D → List Record) → Result (GenerationEnd B D) Fault → List ℕ
+    → Result (Vec ℕ) Failure → Option (List ℕ) → Option (List ℕ) → Type 0
+TellsEnded records ended saved result old new = MatchResult ended
+    (λ end. TellsScreens end.winner (map (λ v. v.items) end.accepted) (records end.disk) saved result old new)
+    (λ fault. PrintsFailed result old new)
 
 -- the end is printed, and these are the images
 abbrev pub Tells : ScriptSetup → List SectorWrite → List ℕ → List ℕ → LiveOrder → Result (Vec ℕ) Failure

@@ -17,7 +17,7 @@ use shared_disk::{MemoryStore, SharedDisk};
 use std::alloc::Global;
 
 /// How many instructions a guest executes in one turn, at most.
-const STEPS: u64 = 10_000;
+pub(crate) const STEPS: u64 = 10_000;
 
 /// For how many turns a pair runs, and the turn at which each node asks to go on alone.
 #[derive(Clone, Copy)]

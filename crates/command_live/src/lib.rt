@@ -3,6 +3,7 @@
 
 mod beginning;
 mod command;
+mod generations;
 mod live;
 mod saving;
 

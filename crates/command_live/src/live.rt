@@ -90,10 +90,12 @@ pub fn run<
         primary: order.primary_asks,
         backup: order.backup_asks,
     };
-    match generation(rt, alloc, asked, order.link, input, sent, sector, written) {
-        Ok(mut end) => tell(alloc, &mut end, &order.saved, report, writer),
-        Err(fault) => Err(failure_of(fault)),
+    if order.next.is_empty() {
+        let end = generation(rt, alloc, asked, order.link, input, sent, sector, written);
+        return tell_of(alloc, end, &order.saved, report, writer);
     }
+    let end = generations(rt, alloc, asked, &order, input, sent, sector, written);
+    tell_of(alloc, end, &order.saved, report, writer)
 }
 
 // Why nothing is printed.
@@ -104,6 +106,23 @@ fn failure_of(fault: Fault) -> Failure
         Fault::Stalled => Failure::Stalled,
         Fault::Unknown => Failure::InputOrOutput,
         _ => Failure::OutOfMemory,
+    }
+}
+
+// Prints how a pair has ended, if it has.
+fn tell_of<B: Lockstep + Drop, O: Write + Drop>(
+    alloc: Global,
+    ended: R<GenerationEnd<B, MemoryStore>>,
+    saved: &[u8],
+    report: &mut Report,
+    writer: &mut O,
+) -> Result<Vec<u8>, Failure>
+    ensures { TellsEnded MemoryStore.records ended saved.now result (handed (O.contents writer.old) report.old)
+        (handed (O.contents writer.new) report.new) }
+{
+    match ended {
+        Ok(mut end) => tell(alloc, &mut end, saved, report, writer),
+        Err(fault) => Err(failure_of(fault)),
     }
 }
 

@@ -14,7 +14,7 @@ use Rattle.pair_resumed.specs.Settled.{SettledRunsMayBegin, accepted_of, keys_of
 use Rattle.pair_resumed.proofs.KeptRuns.{kept_there}
 
 pub may_begin : {S : Type 0} → SettledRunsMayBegin S
-may_begin N boot sectors C lawful typed0 typed1 moves s generation recorded m ends records store =
+may_begin N boot sectors C lawful typed0 typed1 moves s generation recorded m exact ends records store =
     let k = m.known in
     let rested = m.rested in
     let M = booted_from N boot sectors in
@@ -24,13 +24,13 @@ may_begin N boot sectors C lawful typed0 typed1 moves s generation recorded m en
       says = subst (λ l. Says l (keys_of typed0 typed1 moves) (accepted_of moves)) (sym rested.primary_list) m.says;
       kept = λ none others. all_map k.primary.calls (CallKept M typed0 typed1)
           (CallKept (booted_from N boot others) typed0 typed1) (kept_there M others typed0 typed1) m.kept.calls_kept;
-      repeats = subst (λ l. Repeats N boot l false s) (sym rested.backup_list) record {
+      repeats = subst (λ l. Repeats N exact boot l false s) (sym rested.backup_list) record {
         ran = record {
           moves = moves;
           runs = Recorded-booted M N.boot N.boot_sector boot s moves recorded;
           entries_are = ap (λ n. entries Logged n moves) zero_at;
         };
-        at = λ stands. ends ∙ ap (λ n. last_count n (entries Logged 0 moves)) (sym zero_at);
+        at = λ is stands. ends is ∙ ap (λ n. last_count n (entries Logged 0 moves)) (sym zero_at);
       };
       store = record {
         kept = λ address r is. subst (Has r) (sym (rested.sectors address)) (store address r is);

@@ -1,5 +1,5 @@
 -- What is known where a run of one machine has come to rest: all of it was sent, acknowledged, accepted and put.
-use Rattle.std.specs.Prelude.{◌≡◌, ℕ, ◌<◌, ◌≤◌, List, [], ◌++◌, length, take, Some, None}
+use Rattle.std.specs.Prelude.{◌≡◌, ℕ, ◌<◌, ◌≤◌, Bool, true, List, [], ◌++◌, length, take, Some, None}
 use Rattle.disk_dcdd.specs.declared.address.SectorAddress.{SectorAddress}
 use Rattle.event_callbacks.specs.declared.operations.OpId.{OpId}
 use Rattle.guest_board.specs.Guest.{altair}
@@ -94,16 +94,17 @@ IsItsStore M moves s records =
     (address : SectorAddress) (r : Record) → record_at records address ≡ Some r
     → Has r (record { number = M.done s address; bytes = image M moves address })
 
--- with that store, and two guests in the state of its end, that of its last entry, the workers of a generation may begin there
+-- with that store, and two guests in the state of its end, the workers of a generation may begin there; the copy is exact only
+-- if that is where the last entry is
 abbrev pub SettledRunsMayBegin : Type 0 → Type 0
 SettledRunsMayBegin S =
     (N : Machine S) (boot : S) (sectors : SectorAddress → List ℕ) (C : Copying S) → Lawful (booted_from N boot sectors)
     → (typed0 typed1 : List ℕ) (moves : List Move) (s : S) (generation : ℕ)
     → Recorded (booted_from N boot sectors) boot moves s
     → (m : MayStart (booted_from N boot sectors) C typed0 typed1 moves s generation)
-    → N.count s ≡ last_count 0 (entries Logged 0 moves)
+    → (exact : Bool) → (exact ≡ true → N.count s ≡ last_count 0 (entries Logged 0 moves))
     → (records : List Record) → IsItsStore (booted_from N boot sectors) moves s records
-    → BeginsAt N boot sectors typed0 typed1 m.known (keys_of typed0 typed1 moves) (accepted_of moves) s s records
+    → BeginsAt N exact boot sectors typed0 typed1 m.known (keys_of typed0 typed1 moves) (accepted_of moves) s s records
 
 -- ---- and from there threads go on
 

@@ -27,3 +27,19 @@ pub(crate) fn known_so() -> Known
         marker: PhantomData,
     }
 }
+
+/// What may be known where there is such a value.
+pub trait Recalls<X> {
+    ghost holds: { X → Knowledge → Type 0 };
+}
+
+/// Something is known of what may be known here, if there is anything.
+pub fn known_by<X, M: Recalls<X>>(here: &X) -> Known
+    requires { (known : Knowledge) × M.holds here.now known }
+    ensures { M.holds here.now result.known }
+{
+    let _ = here;
+    Known {
+        marker: PhantomData,
+    }
+}

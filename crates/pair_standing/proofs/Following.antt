@@ -1,9 +1,10 @@
--- A settled run that stands at its last entry is shown, so the workers of a generation may begin there.
-use Rattle.std.proofs.Common.{◌≡◌, ℕ, ◌<◌, ◌≤◌, [], length, take, sym, ap, subst, ◌∙◌, arith}
+-- A settled run that stands is shown, so the workers of a generation may begin there.
+use Rattle.std.proofs.Common.{◌≡◌, ℕ, ◌<◌, ◌≤◌, false, [], length, take, sym, ap, subst, ◌∙◌, arith}
+use Rattle.std.proofs.lemmas.Bool.{false≢true}
 use Rattle.guest_lockstep.specs.Machine.{booted_from}
 use Rattle.guest_lockstep.specs.declared.reads.Reads.TheVariants.{Logged}
 use Rattle.guest_lockstep.specs.Reach.{inputs, keys, output}
-use Rattle.log_entry.specs.Entries.{entries, last_count}
+use Rattle.log_entry.specs.Entries.{entries}
 use Rattle.pair_protocol.proofs.Traces.Lists.{prefix-length}
 use Rattle.pair_resumed.specs.Settled.{SettledRunsAreShown, SettledRunsMayBegin, accepted_of, keys_of}
 use Rattle.pair_rule.specs.Rules.{IsStart}
@@ -16,7 +17,7 @@ fits taken many most is le = omega (arith, is, le)
 
 pub may_follow : {S : Type 0} → SettledRunsAreShown S → SettledRunsMayBegin S → StandingsMayFollow S
 may_follow shown may N boot sectors C runnable dues copies typed0 typed1 list screen0 screen1 records taken0 taken1
-    generation s st ends =
+    generation s st =
     let M = booted_from N boot sectors in
     let m = shown M C runnable dues copies typed0 typed1 st.moves s generation st.settled in
     let k = m.known in
@@ -25,10 +26,9 @@ may_follow shown may N boot sectors C runnable dues copies typed0 typed1 list sc
     let two1 : 1 < 2 = omega arith in
     let n0 : length screen0 ≡ length (output 0 st.moves) = ap length st.screens_are.0 in
     let n1 : length screen1 ≡ length (output 1 st.moves) = ap length st.screens_are.1.0 in
-    let begins : BeginsAt N boot sectors typed0 typed1 k (keys_of typed0 typed1 st.moves) (accepted_of st.moves) s s
+    let begins : BeginsAt N false boot sectors typed0 typed1 k (keys_of typed0 typed1 st.moves) (accepted_of st.moves) s s
     records = may N boot sectors C runnable.lawful typed0 typed1 st.moves s generation st.settled.recorded m
-    (ends ∙ ap (last_count 0) (sym st.entries_are)) records st.store in record {
-      known = k;
+    false (λ is. absurd (false≢true is)) records st.store in (k, record {
       starts =
           subst (λ n. IsStart generation n (length screen0) (length screen1) k) (ap length st.entries_are)
           (subst (λ n. IsStart generation (length (entries Logged 0 st.moves)) n (length screen1) k) (sym n0)
@@ -48,8 +48,8 @@ may_follow shown may N boot sectors C runnable dues copies typed0 typed1 list sc
           (prefix-length (keys 1 (inputs 0 st.moves)) typed1 (st.settled.keys_kept 1 two1));
       store = begins.store;
       begins =
-          subst (λ f. BeginsAt N boot sectors typed0 typed1 k f (by_port (length screen0) (length screen1) 0) s s records)
+          subst (λ f. BeginsAt N false boot sectors typed0 typed1 k f (by_port (length screen0) (length screen1) 0) s s records)
           (λ i. by_port (take (sym st.taken0_is i) typed0) (take (sym st.taken1_is i) typed1) [])
-          (subst (λ f. BeginsAt N boot sectors typed0 typed1 k (keys_of typed0 typed1 st.moves) f s s records)
+          (subst (λ f. BeginsAt N false boot sectors typed0 typed1 k (keys_of typed0 typed1 st.moves) f s s records)
           (λ i. by_port (sym n0 i) (sym n1 i) 0) begins);
-    }
+    })

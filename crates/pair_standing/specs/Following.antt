@@ -1,8 +1,7 @@
 -- What a settled run that stands gives the generation after it: all that its workers ask where they begin.
-use Rattle.std.specs.Prelude.{◌≡◌, ◌≤◌, ℕ, length, take, List, [], ◌∷◌}
+use Rattle.std.specs.Prelude.{◌≡◌, ◌≤◌, ℕ, false, length, take, List, [], ◌∷◌}
 use Rattle.disk_dcdd.specs.declared.address.SectorAddress.{SectorAddress}
 use Rattle.guest_lockstep.specs.Machine.{Machine, booted_from}
-use Rattle.log_entry.specs.Entries.{last_count}
 use Rattle.log_entry.specs.declared.entry.Entry.{Entry}
 use Rattle.pair_protocol.specs.Copying.{Copying, IsCopying}
 use Rattle.pair_resumed.specs.Settled.{DueIsGiven}
@@ -17,12 +16,11 @@ use Rattle.pair_threads.specs.Resuming.{BeginsAt}
 use Rattle.pair_threads.specs.Stores.{IsStore}
 use Rattle.shared_disk.specs.declared.store.Record.{Record}
 
--- with two guests in this state there is something that may be known, with which a table may begin; both lists, what was seen
--- and counted, the screens and the store are those that stand, nothing is under way, and the workers may begin there
-pub record MayFollow {S : Type 0} (N : Machine S) (boot : S) (sectors : SectorAddress → List ℕ) (typed0 typed1 : List ℕ)
-    (list : List Entry) (screen0 screen1 : List ℕ) (records : List Record) (taken0 taken1 generation : ℕ) (s : S) :
-    Type 0 where
-  pub known : Knowledge
+-- what may be known where two guests stand in this state, so that a table may begin with it: both lists, what was seen and
+-- counted, the screens and the store are those that stand, nothing is under way, and the workers may begin there
+pub record MayBeKnown {S : Type 0} (N : Machine S) (boot : S) (sectors : SectorAddress → List ℕ) (typed0 typed1 : List ℕ)
+    (list : List Entry) (screen0 screen1 : List ℕ) (records : List Record) (taken0 taken1 generation : ℕ) (s : S)
+    (known : Knowledge) : Type 0 where
   pub starts : IsStart generation (length list) (length screen0) (length screen1) known
   pub primary_list : list ≡ known.primary.list
   pub backup_list : list ≡ known.backup.list
@@ -35,10 +33,10 @@ pub record MayFollow {S : Type 0} (N : Machine S) (boot : S) (sectors : SectorAd
   pub fits0 : taken0 ≤ length typed0
   pub fits1 : taken1 ≤ length typed1
   pub store : IsStore sectors records known.disk
-  pub begins : BeginsAt N boot sectors typed0 typed1 known (by_port (take taken0 typed0) (take taken1 typed1) [])
+  pub begins : BeginsAt N false boot sectors typed0 typed1 known (by_port (take taken0 typed0) (take taken1 typed1) [])
       (by_port (length screen0) (length screen1) 0) s s records
 
--- so with each that stands at its last entry
+-- so with each that stands
 abbrev pub StandingsMayFollow : Type 0 → Type 0
 StandingsMayFollow S =
     (N : Machine S) (boot : S) (sectors : SectorAddress → List ℕ) (C : Copying S)
@@ -46,5 +44,5 @@ StandingsMayFollow S =
     → IsCopying (booted_from N boot sectors) C → (typed0 typed1 : List ℕ) (list : List Entry) (screen0 screen1 : List ℕ)
     (records : List Record) (taken0 taken1 generation : ℕ) (s : S)
     → Stands (booted_from N boot sectors) typed0 typed1 list (screen0 ∷ screen1 ∷ []) records taken0 taken1 s
-    → N.count s ≡ last_count 0 list
-    → MayFollow N boot sectors typed0 typed1 list screen0 screen1 records taken0 taken1 generation s
+    → ((known : Knowledge) × MayBeKnown N boot sectors typed0 typed1 list screen0 screen1 records taken0 taken1 generation s
+    known)

@@ -13,7 +13,7 @@ pub fn altairs_are_due()
     sectors_stand_apart();
 }
 
-/// What stands at the last entry of its list, with a copy of its guest, has all that a further generation asks where it
+/// What stands, with a copy of its guest, has all that a further generation asks where it
 /// begins.
 pub fn standings_may_follow<S>()
     ensures follow { StandingsMayFollow S }

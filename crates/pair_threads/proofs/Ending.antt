@@ -40,9 +40,9 @@ use Rattle.shared_disk.specs.declared.store.Record.{Record}
 -- ---- the machine that boots elsewhere
 
 module _ {S : Type 0} (N : Machine S) (start : S) (sectors : SectorAddress → List ℕ) where
-  repeats_there : (boot : S) (list : List Entry) (between : Bool) (s : S) → Repeats N boot list between s
-      → Repeats (booted_from N start sectors) boot list between s
-  repeats_there boot list between s repeats = record {
+  repeats_there : (exact : Bool) (boot : S) (list : List Entry) (between : Bool) (s : S) → Repeats N exact boot list between s
+      → Repeats (booted_from N start sectors) exact boot list between s
+  repeats_there exact boot list between s repeats = record {
     ran = record {
       moves = repeats.ran.moves;
       runs = Recorded-booted N start sectors boot s repeats.ran.moves repeats.ran.runs;
@@ -118,23 +118,24 @@ how_long : {T : Type 0} (v : Vec T Global) → vec_len v ≡ length v.items
 how_long v = omega (arith, v.ok.0)
 
 -- a guest that has repeated the whole list is between no two entries
-all_repeated : {B S : Type 0} (state : B → S) (N : Machine S) (boot : S) (b : BackupWorker B) → IsAt state N boot b.guest
-    → b.guest.replayed ≡ vec_len b.guest.list → Repeats N boot b.guest.list.items false (state b.guest.board)
-all_repeated state N boot b at all = go b.guest.between refl
+all_repeated : {B S : Type 0} (state : B → S) (N : Machine S) (exact : Bool) (boot : S) (b : BackupWorker B)
+    → IsAt state N exact boot b.guest → b.guest.replayed ≡ vec_len b.guest.list
+    → Repeats N exact boot b.guest.list.items false (state b.guest.board)
+all_repeated state N exact boot b at all = go b.guest.between refl
   where
-    whole : Repeats N boot b.guest.list.items b.guest.between (state b.guest.board)
-    whole = subst (λ l. Repeats N boot l b.guest.between (state b.guest.board))
+    whole : Repeats N exact boot b.guest.list.items b.guest.between (state b.guest.board)
+    whole = subst (λ l. Repeats N exact boot l b.guest.between (state b.guest.board))
         (ap (λ n. take n b.guest.list.items) (all ∙ how_long b.guest.list) ∙ take-length b.guest.list.items) at
 
-    go : (between : Bool) → b.guest.between ≡ between → Repeats N boot b.guest.list.items false (state b.guest.board)
-    go false is = subst (λ between. Repeats N boot b.guest.list.items between (state b.guest.board)) is whole
+    go : (between : Bool) → b.guest.between ≡ between → Repeats N exact boot b.guest.list.items false (state b.guest.board)
+    go false is = subst (λ between. Repeats N exact boot b.guest.list.items between (state b.guest.board)) is whole
     go true is = absurd (let a = b.guest.towards is in omega (arith, a, all))
 
-module _ {B S : Type 0} (state : B → S) (N : Machine S) (counts : Counts N) (laws : ComesAndGoes N) (boot : S)
+module _ {B S : Type 0} (state : B → S) (N : Machine S) (counts : Counts N) (laws : ComesAndGoes N) (exact : Bool) (boot : S)
     (first : List Record) (lawful : Lawful (booted_from N boot (bytes_in first))) (p : PrimaryWorker B) (b : BackupWorker B)
     (terminal : TerminalView) (disk : DiskView) (tail held winner : ℕ)
     (settled : Settled p.seat.core.known.primary b.seat.core.known.backup terminal disk tail held winner)
-    (records : List Record) (leads : WorkerLeads state N boot p) (at : IsAt state N boot b.guest)
+    (records : List Record) (leads : WorkerLeads state N boot p) (at : IsAt state N exact boot b.guest)
     (store : IsStore (bytes_in first) records disk) (contested : Bool) (rests : contested ≡ false → IsAtRest state N p)
     (repeated : (contested ≡ false) ⊎ (b.seat.core.known.backup.winner ≡ 2) → b.guest.replayed ≡ vec_len b.guest.list) where
   abbrev M : Machine S
@@ -153,10 +154,10 @@ module _ {B S : Type 0} (state : B → S) (N : Machine S) (counts : Counts N) (l
   known = leads_there N boot (bytes_in first) boot (with_waiting primary.list p.guest.waiting) p.guest.given.items primary
       (state p.guest.board) leads.0
 
-  repeats : b.guest.replayed ≡ vec_len b.guest.list → Repeats M boot backup.list false (state b.guest.board)
-  repeats all = subst (λ l. Repeats M boot l false (state b.guest.board)) b.same
-      (repeats_there N boot (bytes_in first) boot b.guest.list.items false (state b.guest.board)
-      (all_repeated state N boot b at all))
+  repeats : b.guest.replayed ≡ vec_len b.guest.list → Repeats M exact boot backup.list false (state b.guest.board)
+  repeats all = subst (λ l. Repeats M exact boot l false (state b.guest.board)) b.same
+      (repeats_there N boot (bytes_in first) exact boot b.guest.list.items false (state b.guest.board)
+      (all_repeated state N exact boot b at all))
 
   less0 : p.port0.accepted ≤ primary.counted0
   less0 = (let a = p.accepted.0 in let b = p.saw_counted.0 in omega (arith, a, b))
@@ -181,12 +182,12 @@ module _ {B S : Type 0} (state : B → S) (N : Machine S) (counts : Counts N) (l
       p.guest.waiting p.guest.given.items (state p.guest.board) known p.port0.typed.items p.port1.typed.items
       p.port0.taken p.port1.taken p.port0.accepted p.port1.accepted leads.2 less0 less1 records store
 
-  second_there : b.guest.replayed ≡ vec_len b.guest.list → IsWhereItLeads M backup.list (state b.guest.board)
+  second_there : b.guest.replayed ≡ vec_len b.guest.list → IsWhereItLeads M exact backup.list (state b.guest.board)
   second_there all = backup_where M lawful (Counts-booted N boot (bytes_in first) counts)
       (ComesAndGoes-booted N boot (bytes_in first) laws) primary backup terminal disk tail held winner settled
       p.guest.waiting p.guest.given.items (state p.guest.board) known p.port0.typed.items p.port1.typed.items
       p.port0.taken p.port1.taken p.port0.accepted p.port1.accepted leads.2 less0 less1 records store
-      (state b.guest.board) (repeats all)
+      exact (state b.guest.board) (repeats all)
 
   first_left : Leaves M p.port0.typed.items p.port1.typed.items (with_waiting primary.list p.guest.waiting) screens records
       (state p.guest.board)
@@ -205,17 +206,17 @@ module _ {B S : Type 0} (state : B → S) (N : Machine S) (counts : Counts N) (l
 
   -- nobody is
   both_well : IsAtRest state N p → b.guest.replayed ≡ vec_len b.guest.list
-      → EndsWell M p.port0.typed.items p.port1.typed.items primary.list screens records (state p.guest.board)
+      → EndsWell M exact p.port0.typed.items p.port1.typed.items primary.list screens records (state p.guest.board)
       (state b.guest.board)
   both_well rest all = well M lawful (Counts-booted N boot (bytes_in first) counts)
       (ComesAndGoes-booted N boot (bytes_in first) laws) primary backup terminal disk tail held winner settled
       p.guest.waiting p.guest.given.items (state p.guest.board) known p.port0.typed.items p.port1.typed.items
       p.port0.taken p.port1.taken p.port0.accepted p.port1.accepted leads.2 less0 less1 records store
       rest.none_waits rest.none (seen rest) (rest.all0 ∙ how_long p.port0.typed) (rest.all1 ∙ how_long p.port1.typed)
-      (leads.1 rest.idle) rest.no_sector (state b.guest.board) (repeats all)
+      (leads.1 rest.idle) rest.no_sector exact (state b.guest.board) (repeats all)
 
   by_winner : (goes : Option Who) → goes ≡ winner_named winner → (goes ≡ None → contested ≡ false)
-      → EndsBy M p.port0.typed.items p.port1.typed.items goes primary.list backup.list held screens records
+      → EndsBy M exact p.port0.typed.items p.port1.typed.items goes primary.list backup.list held screens records
       (state p.guest.board) (state b.guest.board)
   by_winner None is quiet =
       let rest = rests (quiet refl) in (
@@ -263,12 +264,12 @@ module _ {B S : Type 0} (state : B → S) (N : Machine S) (counts : Counts N) (l
 
   -- so with the lists that the workers keep
   pub ends : (goes : Option Who) → goes ≡ winner_named winner → (goes ≡ None → contested ≡ false)
-      → EndsBy M p.port0.typed.items p.port1.typed.items goes p.list.items b.guest.list.items held screens records
+      → EndsBy M exact p.port0.typed.items p.port1.typed.items goes p.list.items b.guest.list.items held screens records
       (state p.guest.board) (state b.guest.board)
   ends goes is quiet =
-      subst (λ l. EndsBy M p.port0.typed.items p.port1.typed.items goes l b.guest.list.items held screens records
+      subst (λ l. EndsBy M exact p.port0.typed.items p.port1.typed.items goes l b.guest.list.items held screens records
       (state p.guest.board) (state b.guest.board)) (sym p.same)
-      (subst (λ l. EndsBy M p.port0.typed.items p.port1.typed.items goes primary.list l held screens records
+      (subst (λ l. EndsBy M exact p.port0.typed.items p.port1.typed.items goes primary.list l held screens records
       (state p.guest.board) (state b.guest.board)) (sym b.same) (by_winner goes is quiet))
 
   pub left : (goes : Option Who) → goes ≡ winner_named winner → (goes ≡ None → contested ≡ false) → (waiting : Option Entry)
@@ -304,21 +305,21 @@ settled_so p q b c t u d e tail held winner first second third fourth settled =
     subst (λ x. Settled x c u e tail held winner) first (subst (λ x. Settled p x u e tail held winner) second
     (subst (λ x. Settled p b x e tail held winner) third (subst (λ x. Settled p b t x tail held winner) fourth settled)))
 
-pub ends_so : {S : Type 0} (M : Machine S) (typed0 typed1 known0 known1 : List ℕ) (goes : Option Who) (held : ℕ)
+pub ends_so : {S : Type 0} (M : Machine S) (exact : Bool) (typed0 typed1 known0 known1 : List ℕ) (goes : Option Who) (held : ℕ)
     (list all copy held_copy : List Entry) (screens shown : List (List ℕ)) (records kept : List Record) (s s' t t' : S)
     → known0 ≡ typed0 → known1 ≡ typed1 → all ≡ list → held_copy ≡ copy → shown ≡ screens → kept ≡ records → s' ≡ s → t' ≡ t
-    → EndsBy M known0 known1 goes list copy held screens records s t
-    → EndsBy M typed0 typed1 goes all held_copy held shown kept s' t'
-ends_so M typed0 typed1 known0 known1 goes held list all copy held_copy screens shown records kept s s' t t' k0 k1 l c n k is
+    → EndsBy M exact known0 known1 goes list copy held screens records s t
+    → EndsBy M exact typed0 typed1 goes all held_copy held shown kept s' t'
+ends_so M exact typed0 typed1 known0 known1 goes held list all copy held_copy screens shown records kept s s' t t' k0 k1 l c n k is
     there ends =
-    subst (λ x. EndsBy M x typed1 goes all held_copy held shown kept s' t') k0
-    (subst (λ x. EndsBy M known0 x goes all held_copy held shown kept s' t') k1
-    (subst (λ x. EndsBy M known0 known1 goes x held_copy held shown kept s' t') (sym l)
-    (subst (λ x. EndsBy M known0 known1 goes list x held shown kept s' t') (sym c)
-    (subst (λ x. EndsBy M known0 known1 goes list copy held x kept s' t') (sym n)
-    (subst (λ x. EndsBy M known0 known1 goes list copy held screens x s' t') (sym k)
-    (subst (λ x. EndsBy M known0 known1 goes list copy held screens records x t') (sym is)
-    (subst (λ x. EndsBy M known0 known1 goes list copy held screens records s x) (sym there) ends)))))))
+    subst (λ x. EndsBy M exact x typed1 goes all held_copy held shown kept s' t') k0
+    (subst (λ x. EndsBy M exact known0 x goes all held_copy held shown kept s' t') k1
+    (subst (λ x. EndsBy M exact known0 known1 goes x held_copy held shown kept s' t') (sym l)
+    (subst (λ x. EndsBy M exact known0 known1 goes list x held shown kept s' t') (sym c)
+    (subst (λ x. EndsBy M exact known0 known1 goes list copy held x kept s' t') (sym n)
+    (subst (λ x. EndsBy M exact known0 known1 goes list copy held screens x s' t') (sym k)
+    (subst (λ x. EndsBy M exact known0 known1 goes list copy held screens records x t') (sym is)
+    (subst (λ x. EndsBy M exact known0 known1 goes list copy held screens records s x) (sym there) ends)))))))
 
 -- ---- results
 

@@ -1,7 +1,7 @@
 -- The guest of a backup's worker: entries that arrive leave what it has repeated as it was; steps towards an entry keep it,
 -- and the entry's own move adds the entry.
 use Rattle.std.proofs.Common.{◌≡◌, ◌⊎◌, inl, inr, ℕ, zero, suc, ◌+◌, ◌<◌, ◌≤◌, Bool, true, false, Option, Some, None, Ok, Err, List, [], ◌∷◌, ◌++◌, length, take, get_or, refl, sym, ap, subst, ◌∙◌, arith}
-use Rattle.std.specs.Prelude.{is_some, slice_get}
+use Rattle.std.specs.Prelude.{IsSome, is_some, slice_get}
 use Rattle.std.proofs.Math.Seq.{take-suc}
 use Rattle.std.proofs.lemmas.List.{take-append-le}
 use Rattle.guest_lockstep.specs.Lockstep.{StepsUnless, step_refusal}
@@ -15,37 +15,41 @@ use Rattle.replayer.specs.Following.{Follows, Reaches}
 use Rattle.replayer.specs.declared.following.Followed.{Followed}
 use Rattle.replayer.specs.declared.following.Followed.TheVariants.{Differs, Stepped}
 use Rattle.replayer.proofs.FollowedEntries.{following_is_recording}
-use Rattle.pair_threads.specs.Repeating.{FollowsFor, IsStuck, Repeats}
+use Rattle.pair_rule.specs.Seats.{Seat}
+use Rattle.pair_threads.specs.Ending.{HasAsked}
+use Rattle.pair_threads.specs.Repeating.{FollowsFor, GoesOn, IsAt, IsStuck, Repeats}
+use Rattle.pair_threads.specs.declared.backup.BackupWorker.{BackupWorker}
+use Rattle.pair_threads.specs.declared.plan.Plan.{Plan}
 use Rattle.pair_threads.specs.declared.repeater.Repeater.{Repeater}
 
 last_more : (count : ℕ) (list : List Entry) (e : Entry) → last_count count (list ++ e ∷ []) ≡ count_of e
 last_more count [] e = refl
 last_more count (x ∷ list) e = last_more (count_of x) list e
 
-pub at_first : {S : Type 0} (M : Machine S) (boot : S) → Repeats M boot [] false boot
-at_first M boot = record { ran = record { moves = []; runs = refl; entries_are = refl }; at = λ here. refl }
+pub at_first : {S : Type 0} (M : Machine S) (exact : Bool) (boot : S) → Repeats M exact boot [] false boot
+at_first M exact boot = record { ran = record { moves = []; runs = refl; entries_are = refl }; at = λ stands here. refl }
 
-module _ {S : Type 0} (M : Machine S) (boot s : S) (list : List Entry) (between : Bool) where
+module _ {S : Type 0} (M : Machine S) (exact : Bool) (boot s : S) (list : List Entry) (between : Bool) where
   -- one more entry comes
-  pub kept : (replayed : ℕ) (e : Entry) → replayed ≤ length list → Repeats M boot (take replayed list) between s
-      → Repeats M boot (take replayed (list ++ e ∷ [])) between s
+  pub kept : (replayed : ℕ) (e : Entry) → replayed ≤ length list → Repeats M exact boot (take replayed list) between s
+      → Repeats M exact boot (take replayed (list ++ e ∷ [])) between s
   kept replayed e within r =
-      subst (λ l. Repeats M boot l between s) (sym (take-append-le replayed list (e ∷ []) within)) r
+      subst (λ l. Repeats M exact boot l between s) (sym (take-append-le replayed list (e ∷ []) within)) r
 
   module _ (counts : Counts M) where
-    pub steps_on : (n turns : ℕ) (e : Entry) (t : S) → Repeats M boot list between s
-        → Follows M s e turns (Ok (Stepped n)) t → Repeats M boot list true t
+    pub steps_on : (n turns : ℕ) (e : Entry) (t : S) → Repeats M exact boot list between s
+        → Follows M s e turns (Ok (Stepped n)) t → Repeats M exact boot list true t
     steps_on n turns e t r follows =
         record {
           ran = (following_is_recording M counts boot s list r.ran).quietly n t follows.3;
-          at = λ not_between. absurd cc;
+          at = λ stands not_between. absurd cc;
         }
 
-    pub reaches : (e : Entry) (t : S) → Repeats M boot list between s → Reaches M s e t
-        → Repeats M boot (list ++ e ∷ []) false t
+    pub reaches : (e : Entry) (t : S) → Repeats M exact boot list between s → Reaches M s e t
+        → Repeats M exact boot (list ++ e ∷ []) false t
     reaches e t r there =
         let made = (following_is_recording M counts boot s list r.ran).reaches e t there in
-        record { ran = made.0; at = λ here. made.1 ∙ sym (last_more (M.count boot) list e) }
+        record { ran = made.0; at = λ stands here. made.1 ∙ sym (last_more (M.count boot) list e) }
 
 -- the entries repeated after one more
 pub one_more : (list : List Entry) (replayed : ℕ) (e : Entry) → replayed < length list → e ≡ get_or list replayed e
@@ -82,3 +86,29 @@ refused_there state M r e turns fault t follows = go (step_refusal M (state r.bo
         → StepsUnless M (state r.board) o (Err fault) (state r.board) → (fault ≡ OutOfMemory) ⊎ IsStuck state M r
     go None is unless = inl unless.0
     go (Some other) is unless = inr (inr (ap is_some is))
+
+-- ---- a worker with such a guest
+
+-- it has come from the first worker by way of another
+module _ {B S : Type 0} (state : B → S) (M : Machine S) (first old new : BackupWorker B) (same : new.plan ≡ old.plan)
+    (came : (old.plan ≡ first.plan) × HasAsked old.plan.contests_at old.seat.core.known.backup.winner
+    × GoesOn state M first.guest old.guest) where
+  pub comes_on : HasAsked new.plan.contests_at new.seat.core.known.backup.winner → GoesOn state M old.guest new.guest
+      → (new.plan ≡ first.plan) × HasAsked new.plan.contests_at new.seat.core.known.backup.winner
+      × GoesOn state M first.guest new.guest
+  comes_on asked goes = (same ∙ came.0, asked, λ exact boot at. goes exact boot (came.2 exact boot at))
+
+  -- its seat is as it was
+  pub still_asked : new.seat ≡ old.seat → HasAsked new.plan.contests_at new.seat.core.known.backup.winner
+  still_asked seat =
+      subst (λ (p : Plan). HasAsked p.contests_at new.seat.core.known.backup.winner) (sym same)
+      (subst (λ (s : Seat). HasAsked old.plan.contests_at s.core.known.backup.winner) (sym seat) came.1)
+
+  -- it asks at its turn
+  pub asks_now : (number : ℕ) → old.plan.contests_at ≡ Some number
+      → HasAsked new.plan.contests_at new.seat.core.known.backup.winner
+  asks_now number at = inr (subst IsSome (sym (ap (λ (p : Plan). p.contests_at) same ∙ at)) refl)
+
+-- a guest that is as it was goes on
+pub goes_same : {B S : Type 0} (state : B → S) (M : Machine S) (old new : Repeater B) → new ≡ old → GoesOn state M old new
+goes_same state M old new same exact boot at = subst (λ r. IsAt state M exact boot r) (sym same) at

@@ -1,5 +1,5 @@
 -- A primary's worker that goes on where a run was settled: its seat knows what is known then, and its ports have what was taken.
-use Rattle.std.proofs.Common.{◌≡◌, ℕ, true, List, [], take, sym, ap, subst, ◌∙◌, Vec, Global}
+use Rattle.std.proofs.Common.{◌≡◌, ℕ, Bool, true, List, [], take, sym, ap, subst, ◌∙◌, Vec, Global}
 use Rattle.disk_dcdd.specs.declared.address.SectorAddress.{SectorAddress}
 use Rattle.guest_lockstep.specs.Machine.{Machine}
 use Rattle.pair_rule.specs.declared.view.Core.{Core}
@@ -19,9 +19,9 @@ use Rattle.shared_disk.specs.declared.store.Record.{Record}
 abbrev pub HasTaken : PortInputs → Vec ℕ Global → ℕ → ℕ → Type 0
 HasTaken p typed taken accepted = (p.typed ≡ typed) × (p.taken ≡ taken) × (p.accepted ≡ accepted)
 
-module _ {S : Type 0} (M : Machine S) (boot : S) (boots : SectorAddress → List ℕ) (typed0 typed1 : Vec ℕ Global)
+module _ {S : Type 0} (M : Machine S) (exact : Bool) (boot : S) (boots : SectorAddress → List ℕ) (typed0 typed1 : Vec ℕ Global)
     (k : Knowledge) (taken0 taken1 accepted0 accepted1 : ℕ) (s t : S) (records : List Record)
-    (begins : BeginsAt M boot boots typed0.items typed1.items k
+    (begins : BeginsAt M exact boot boots typed0.items typed1.items k
     (by_port (take taken0 typed0.items) (take taken1 typed1.items) []) (by_port accepted0 accepted1 0) s t records)
     (core : Core) (is : core ≡ with_slot Primary true (core_of k)) (port0 port1 : PortInputs)
     (first : HasTaken port0 typed0 taken0 accepted0) (second : HasTaken port1 typed1 taken1 accepted1) where

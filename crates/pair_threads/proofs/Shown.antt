@@ -1,6 +1,6 @@
 -- What the workers end with is what steps of the threads led to: the table has its steps, and each worker kept what its calls
 -- promise.
-use Rattle.std.proofs.Common.{◌≡◌, ◌≤◌, ℕ, List, [], ◌∷◌, length, map, take, Option, None, refl, sym, ap, subst, ◌∙◌, arith}
+use Rattle.std.proofs.Common.{◌≡◌, ◌≤◌, ℕ, Bool, List, [], ◌∷◌, length, map, take, Option, None, refl, sym, ap, subst, ◌∙◌, arith}
 use Rattle.guest_lockstep.specs.Machine.{Machine, booted_from}
 use Rattle.guest_lockstep.specs.declared.reads.Reads.TheVariants.{Logged}
 use Rattle.guest_lockstep.proofs.Booted.{Recorded-booted}
@@ -36,12 +36,12 @@ use Rattle.pair_threads.specs.Shown.{HasMade, IsOfRun}
 use Rattle.pair_threads.specs.Stores.{IsFirst, IsStore, bytes_in}
 use Rattle.shared_disk.specs.declared.store.Record.{Record}
 
-module _ {B S : Type 0} (state : B → S) (N : Machine S) (boot : S)
+module _ {B S : Type 0} (state : B → S) (N : Machine S) (exact : Bool) (boot : S)
     (first : List Record) (lawful : Lawful (booted_from N boot (bytes_in first))) (p : PrimaryWorker B) (b : BackupWorker B)
     (terminal : TerminalView) (disk : DiskView) (tail held winner : ℕ)
     (settled : Settled p.seat.core.known.primary b.seat.core.known.backup terminal disk tail held winner)
     (records : List Record) (leads : WorkerLeads state N boot p) (kept : WorkerKeeps N boot p)
-    (at : IsAt state N boot b.guest) (store : IsStore (bytes_in first) records disk) where
+    (at : IsAt state N exact boot b.guest) (store : IsStore (bytes_in first) records disk) where
   abbrev M : Machine S
   M = booted_from N boot (bytes_in first)
 

@@ -1,5 +1,5 @@
 -- How far the guest of a backup's worker is.
-use Rattle.std.specs.Prelude.{◌≡◌, ◌⊎◌, ℕ, ◌==◌, Bool, false, List, take, vec_len, slice_get, Some, IsSome, Ok}
+use Rattle.std.specs.Prelude.{◌≡◌, ◌⊎◌, ℕ, ◌==◌, Bool, true, false, List, take, vec_len, slice_get, Some, IsSome, Ok}
 use Rattle.guest_lockstep.specs.Lockstep.{step_refusal}
 use Rattle.guest_lockstep.specs.Machine.{Machine}
 use Rattle.log_entry.specs.Entries.{last_count}
@@ -8,19 +8,20 @@ use Rattle.pair_threads.specs.declared.repeater.Repeater.{Repeater}
 use Rattle.replayer.specs.Following.{Follows, Ran, Reaches}
 use Rattle.replayer.specs.declared.following.Followed.{Followed}
 
--- from its boot the guest has made a recorded run with these entries, and it is at the last of them unless it is between
--- two
-pub record Repeats {S : Type 0} (M : Machine S) (boot : S) (list : List Entry) (between : Bool) (s : S) : Type 0 where
+-- from its boot the guest has made a recorded run with these entries, and one that is exact is at the last of them unless it
+-- is between two
+pub record Repeats {S : Type 0} (M : Machine S) (exact : Bool) (boot : S) (list : List Entry) (between : Bool) (s : S) :
+    Type 0 where
   pub ran : Ran M boot list s
-  pub at : between ≡ false → M.count s ≡ last_count (M.count boot) list
+  pub at : exact ≡ true → between ≡ false → M.count s ≡ last_count (M.count boot) list
 
 -- it is so with the entries that a repeater says it has repeated
-abbrev pub IsAt : {B S : Type 0} → (B → S) → Machine S → S → Repeater B → Type 0
-IsAt state M boot r = Repeats M boot (take r.replayed r.list.items) r.between (state r.board)
+abbrev pub IsAt : {B S : Type 0} → (B → S) → Machine S → Bool → S → Repeater B → Type 0
+IsAt state M exact boot r = Repeats M exact boot (take r.replayed r.list.items) r.between (state r.board)
 
 -- and it stays so
 abbrev pub GoesOn : {B S : Type 0} → (B → S) → Machine S → Repeater B → Repeater B → Type 0
-GoesOn {B} {S} state M old new = (boot : S) → IsAt state M boot old → IsAt state M boot new
+GoesOn {B} {S} state M old new = (exact : Bool) (boot : S) → IsAt state M exact boot old → IsAt state M exact boot new
 
 -- it has repeated its whole list
 abbrev pub has_all : {B : Type 0} → Repeater B → Bool

@@ -1,5 +1,5 @@
 //! The backup's worker: it takes packets, acknowledges its list, repeats its entries, and may go on alone.
-ghost use Rattle.std.specs.Prelude.{◌≡◌, ◌≢◌, ◌<◌, ◌≤◌, cond, if◌then◌else◌, min, [], false, true, length, vec_len, is_some, option_map, Option, IfErr, IfOk, IsTrue, OnOk};
+ghost use Rattle.std.specs.Prelude.{◌≡◌, ◌≢◌, ◌<◌, ◌≤◌, Bool, cond, if◌then◌else◌, min, [], false, true, length, vec_len, is_some, option_map, Option, IfErr, IfOk, IsTrue, OnOk};
 ghost use Rattle.pair_rule.specs.declared.mailbox.Mailbox.TheVariants.{Inbox};
 ghost use Rattle.pair_rule.specs.declared.payload.Packet.{Packet};
 ghost use Rattle.pair_rule.specs.declared.payload.Payload.TheVariants.{Log};
@@ -69,7 +69,7 @@ impl<B: Lockstep> BackupWorker<B> {
         ensures seat { result.seat ≡ seat }
         ensures board { result.guest.board ≡ board }
         ensures plan { (result.plan ≡ plan) × (result.won ≡ false) }
-        ensures at { IsAt B.state B.machine (B.state board) result.guest }
+        ensures at { (exact : Bool) → IsAt B.state B.machine exact (B.state board) result.guest }
     {
         BackupWorker {
             seat,
@@ -93,8 +93,8 @@ impl<B: Lockstep> BackupWorker<B> {
         ensures seat { result.seat ≡ seat }
         ensures board { result.guest.board ≡ board }
         ensures plan { (result.plan ≡ plan) × (result.won ≡ false) }
-        ensures at { (boot : B.State) → Repeats B.machine boot list.items false (B.state board)
-            → IsAt B.state B.machine boot result.guest }
+        ensures at { (exact : Bool) (boot : B.State) → Repeats B.machine exact boot list.items false (B.state board)
+            → IsAt B.state B.machine exact boot result.guest }
     {
         let held = list.len() as u64;
         BackupWorker {

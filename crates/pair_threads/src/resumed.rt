@@ -1,5 +1,5 @@
 //! One generation on threads that goes on where a run was settled.
-ghost use Rattle.std.specs.Prelude.{◌≡◌, ◌≤◌, List, ℕ, [], map, take, vec_len, IfErr, IfOk};
+ghost use Rattle.std.specs.Prelude.{◌≡◌, ◌≤◌, Bool, List, ℕ, [], map, take, vec_len, IfErr, IfOk};
 ghost use Rattle.disk_dcdd.specs.declared.address.SectorAddress.{SectorAddress};
 ghost use Rattle.guest_lockstep.specs.Machine.{booted_from};
 ghost use Rattle.pair_protocol.specs.Lawful.{Lawful};
@@ -57,19 +57,21 @@ pub fn run_generation_at<
     ensures refused { IfErr result IsEnding }
     ensures decided { IfOk result (λ e. WonBy resumed.workers.primary_contests resumed.workers.backup_contests e.winner) }
     ensures prefix { IfOk result (λ e. StartsWith e.primary.items e.backup.items) }
-    ensures ends { (boot : B.State) (first : List Record) → Lawful (booted_from B.machine boot (bytes_in first))
-        → BeginsAt B.machine boot (bytes_in first) resumed.workers.typed0.items resumed.workers.typed1.items
+    ensures ends { (boot : B.State) (first : List Record) (exact : Bool)
+        → Lawful (booted_from B.machine boot (bytes_in first)) → BeginsAt B.machine exact boot (bytes_in first)
+        resumed.workers.typed0.items resumed.workers.typed1.items
         resumed.start.known.known
         (by_port (take resumed.taken.0 resumed.workers.typed0.items) (take resumed.taken.1 resumed.workers.typed1.items) [])
         (by_port resumed.start.accepted0 resumed.start.accepted1 0) (B.state resumed.workers.primary)
         (B.state resumed.workers.backup) (D.records resumed.workers.disk)
-        → IfOk result (λ e. EndsBy (booted_from B.machine boot (bytes_in first)) resumed.workers.typed0.items
+        → IfOk result (λ e. EndsBy (booted_from B.machine boot (bytes_in first)) exact resumed.workers.typed0.items
         resumed.workers.typed1.items e.winner e.primary.items e.backup.items e.held (map (λ v. v.items) e.accepted)
         (D.records e.disk) (B.state e.primary_board) (B.state e.backup_board)) }
     ensures typed { IfOk result (λ e. (e.typed0.items ≡ resumed.workers.typed0.items)
         × (e.typed1.items ≡ resumed.workers.typed1.items)) }
-    ensures left { (boot : B.State) (first : List Record) → Lawful (booted_from B.machine boot (bytes_in first))
-        → BeginsAt B.machine boot (bytes_in first) resumed.workers.typed0.items resumed.workers.typed1.items
+    ensures left { (boot : B.State) (first : List Record) (exact : Bool)
+        → Lawful (booted_from B.machine boot (bytes_in first)) → BeginsAt B.machine exact boot (bytes_in first)
+        resumed.workers.typed0.items resumed.workers.typed1.items
         resumed.start.known.known
         (by_port (take resumed.taken.0 resumed.workers.typed0.items) (take resumed.taken.1 resumed.workers.typed1.items) [])
         (by_port resumed.start.accepted0 resumed.start.accepted1 0) (B.state resumed.workers.primary)
@@ -77,8 +79,9 @@ pub fn run_generation_at<
         → IfOk result (λ e. LeavesBy (booted_from B.machine boot (bytes_in first)) resumed.workers.typed0.items
         resumed.workers.typed1.items e.winner e.primary.items e.backup.items e.waiting (map (λ v. v.items) e.accepted)
         (D.records e.disk) (B.state e.primary_board) (B.state e.backup_board)) }
-    ensures ran { (boot : B.State) (first : List Record) → Lawful (booted_from B.machine boot (bytes_in first))
-        → BeginsAt B.machine boot (bytes_in first) resumed.workers.typed0.items resumed.workers.typed1.items
+    ensures ran { (boot : B.State) (first : List Record) (exact : Bool)
+        → Lawful (booted_from B.machine boot (bytes_in first)) → BeginsAt B.machine exact boot (bytes_in first)
+        resumed.workers.typed0.items resumed.workers.typed1.items
         resumed.start.known.known
         (by_port (take resumed.taken.0 resumed.workers.typed0.items) (take resumed.taken.1 resumed.workers.typed1.items) [])
         (by_port resumed.start.accepted0 resumed.start.accepted1 0) (B.state resumed.workers.primary)

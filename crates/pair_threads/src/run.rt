@@ -1,5 +1,5 @@
 //! One generation on threads.
-ghost use Rattle.std.specs.Prelude.{◌≡◌, ◌⊎◌, ℕ, List, [], ◌∷◌, Option, None, Some, false, length, map, vec_len, IfErr, IfOk, IsOk, OnOk};
+ghost use Rattle.std.specs.Prelude.{◌≡◌, ◌⊎◌, ℕ, List, [], ◌∷◌, Option, None, Some, Bool, true, false, length, map, vec_len, IfErr, IfOk, IsOk, OnOk};
 ghost use Rattle.guest_lockstep.specs.Machine.{booted_from};
 ghost use Rattle.pair_protocol.specs.Lawful.{Lawful};
 ghost use Rattle.pair_rule.specs.Knowledge.{StartsWith, last_or};
@@ -188,27 +188,27 @@ fn conclude<B: Lockstep + Drop, D: SectorStore>(
     ensures typed { IfOk result (λ e. (e.typed0.items ≡ primary.port0.typed.items)
         × (e.typed1.items ≡ primary.port1.typed.items)) }
     ensures prefix { IfOk result (λ e. StartsWith e.primary.items e.backup.items) }
-    ensures ends { (boot : B.State) (first : List Record) (typed0 typed1 : List ℕ)
+    ensures ends { (boot : B.State) (first : List Record) (typed0 typed1 : List ℕ) (exact : Bool)
         → Lawful (booted_from B.machine boot (bytes_in first))
         → (primary.port0.typed.items ≡ typed0) × (primary.port1.typed.items ≡ typed1)
-        × WorkerLeads B.state B.machine boot primary → IsAt B.state B.machine boot backup.guest
+        × WorkerLeads B.state B.machine boot primary → IsAt B.state B.machine exact boot backup.guest
         → IsStore (bytes_in first) (D.records disk.disk) disk.seat.core.known.disk
-        → IfOk result (λ e. EndsBy (booted_from B.machine boot (bytes_in first)) typed0 typed1 e.winner e.primary.items
-        e.backup.items e.held (map (λ v. v.items) e.accepted) (D.records e.disk) (B.state e.primary_board)
-        (B.state e.backup_board)) }
-    ensures left { (boot : B.State) (first : List Record) (typed0 typed1 : List ℕ)
+        → IfOk result (λ e. EndsBy (booted_from B.machine boot (bytes_in first)) exact typed0 typed1 e.winner
+        e.primary.items e.backup.items e.held (map (λ v. v.items) e.accepted) (D.records e.disk)
+        (B.state e.primary_board) (B.state e.backup_board)) }
+    ensures left { (boot : B.State) (first : List Record) (typed0 typed1 : List ℕ) (exact : Bool)
         → Lawful (booted_from B.machine boot (bytes_in first))
         → (primary.port0.typed.items ≡ typed0) × (primary.port1.typed.items ≡ typed1)
-        × WorkerLeads B.state B.machine boot primary → IsAt B.state B.machine boot backup.guest
+        × WorkerLeads B.state B.machine boot primary → IsAt B.state B.machine exact boot backup.guest
         → IsStore (bytes_in first) (D.records disk.disk) disk.seat.core.known.disk
         → IfOk result (λ e. LeavesBy (booted_from B.machine boot (bytes_in first)) typed0 typed1 e.winner e.primary.items
         e.backup.items e.waiting (map (λ v. v.items) e.accepted) (D.records e.disk) (B.state e.primary_board)
         (B.state e.backup_board)) }
-    ensures ran { (boot : B.State) (first : List Record) (typed0 typed1 : List ℕ)
+    ensures ran { (boot : B.State) (first : List Record) (typed0 typed1 : List ℕ) (exact : Bool)
         → Lawful (booted_from B.machine boot (bytes_in first))
         → (primary.port0.typed.items ≡ typed0) × (primary.port1.typed.items ≡ typed1)
         × WorkerLeads B.state B.machine boot primary → WorkerKeeps B.machine boot primary
-        → IsAt B.state B.machine boot backup.guest
+        → IsAt B.state B.machine exact boot backup.guest
         → IsStore (bytes_in first) (D.records disk.disk) disk.seat.core.known.disk
         → IfOk result (λ e. IsOfRun (booted_from B.machine boot (bytes_in first)) typed0 typed1 e.winner e.primary.items
         e.backup.items e.held (map (λ v. v.items) e.accepted) (D.records e.disk) (B.state e.primary_board)
@@ -269,33 +269,33 @@ pub(crate) fn finish<B: Lockstep + Drop, D: SectorStore>(
     ensures decided { (first second : Option ℕ) → OnOk five.primary.1 (five.primary.0.plan.contests_at ≡ first)
         → OnOk five.backup.1 (five.backup.0.plan.contests_at ≡ second) → IfOk result (λ e. WonBy first second e.winner) }
     ensures prefix { IfOk result (λ e. StartsWith e.primary.items e.backup.items) }
-    ensures ends { (boot : B.State) (first : List Record) (typed0 typed1 : List ℕ)
+    ensures ends { (boot : B.State) (first : List Record) (typed0 typed1 : List ℕ) (exact : Bool)
         → Lawful (booted_from B.machine boot (bytes_in first))
         → OnOk five.primary.1 ((five.primary.0.port0.typed.items ≡ typed0) × (five.primary.0.port1.typed.items ≡ typed1)
         × WorkerLeads B.state B.machine boot five.primary.0)
-        → OnOk five.backup.1 (IsAt B.state B.machine boot five.backup.0.guest)
+        → OnOk five.backup.1 (IsAt B.state B.machine exact boot five.backup.0.guest)
         → OnOk five.disk.1 (IsStore (bytes_in first) (D.records five.disk.0.disk) five.disk.0.seat.core.known.disk)
-        → IfOk result (λ e. EndsBy (booted_from B.machine boot (bytes_in first)) typed0 typed1 e.winner e.primary.items
-        e.backup.items e.held (map (λ v. v.items) e.accepted) (D.records e.disk) (B.state e.primary_board)
-        (B.state e.backup_board)) }
+        → IfOk result (λ e. EndsBy (booted_from B.machine boot (bytes_in first)) exact typed0 typed1 e.winner
+        e.primary.items e.backup.items e.held (map (λ v. v.items) e.accepted) (D.records e.disk)
+        (B.state e.primary_board) (B.state e.backup_board)) }
     ensures typed { (typed0 typed1 : List ℕ)
         → OnOk five.primary.1 ((five.primary.0.port0.typed.items ≡ typed0) × (five.primary.0.port1.typed.items ≡ typed1))
         → IfOk result (λ e. (e.typed0.items ≡ typed0) × (e.typed1.items ≡ typed1)) }
-    ensures left { (boot : B.State) (first : List Record) (typed0 typed1 : List ℕ)
+    ensures left { (boot : B.State) (first : List Record) (typed0 typed1 : List ℕ) (exact : Bool)
         → Lawful (booted_from B.machine boot (bytes_in first))
         → OnOk five.primary.1 ((five.primary.0.port0.typed.items ≡ typed0) × (five.primary.0.port1.typed.items ≡ typed1)
         × WorkerLeads B.state B.machine boot five.primary.0)
-        → OnOk five.backup.1 (IsAt B.state B.machine boot five.backup.0.guest)
+        → OnOk five.backup.1 (IsAt B.state B.machine exact boot five.backup.0.guest)
         → OnOk five.disk.1 (IsStore (bytes_in first) (D.records five.disk.0.disk) five.disk.0.seat.core.known.disk)
         → IfOk result (λ e. LeavesBy (booted_from B.machine boot (bytes_in first)) typed0 typed1 e.winner e.primary.items
         e.backup.items e.waiting (map (λ v. v.items) e.accepted) (D.records e.disk) (B.state e.primary_board)
         (B.state e.backup_board)) }
-    ensures ran { (boot : B.State) (first : List Record) (typed0 typed1 : List ℕ)
+    ensures ran { (boot : B.State) (first : List Record) (typed0 typed1 : List ℕ) (exact : Bool)
         → Lawful (booted_from B.machine boot (bytes_in first))
         → OnOk five.primary.1 ((five.primary.0.port0.typed.items ≡ typed0) × (five.primary.0.port1.typed.items ≡ typed1)
         × WorkerLeads B.state B.machine boot five.primary.0)
         → OnOk five.primary.1 (WorkerKeeps B.machine boot five.primary.0)
-        → OnOk five.backup.1 (IsAt B.state B.machine boot five.backup.0.guest)
+        → OnOk five.backup.1 (IsAt B.state B.machine exact boot five.backup.0.guest)
         → OnOk five.disk.1 (IsStore (bytes_in first) (D.records five.disk.0.disk) five.disk.0.seat.core.known.disk)
         → IfOk result (λ e. IsOfRun (booted_from B.machine boot (bytes_in first)) typed0 typed1 e.winner e.primary.items
         e.backup.items e.held (map (λ v. v.items) e.accepted) (D.records e.disk) (B.state e.primary_board)
@@ -333,7 +333,7 @@ pub fn run_generation<
     ensures decided { IfOk result (λ e. WonBy workers.primary_contests workers.backup_contests e.winner) }
     ensures prefix { IfOk result (λ e. StartsWith e.primary.items e.backup.items) }
     ensures ends { IfOk result (λ e. EndsBy (booted_from B.machine (B.state workers.primary) (bytes_in (D.records workers.disk)))
-        workers.typed0.items workers.typed1.items e.winner e.primary.items e.backup.items e.held
+        true workers.typed0.items workers.typed1.items e.winner e.primary.items e.backup.items e.held
         (map (λ v. v.items) e.accepted) (D.records e.disk) (B.state e.primary_board) (B.state e.backup_board)) }
     ensures typed { IfOk result (λ e. (e.typed0.items ≡ workers.typed0.items) × (e.typed1.items ≡ workers.typed1.items)) }
     ensures left { IfOk result (λ e. LeavesBy (booted_from B.machine (B.state workers.primary) (bytes_in (D.records workers.disk)))

@@ -1,5 +1,5 @@
 //! How a backup's guest repeats the entries of its list.
-ghost use Rattle.std.specs.Prelude.{◌≡◌, ◌⊎◌, ◌<◌, ◌↔◌, ◌++◌, [], ◌∷◌, false, vec_len, vec_capacity, IfErr, IsTrue, OnOk};
+ghost use Rattle.std.specs.Prelude.{◌≡◌, ◌⊎◌, Bool, ◌<◌, ◌↔◌, ◌++◌, [], ◌∷◌, false, vec_len, vec_capacity, IfErr, IsTrue, OnOk};
 ghost use Rattle.i8080_words.specs.declared.refusal.Fault.TheVariants.{OutOfMemory, Stalled};
 ghost use Rattle.pair_threads.specs.Repeating.{FollowsFor, GoesOn, IsAt, IsStuck, Repeats, has_all};
 
@@ -15,7 +15,7 @@ impl<B: Lockstep> Repeater<B> {
     pub(crate) fn new(alloc: Global, board: B) -> Repeater<B>
         ensures board { result.board ≡ board }
         ensures list { result.list.items ≡ [] }
-        ensures at { IsAt B.state B.machine (B.state board) result }
+        ensures at { (exact : Bool) → IsAt B.state B.machine exact (B.state board) result }
     {
         Repeater {
             list: Vec::new(alloc),
@@ -29,8 +29,8 @@ impl<B: Lockstep> Repeater<B> {
     pub(crate) fn resume(list: Vec<Entry>, board: B) -> Repeater<B>
         ensures board { result.board ≡ board }
         ensures list { result.list ≡ list }
-        ensures at { (boot : B.State) → Repeats B.machine boot list.items false (B.state board)
-            → IsAt B.state B.machine boot result }
+        ensures at { (exact : Bool) (boot : B.State) → Repeats B.machine exact boot list.items false (B.state board)
+            → IsAt B.state B.machine exact boot result }
     {
         let replayed = list.len();
         Repeater {

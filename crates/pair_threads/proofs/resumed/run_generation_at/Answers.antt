@@ -54,7 +54,7 @@ returns-clause-decided g c =
     ∙ c.new-follow.ensures.asks.0) served.ensures.backup.1)
 
 pub returns-clause-ends : goal.returns-clause-ends
-returns-clause-ends g c = λ boot first lawful begins.
+returns-clause-ends g c = λ boot first exact lawful begins.
     let served = c.work-served in
     let resumed = c.args.resumed in
     let workers = resumed.workers in
@@ -63,19 +63,19 @@ returns-clause-ends g c = λ boot first lawful begins.
     let records = g.D.SectorStore.records in
     let opened = c.in_ok-fabric.ensures in
     let made = c.new-2.ensures in
-    let leads = leads_at M boot (bytes_in first) workers.typed0 workers.typed1 resumed.start.known.known resumed.taken.0
+    let leads = leads_at M exact boot (bytes_in first) workers.typed0 workers.typed1 resumed.start.known.known resumed.taken.0
     resumed.taken.1 resumed.start.accepted0 resumed.start.accepted1 (state workers.primary) (state workers.backup)
     (records workers.disk) begins c.in_ok-fabric.seats.primary.core opened.primary c.after.result c.after-2.result
     c.after.ensures c.after-2.ensures in
-    let says = says_at M boot (bytes_in first) workers.typed0 workers.typed1 resumed.start.known.known resumed.taken.0
+    let says = says_at M exact boot (bytes_in first) workers.typed0 workers.typed1 resumed.start.known.known resumed.taken.0
     resumed.taken.1 resumed.start.accepted0 resumed.start.accepted1 (state workers.primary) (state workers.backup)
     (records workers.disk) begins c.in_ok-fabric.seats.primary.core opened.primary c.after.result c.after-2.result
     c.after.ensures c.after-2.ensures in
-    let repeats = subst (λ l. Repeats M boot l false (state workers.backup)) (sym c.requires.lists.1) begins.repeats in
+    let repeats = subst (λ l. Repeats M exact boot l false (state workers.backup)) (sym c.requires.lists.1) begins.repeats in
     let store = subst (λ d. IsStore (bytes_in first) (records d) c.new-2.result.seat.core.known.disk) (sym made.disk)
     (subst (λ (x : Core). IsStore (bytes_in first) (records workers.disk) x.known.disk)
     (sym (ap (λ (x : Seat). x.core) made.seat ∙ opened.disk)) begins.store) in
-    c.finish.ensures.ends boot first workers.typed0.items workers.typed1.items lawful
+    c.finish.ensures.ends boot first workers.typed0.items workers.typed1.items exact lawful
     (on_ok served.result.primary.1 (λ end. (
       ap (λ (v : Vec ℕ Global). v.items)
           (end.0.1 ∙ ap (λ (p : PortInputs). p.typed) c.resume.ensures.plan.1 ∙ c.after.ensures.0),
@@ -83,11 +83,11 @@ returns-clause-ends g c = λ boot first lawful begins.
           (end.0.2 ∙ ap (λ (p : PortInputs). p.typed) c.resume.ensures.plan.2 ∙ c.after-2.ensures.0),
       end.0.4 boot (c.resume.ensures.leads boot leads says),
     )) served.ensures.primary.1)
-    (on_ok served.result.backup.1 (λ end. end.0.2 boot (c.resume-2.ensures.at boot repeats)) served.ensures.backup.1)
+    (on_ok served.result.backup.1 (λ end. end.0.2 exact boot (c.resume-2.ensures.at exact boot repeats)) served.ensures.backup.1)
     (on_ok served.result.disk.1 (λ end. end.0 (bytes_in first) store) served.ensures.disk.1)
 
 pub returns-clause-left : goal.returns-clause-left
-returns-clause-left g c = λ boot first lawful begins.
+returns-clause-left g c = λ boot first exact lawful begins.
     let served = c.work-served in
     let resumed = c.args.resumed in
     let workers = resumed.workers in
@@ -96,19 +96,19 @@ returns-clause-left g c = λ boot first lawful begins.
     let records = g.D.SectorStore.records in
     let opened = c.in_ok-fabric.ensures in
     let made = c.new-2.ensures in
-    let leads = leads_at M boot (bytes_in first) workers.typed0 workers.typed1 resumed.start.known.known resumed.taken.0
+    let leads = leads_at M exact boot (bytes_in first) workers.typed0 workers.typed1 resumed.start.known.known resumed.taken.0
     resumed.taken.1 resumed.start.accepted0 resumed.start.accepted1 (state workers.primary) (state workers.backup)
     (records workers.disk) begins c.in_ok-fabric.seats.primary.core opened.primary c.after.result c.after-2.result
     c.after.ensures c.after-2.ensures in
-    let says = says_at M boot (bytes_in first) workers.typed0 workers.typed1 resumed.start.known.known resumed.taken.0
+    let says = says_at M exact boot (bytes_in first) workers.typed0 workers.typed1 resumed.start.known.known resumed.taken.0
     resumed.taken.1 resumed.start.accepted0 resumed.start.accepted1 (state workers.primary) (state workers.backup)
     (records workers.disk) begins c.in_ok-fabric.seats.primary.core opened.primary c.after.result c.after-2.result
     c.after.ensures c.after-2.ensures in
-    let repeats = subst (λ l. Repeats M boot l false (state workers.backup)) (sym c.requires.lists.1) begins.repeats in
+    let repeats = subst (λ l. Repeats M exact boot l false (state workers.backup)) (sym c.requires.lists.1) begins.repeats in
     let store = subst (λ d. IsStore (bytes_in first) (records d) c.new-2.result.seat.core.known.disk) (sym made.disk)
     (subst (λ (x : Core). IsStore (bytes_in first) (records workers.disk) x.known.disk)
     (sym (ap (λ (x : Seat). x.core) made.seat ∙ opened.disk)) begins.store) in
-    c.finish.ensures.left boot first workers.typed0.items workers.typed1.items lawful
+    c.finish.ensures.left boot first workers.typed0.items workers.typed1.items exact lawful
     (on_ok served.result.primary.1 (λ end. (
       ap (λ (v : Vec ℕ Global). v.items)
           (end.0.1 ∙ ap (λ (p : PortInputs). p.typed) c.resume.ensures.plan.1 ∙ c.after.ensures.0),
@@ -116,7 +116,7 @@ returns-clause-left g c = λ boot first lawful begins.
           (end.0.2 ∙ ap (λ (p : PortInputs). p.typed) c.resume.ensures.plan.2 ∙ c.after-2.ensures.0),
       end.0.4 boot (c.resume.ensures.leads boot leads says),
     )) served.ensures.primary.1)
-    (on_ok served.result.backup.1 (λ end. end.0.2 boot (c.resume-2.ensures.at boot repeats)) served.ensures.backup.1)
+    (on_ok served.result.backup.1 (λ end. end.0.2 exact boot (c.resume-2.ensures.at exact boot repeats)) served.ensures.backup.1)
     (on_ok served.result.disk.1 (λ end. end.0 (bytes_in first) store) served.ensures.disk.1)
 
 pub returns-clause-typed : goal.returns-clause-typed
@@ -132,7 +132,7 @@ returns-clause-typed g c =
     )) served.ensures.primary.1)
 
 pub returns-clause-ran : goal.returns-clause-ran
-returns-clause-ran g c = λ boot first lawful begins.
+returns-clause-ran g c = λ boot first exact lawful begins.
     let served = c.work-served in
     let resumed = c.args.resumed in
     let workers = resumed.workers in
@@ -142,24 +142,24 @@ returns-clause-ran g c = λ boot first lawful begins.
     let opened = c.in_ok-fabric.ensures in
     let made = c.new-2.ensures in
     let first_worker = c.resume.ensures in
-    let leads = first_worker.leads boot (leads_at M boot (bytes_in first) workers.typed0 workers.typed1
+    let leads = first_worker.leads boot (leads_at M exact boot (bytes_in first) workers.typed0 workers.typed1
     resumed.start.known.known resumed.taken.0 resumed.taken.1 resumed.start.accepted0 resumed.start.accepted1
     (state workers.primary) (state workers.backup) (records workers.disk) begins c.in_ok-fabric.seats.primary.core
     opened.primary c.after.result c.after-2.result c.after.ensures c.after-2.ensures)
-    (says_at M boot (bytes_in first) workers.typed0 workers.typed1 resumed.start.known.known resumed.taken.0
+    (says_at M exact boot (bytes_in first) workers.typed0 workers.typed1 resumed.start.known.known resumed.taken.0
     resumed.taken.1 resumed.start.accepted0 resumed.start.accepted1 (state workers.primary) (state workers.backup)
     (records workers.disk) begins c.in_ok-fabric.seats.primary.core opened.primary c.after.result c.after-2.result
     c.after.ensures c.after-2.ensures) in
-    let kept = keeps_at M boot (bytes_in first) workers.typed0 workers.typed1 resumed.start.known.known resumed.taken.0
+    let kept = keeps_at M exact boot (bytes_in first) workers.typed0 workers.typed1 resumed.start.known.known resumed.taken.0
     resumed.taken.1 resumed.start.accepted0 resumed.start.accepted1 (state workers.primary) (state workers.backup)
     (records workers.disk) begins c.in_ok-fabric.seats.primary.core opened.primary c.after.result c.after-2.result
     c.after.ensures c.after-2.ensures c.resume.result c.in_ok-fabric.seats.primary refl first_worker.seat
     first_worker.plan.1 first_worker.plan.2 in
-    let repeats = subst (λ l. Repeats M boot l false (state workers.backup)) (sym c.requires.lists.1) begins.repeats in
+    let repeats = subst (λ l. Repeats M exact boot l false (state workers.backup)) (sym c.requires.lists.1) begins.repeats in
     let store = subst (λ d. IsStore (bytes_in first) (records d) c.new-2.result.seat.core.known.disk) (sym made.disk)
     (subst (λ (x : Core). IsStore (bytes_in first) (records workers.disk) x.known.disk)
     (sym (ap (λ (x : Seat). x.core) made.seat ∙ opened.disk)) begins.store) in
-    c.finish.ensures.ran boot first workers.typed0.items workers.typed1.items lawful
+    c.finish.ensures.ran boot first workers.typed0.items workers.typed1.items exact lawful
     (on_ok served.result.primary.1 (λ end. (
       ap (λ (v : Vec ℕ Global). v.items)
           (end.0.1 ∙ ap (λ (p : PortInputs). p.typed) first_worker.plan.1 ∙ c.after.ensures.0),
@@ -168,5 +168,5 @@ returns-clause-ran g c = λ boot first lawful begins.
       end.0.4 boot leads,
     )) served.ensures.primary.1)
     (on_ok served.result.primary.1 (λ end. end.0.5 boot leads kept) served.ensures.primary.1)
-    (on_ok served.result.backup.1 (λ end. end.0.2 boot (c.resume-2.ensures.at boot repeats)) served.ensures.backup.1)
+    (on_ok served.result.backup.1 (λ end. end.0.2 exact boot (c.resume-2.ensures.at exact boot repeats)) served.ensures.backup.1)
     (on_ok served.result.disk.1 (λ end. end.0 (bytes_in first) store) served.ensures.disk.1)

@@ -14,7 +14,7 @@ use Rattle.pair_threads.proofs.run.conclude.Goals as goal
 use Rattle.pair_threads.proofs.run.conclude.Goals.{else-contested-via-then-contested+else-is_none, else-contested-via-else-contested}
 
 pub returns-clause-ends : goal.returns-clause-ends
-returns-clause-ends g c = λ boot first typed0 typed1 lawful leads at store.
+returns-clause-ends g c = λ boot first typed0 typed1 exact lawful leads at store.
     let p = c.args.primary in
     let b = c.args.backup in
     let parts = c.take_apart-parts.ensures in
@@ -25,11 +25,11 @@ returns-clause-ends g c = λ boot first typed0 typed1 lawful leads at store.
     (ap (λ (x : Seat). x.core.known.terminal) parts.seats.2) (ap (λ (x : Seat). x.core.known.disk) parts.seats.3)
     c.close-closed.ensures in
     let goes = c.winner_of-winner.result in
-    ends_so _ typed0 typed1 p.port0.typed.items p.port1.typed.items goes closed.held _ _ _ _ _ _ _ _ _ _ _ _ leads.0 leads.1
+    ends_so _ exact typed0 typed1 p.port0.typed.items p.port1.typed.items goes closed.held _ _ _ _ _ _ _ _ _ _ _ _ leads.0 leads.1
     (ap (λ (v : Vec Entry Global). v.items) parts.lists.0) (ap (λ (v : Vec Entry Global). v.items) parts.lists.1)
     parts.screens (ap g.D.SectorStore.records parts.disk) (ap g.B.Lockstep.state parts.boards.0)
     (ap g.B.Lockstep.state parts.boards.1)
-    (ends g.B.Lockstep.state g.B.Lockstep.machine g.met.B.Lockstep.counts g.met.B.Lockstep.operations boot first lawful p b
+    (ends g.B.Lockstep.state g.B.Lockstep.machine g.met.B.Lockstep.counts g.met.B.Lockstep.operations exact boot first lawful p b
     c.args.terminal.seat.core.known.terminal c.args.disk.seat.core.known.disk closed.tail closed.held closed.winner settled
     (g.D.SectorStore.records c.args.disk.disk) leads.2 at store c.args.contested c.requires.rests c.requires.repeated
     goes c.winner_of-winner.ensures
@@ -40,7 +40,7 @@ returns-clause-ends g c = λ boot first typed0 typed1 lawful leads at store.
     ]))
 
 pub returns-clause-left : goal.returns-clause-left
-returns-clause-left g c = λ boot first typed0 typed1 lawful leads at store.
+returns-clause-left g c = λ boot first typed0 typed1 exact lawful leads at store.
     let p = c.args.primary in
     let b = c.args.backup in
     let parts = c.take_apart-parts.ensures in
@@ -57,7 +57,7 @@ returns-clause-left g c = λ boot first typed0 typed1 lawful leads at store.
     (ap (λ (v : Vec Entry Global). v.items) parts.lists.0) (ap (λ (v : Vec Entry Global). v.items) parts.lists.1)
     parts.screens (ap g.D.SectorStore.records parts.disk) (ap g.B.Lockstep.state parts.boards.0)
     (ap g.B.Lockstep.state parts.boards.1)
-    (left g.B.Lockstep.state g.B.Lockstep.machine g.met.B.Lockstep.counts g.met.B.Lockstep.operations boot first lawful p b
+    (left g.B.Lockstep.state g.B.Lockstep.machine g.met.B.Lockstep.counts g.met.B.Lockstep.operations exact boot first lawful p b
     c.args.terminal.seat.core.known.terminal c.args.disk.seat.core.known.disk closed.tail closed.held closed.winner settled
     (g.D.SectorStore.records c.args.disk.disk) leads.2 at store c.args.contested c.requires.rests c.requires.repeated
     goes c.winner_of-winner.ensures
@@ -68,7 +68,7 @@ returns-clause-left g c = λ boot first typed0 typed1 lawful leads at store.
     ]) c.take_apart-parts.result.waiting parts.waiting)
 
 pub returns-clause-ran : goal.returns-clause-ran
-returns-clause-ran g c = λ boot first typed0 typed1 lawful leads kept at store.
+returns-clause-ran g c = λ boot first typed0 typed1 exact lawful leads kept at store.
     let p = c.args.primary in
     let b = c.args.backup in
     let parts = c.take_apart-parts.ensures in
@@ -84,7 +84,7 @@ returns-clause-ran g c = λ boot first typed0 typed1 lawful leads kept at store.
     (ap (λ (v : Vec Entry Global). v.items) parts.lists.0) (ap (λ (v : Vec Entry Global). v.items) parts.lists.1)
     parts.screens (ap g.D.SectorStore.records parts.disk) (ap g.B.Lockstep.state parts.boards.0)
     (ap g.B.Lockstep.state parts.boards.1)
-    (of_run g.B.Lockstep.state g.B.Lockstep.machine boot first lawful p b c.args.terminal.seat.core.known.terminal
+    (of_run g.B.Lockstep.state g.B.Lockstep.machine exact boot first lawful p b c.args.terminal.seat.core.known.terminal
     c.args.disk.seat.core.known.disk closed.tail closed.held closed.winner settled (g.D.SectorStore.records c.args.disk.disk)
     leads.2 kept at store goes c.winner_of-winner.ensures
     (λ none. all_came p (c.requires.rests (elim c.else-contested.branch [

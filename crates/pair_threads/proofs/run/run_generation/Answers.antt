@@ -1,5 +1,5 @@
 -- The disk's worker begins with what was booted; and the workers' ends are of what was given to them.
-use Rattle.std.proofs.Common.{ap, sym, subst, ◌∙◌, Vec, Global, ℕ}
+use Rattle.std.proofs.Common.{ap, sym, subst, true, ◌∙◌, Vec, Global, ℕ}
 use Rattle.pair_rule.specs.Seats.{Seat}
 use Rattle.pair_threads.specs.declared.plan.Plan.{Plan}
 use Rattle.pair_rule.specs.declared.view.Core.{Core}
@@ -35,15 +35,15 @@ returns-clause-ends g c =
     (ap (λ (x : Seat). x.core.known.disk.given) made.seat ∙ ap (λ (x : Core). x.known.disk.given) opened.disk)
     (subst IsUnwritten (sym (ap records made.disk)) c.requires.unwritten) in
     c.finish.ensures.ends (state c.args.workers.primary) (records c.args.workers.disk) c.args.workers.typed0.items
-    c.args.workers.typed1.items c.requires.lawful
+    c.args.workers.typed1.items true c.requires.lawful
     (on_ok served.result.primary.1 (λ end. (
       ap (λ (v : Vec ℕ Global). v.items) (end.0.1 ∙ c.new.ensures.plan.1),
       ap (λ (v : Vec ℕ Global). v.items) (end.0.2 ∙ c.new.ensures.plan.2),
       end.0.4 (state c.args.workers.primary) c.new.ensures.leads,
     )) served.ensures.primary.1)
     (on_ok served.result.backup.1
-    (λ end. end.0.2 (state c.args.workers.primary)
-    (subst (λ b. IsAt state g.B.Lockstep.machine b c.new-3.result.guest) c.requires.alike c.new-3.ensures.at))
+    (λ end. end.0.2 true (state c.args.workers.primary)
+    (subst (λ b. IsAt state g.B.Lockstep.machine true b c.new-3.result.guest) c.requires.alike (c.new-3.ensures.at true)))
     served.ensures.backup.1)
     (on_ok served.result.disk.1
     (λ end. subst (λ r. IsStore (bytes_in r) (records served.result.disk.0.disk) served.result.disk.0.seat.core.known.disk)
@@ -61,15 +61,15 @@ returns-clause-left g c =
     (ap (λ (x : Seat). x.core.known.disk.given) made.seat ∙ ap (λ (x : Core). x.known.disk.given) opened.disk)
     (subst IsUnwritten (sym (ap records made.disk)) c.requires.unwritten) in
     c.finish.ensures.left (state c.args.workers.primary) (records c.args.workers.disk) c.args.workers.typed0.items
-    c.args.workers.typed1.items c.requires.lawful
+    c.args.workers.typed1.items true c.requires.lawful
     (on_ok served.result.primary.1 (λ end. (
       ap (λ (v : Vec ℕ Global). v.items) (end.0.1 ∙ c.new.ensures.plan.1),
       ap (λ (v : Vec ℕ Global). v.items) (end.0.2 ∙ c.new.ensures.plan.2),
       end.0.4 (state c.args.workers.primary) c.new.ensures.leads,
     )) served.ensures.primary.1)
     (on_ok served.result.backup.1
-    (λ end. end.0.2 (state c.args.workers.primary)
-    (subst (λ b. IsAt state g.B.Lockstep.machine b c.new-3.result.guest) c.requires.alike c.new-3.ensures.at))
+    (λ end. end.0.2 true (state c.args.workers.primary)
+    (subst (λ b. IsAt state g.B.Lockstep.machine true b c.new-3.result.guest) c.requires.alike (c.new-3.ensures.at true)))
     served.ensures.backup.1)
     (on_ok served.result.disk.1
     (λ end. subst (λ r. IsStore (bytes_in r) (records served.result.disk.0.disk) served.result.disk.0.seat.core.known.disk)
@@ -105,7 +105,7 @@ returns-clause-ran g c =
     (ap (λ (x : Seat). x.core.known.disk.given) made.seat ∙ ap (λ (x : Core). x.known.disk.given) opened.disk)
     (subst IsUnwritten (sym (ap records made.disk)) c.requires.unwritten) in
     c.finish.ensures.ran (state c.args.workers.primary) (records c.args.workers.disk) c.args.workers.typed0.items
-    c.args.workers.typed1.items c.requires.lawful
+    c.args.workers.typed1.items true c.requires.lawful
     (on_ok served.result.primary.1 (λ end. (
       ap (λ (v : Vec ℕ Global). v.items) (end.0.1 ∙ c.new.ensures.plan.1),
       ap (λ (v : Vec ℕ Global). v.items) (end.0.2 ∙ c.new.ensures.plan.2),
@@ -114,8 +114,8 @@ returns-clause-ran g c =
     (on_ok served.result.primary.1
     (λ end. end.0.5 (state c.args.workers.primary) c.new.ensures.leads c.new.ensures.keeps) served.ensures.primary.1)
     (on_ok served.result.backup.1
-    (λ end. end.0.2 (state c.args.workers.primary)
-    (subst (λ b. IsAt state g.B.Lockstep.machine b c.new-3.result.guest) c.requires.alike c.new-3.ensures.at))
+    (λ end. end.0.2 true (state c.args.workers.primary)
+    (subst (λ b. IsAt state g.B.Lockstep.machine true b c.new-3.result.guest) c.requires.alike (c.new-3.ensures.at true)))
     served.ensures.backup.1)
     (on_ok served.result.disk.1
     (λ end. subst (λ r. IsStore (bytes_in r) (records served.result.disk.0.disk) served.result.disk.0.seat.core.known.disk)

@@ -7,8 +7,8 @@ use Rattle.pair_threads.proofs.Repeating.{follows_on, one_more, reaches, steps_o
 use Rattle.pair_threads.proofs.repeater.Repeater.replay.Goals as goal
 
 pub returns-in-Ok-Stepped-clause-goes_on : goal.returns-in-Ok-Stepped-clause-goes_on
-returns-in-Ok-Stepped-clause-goes_on g c = λ boot at.
-    steps_on g.B.Lockstep.machine boot (g.B.Lockstep.state c.args.self.now.board)
+returns-in-Ok-Stepped-clause-goes_on g c = λ exact boot at.
+    steps_on g.B.Lockstep.machine exact boot (g.B.Lockstep.state c.args.self.now.board)
     (take c.args.self.now.replayed c.args.self.now.list.items) c.args.self.now.between g.met.B.Lockstep.counts
     c.in-Ok-Stepped.field-0-0 c.args.steps c.index.result.now (g.B.Lockstep.state c.follow.new.board) at
     (subst (λ r. Follows g.B.Lockstep.machine (g.B.Lockstep.state c.args.self.now.board) c.index.result.now c.args.steps r
@@ -16,12 +16,12 @@ returns-in-Ok-Stepped-clause-goes_on g c = λ boot at.
     c.follow.ensures.answer)
 
 pub returns-in-Ok-Done-clause-goes_on : goal.returns-in-Ok-Done-clause-goes_on
-returns-in-Ok-Done-clause-goes_on g c = λ boot at.
+returns-in-Ok-Done-clause-goes_on g c = λ exact boot at.
     let within : c.args.self.now.replayed < length c.args.self.now.list.items =
     (let a = c.if-self-len.false in let b = c.len.ensures in omega arith) in
-    subst (λ l. Repeats g.B.Lockstep.machine boot l false (g.B.Lockstep.state c.follow.new.board))
+    subst (λ l. Repeats g.B.Lockstep.machine exact boot l false (g.B.Lockstep.state c.follow.new.board))
     (sym (one_more c.args.self.now.list.items c.args.self.now.replayed c.index.result.now within c.index.ensures))
-    (reaches g.B.Lockstep.machine boot (g.B.Lockstep.state c.args.self.now.board)
+    (reaches g.B.Lockstep.machine exact boot (g.B.Lockstep.state c.args.self.now.board)
     (take c.args.self.now.replayed c.args.self.now.list.items) c.args.self.now.between g.met.B.Lockstep.counts
     c.index.result.now (g.B.Lockstep.state c.follow.new.board) at
     (subst (λ r. Follows g.B.Lockstep.machine (g.B.Lockstep.state c.args.self.now.board) c.index.result.now c.args.steps r

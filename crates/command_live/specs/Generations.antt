@@ -1,0 +1,24 @@
+-- What happens in the further generations of a pair on threads.
+use Rattle.std.specs.Prelude.{◌≡◌, ℕ, List, [], ◌∷◌, Option, Some, None}
+use Rattle.command_line.specs.declared.live_order.Asker.{Asker}
+use Rattle.command_line.specs.declared.live_order.Asker.TheVariants.{Nobody, Primary, Backup}
+use Rattle.pair_generations.specs.declared.generation.Next.{Next}
+
+-- when the primary, and the backup, asks to go on alone
+abbrev pub primary_at : Asker → ℕ → Option ℕ
+primary_at Primary turn = Some turn
+primary_at asker turn = None
+
+abbrev pub backup_at : Asker → ℕ → Option ℕ
+backup_at Backup turn = Some turn
+backup_at asker turn = None
+
+-- in this generation that one asks at that turn
+abbrev pub IsNext : {H : Type 0} → Asker → ℕ → Next H → Type 0
+IsNext asker turn next = (next.primary_contests ≡ primary_at asker turn) × (next.backup_contests ≡ backup_at asker turn)
+
+-- there are as many as both lists name, in their order
+abbrev pub AreLater : {H : Type 0} → List Asker → List ℕ → List (Next H) → Type 0
+AreLater (asker ∷ askers) (turn ∷ turns) (next ∷ later) = IsNext asker turn next × AreLater askers turns later
+AreLater (asker ∷ askers) (turn ∷ turns) [] = ⊥
+AreLater askers turns later = later ≡ []

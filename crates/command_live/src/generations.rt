@@ -1,0 +1,143 @@
+//! A pair on threads that goes on: what happens in its further generations, and how it is run.
+ghost use Rattle.std.specs.Prelude.{◌≡◌, ◌⊎◌, IfOk, map};
+ghost use Rattle.event_callbacks.specs.declared.devices.TheConstants.{SENT, SECTOR, WRITTEN};
+ghost use Rattle.event_callbacks.specs.Keeping.{Keeps};
+ghost use Rattle.command_live.specs.Generations.{AreLater, IsNext};
+ghost use Rattle.command_live.specs.Living.{HasEnded};
+ghost use Rattle.pair_generations.specs.Generations.{WonLater};
+ghost use Rattle.pair_threads.specs.Ending.{WonBy};
+
+use crate::beginning::{Asked, STEPS, workers_of};
+use board_image::DraftedBoard;
+use command_input::Input;
+use command_line::Asker;
+use event_callbacks::{Callbacks, Completes};
+use guest_board::Board;
+use i8080_words::R;
+use pair_generations::{Limits, Next, altairs_may_go_on, run_pair};
+use pair_threads::{Fate, GenerationEnd, OpenGate, Workers};
+use shared_disk::MemoryStore;
+use std::alloc::Global;
+use std::thread::Threads;
+use std::time::Clock;
+
+// How often a write is tried, and all parts of an image are sent.
+const TRIES: u64 = 1_000;
+
+/// What happens in the further generations: each has a spare host and a link of these fates, in which somebody asks at a turn.
+pub(crate) fn later_of<
+    T: Completes + Drop + Copy,
+    S: Completes + Drop + Copy,
+    W: Completes + Drop + Copy,
+>(
+    alloc: Global,
+    next: &[Asker],
+    turns: &[u64],
+    link: &Vec<Fate>,
+    sent: T,
+    sector: S,
+    written: W,
+) -> R<Vec<Next<Callbacks<T, S, W>>>>
+    requires sent { Keeps (T.may sent) (T.gives sent) SENT }
+    requires sector { Keeps (S.may sector) (S.gives sector) SECTOR }
+    requires written { Keeps (W.may written) (W.gives written) WRITTEN }
+    ensures { IfOk result (λ later. AreLater next.now turns.now later.items) }
+{
+    let mut later = Vec::new(alloc);
+    for index in 0..next.len().min(turns.len()) {
+        let host = Callbacks::of(sent, sector, written);
+        later.push(next_of(next[index], turns[index], link, host)?)?;
+    }
+    Ok(later)
+}
+
+// What happens in one.
+fn next_of<H: Drop>(asker: Asker, turn: u64, link: &Vec<Fate>, host: H) -> R<Next<H>>
+    ensures { IfOk result (IsNext asker turn) }
+{
+    let copy_fates = link.clone()?;
+    let fates = link.clone()?;
+    let (primary_contests, backup_contests) = match asker {
+        Asker::Nobody => (None, None),
+        Asker::Primary => (Some(turn), None),
+        Asker::Backup => (None, Some(turn)),
+    };
+    Ok(Next {
+        host,
+        copy_fates,
+        fates,
+        primary_contests,
+        backup_contests,
+    })
+}
+
+// The workers of the first generation, whose guests can be copied.
+fn drafted<T: Completes + Drop, S: Completes + Drop, W: Completes + Drop>(
+    workers: Workers<Board<T, S, W>, MemoryStore>,
+) -> Workers<DraftedBoard<T, S, W>, MemoryStore>
+    ensures guests { (result.primary.board ≡ workers.primary) × (result.backup.board ≡ workers.backup) }
+    ensures disk { result.disk ≡ workers.disk }
+    ensures typed { (result.typed0 ≡ workers.typed0) × (result.typed1 ≡ workers.typed1) }
+    ensures asks { (result.primary_contests ≡ workers.primary_contests)
+        × (result.backup_contests ≡ workers.backup_contests) }
+{
+    let Workers {
+        primary,
+        backup,
+        disk,
+        typed0,
+        typed1,
+        fates,
+        primary_contests,
+        backup_contests,
+        steps,
+    } = workers;
+    Workers {
+        primary: DraftedBoard::of(primary),
+        backup: DraftedBoard::of(backup),
+        disk,
+        typed0,
+        typed1,
+        fates,
+        primary_contests,
+        backup_contests,
+        steps,
+    }
+}
+
+/// The pair at the end of its last generation.
+#[tactic(auto, using(crate::proofs::Living::has_ended))]
+pub(crate) fn run_generations<
+    H: Threads + Clock + Sync,
+    T: Completes + Drop + Copy + Send,
+    S: Completes + Drop + Copy + Send,
+    W: Completes + Drop + Copy + Send,
+>(
+    rt: &H,
+    alloc: Global,
+    asked: Asked,
+    link: Vec<Fate>,
+    later: Vec<Next<Callbacks<T, S, W>>>,
+    input: &Input,
+    sent: T,
+    sector: S,
+    written: W,
+) -> R<GenerationEnd<DraftedBoard<T, S, W>, MemoryStore>>
+    requires sent { Keeps (T.may sent) (T.gives sent) SENT }
+    requires sector { Keeps (S.may sector) (S.gives sector) SECTOR }
+    requires written { Keeps (W.may written) (W.gives written) WRITTEN }
+    ensures ended { IfOk result (λ end. HasEnded input.now.script.setup input.now.sectors.items
+        input.now.script.lines.items end.winner (map (λ v. v.items) end.accepted) end.disk) }
+    ensures won { IfOk result (λ end. WonBy asked.primary asked.backup end.winner ⊎ WonLater later.items end.winner) }
+{
+    altairs_may_go_on();
+    input.script.setup.guest.sizes();
+    let limits = Limits {
+        turns: asked.turns,
+        steps: STEPS,
+        tries: TRIES,
+        rounds: TRIES,
+    };
+    let workers = workers_of(alloc, asked, link, input, sent, sector, written)?;
+    run_pair(rt, alloc, drafted(workers), later, &OpenGate, limits)
+}

@@ -1,0 +1,4 @@
+pub mod Settled
+pub mod Resuming
+pub mod Ending
+pub mod Altair

@@ -1,0 +1,13 @@
+-- Whatever has run so far has ended as one generation of the machine that booted first.
+use Rattle.std.proofs.Common.{◌≡◌, ◌⊎◌, Contains}
+use Rattle.pair_generations.specs.Generations.{HasEnded, WonLater, machine_at}
+use Rattle.pair_generations.proofs.run.go_on.Given as goal
+
+abbrev pub invariant-loop : goal.invariant-loop
+invariant-loop g l =
+    (l.going.origin ≡ l.fn.first.origin)
+    × HasEnded g.B.Lockstep.state g.D.SectorStore.records (machine_at g.B.Lockstep.machine
+    (g.B.Lockstep.state l.fn.first.origin.boot) l.fn.first.origin.records) l.going.end
+    × (l.going.end.typed0.items ≡ l.fn.first.end.typed0.items) × (l.going.end.typed1.items ≡ l.fn.first.end.typed1.items)
+    × ((l.going.end.winner ≡ l.fn.first.end.winner) ⊎ WonLater l.fn.later.items l.going.end.winner)
+    × ((n : _) → Contains l.later.items n → Contains l.fn.later.items n)

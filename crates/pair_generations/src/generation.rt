@@ -1,0 +1,121 @@
+//! One generation of a pair after another.
+ghost use Rattle.std.specs.Prelude.{◌≡◌, ◌<◌, IfErr, IfOk};
+ghost use Rattle.pair_generations.specs.Generations.{HasEnded, IsSettled, machine_at};
+ghost use Rattle.pair_generations.specs.Guests.{IsGuest};
+ghost use Rattle.pair_threads.specs.Ending.{IsEnding, WonBy};
+
+use crate::following::{Orders, Ready, follow};
+use crate::origin::Origin;
+use clone_state::Copies;
+use i8080_words::{Fault, R};
+use pair_standing::finish_alone;
+use pair_threads::{Fate, Gate, GenerationEnd, run_generation_at};
+use shared_disk::SectorStore;
+use std::alloc::Global;
+use std::thread::Threads;
+use std::time::Clock;
+
+/// A further generation: a spare host, and what happens in it.
+#[derive(Drop)]
+pub struct Next<H: Drop> {
+    /// What the guest on the spare host calls.
+    pub host: H,
+    /// The fates of the packets that bring the copy, and those of the log's packets, in order. The last applies to all further
+    /// ones; without any each is delivered.
+    pub copy_fates: Vec<Fate>,
+    pub fates: Vec<Fate>,
+    /// The turn at which the primary, or the backup, asks to go on alone.
+    pub primary_contests: Option<u64>,
+    pub backup_contests: Option<u64>,
+}
+
+/// What each generation may take.
+#[derive(Clone, Copy)]
+pub struct Limits {
+    /// The turns of the primary and of the backup.
+    pub turns: u64,
+    /// The steps of a guest in one turn; 0 counts as 1.
+    pub steps: u64,
+    /// How often a write is tried on a disk that fails, by a winner that finishes alone.
+    pub tries: u64,
+    /// How often all parts of an image are sent to a spare host.
+    pub rounds: u64,
+}
+
+/// A pair after a generation, with the number of that generation.
+#[derive(Drop)]
+pub(crate) struct Going<B: Drop, D: SectorStore> {
+    pub(crate) end: GenerationEnd<B, D>,
+    pub(crate) origin: Origin<B>,
+    pub(crate) generation: u32,
+}
+
+// Whoever goes on finishes what is outstanding.
+fn settle<B: Copies<H> + Drop, H: Drop, D: SectorStore>(
+    going: Going<B, D>,
+    tries: u64,
+) -> R<Ready<B, D>>
+    requires guest { IsGuest B.state B.copied (machine_at B.machine (B.state going.origin.boot) going.origin.records) }
+    requires ended { HasEnded B.state D.records (machine_at B.machine (B.state going.origin.boot) going.origin.records)
+        going.end }
+    ensures origin { IfOk result (λ ready. ready.origin ≡ going.origin) }
+    ensures next { IfOk result (λ ready. ready.generation ≡ going.generation + 1) }
+    ensures typed { IfOk result (λ ready. (ready.standing.typed.0 ≡ going.end.typed0)
+        × (ready.standing.typed.1 ≡ going.end.typed1)) }
+    ensures settled { IfOk result (λ ready. IsSettled B.state D.records
+        (machine_at B.machine (B.state going.origin.boot) going.origin.records) ready.standing) }
+    ensures refused { IfErr result IsEnding }
+{
+    let Going {
+        end,
+        origin,
+        generation,
+    } = going;
+    let Some(generation) = generation.checked_add(1) else {
+        return Err(Fault::Stalled);
+    };
+    let standing = finish_alone(end, tries)?;
+    Ok(Ready {
+        standing,
+        origin,
+        generation,
+    })
+}
+
+/// The generation after this one: whoever goes on finishes what is outstanding, the guest is copied to the spare host, and
+/// both run.
+pub(crate) fn advance<
+    B: Copies<H> + Send + Drop,
+    H: Drop,
+    D: SectorStore + Send,
+    G: Gate + Sync,
+    T: Threads + Clock + Sync,
+>(
+    rt: &T,
+    alloc: Global,
+    going: Going<B, D>,
+    next: Next<H>,
+    gate: &G,
+    limits: Limits,
+) -> R<Going<B, D>>
+    requires guest { IsGuest B.state B.copied (machine_at B.machine (B.state going.origin.boot) going.origin.records) }
+    requires ended { HasEnded B.state D.records (machine_at B.machine (B.state going.origin.boot) going.origin.records)
+        going.end }
+    ensures origin { IfOk result (λ new. new.origin ≡ going.origin) }
+    ensures ended { IfOk result (λ new. HasEnded B.state D.records
+        (machine_at B.machine (B.state going.origin.boot) going.origin.records) new.end) }
+    ensures typed { IfOk result (λ new. (new.end.typed0.items ≡ going.end.typed0.items)
+        × (new.end.typed1.items ≡ going.end.typed1.items)) }
+    ensures won { IfOk result (λ new. WonBy next.primary_contests next.backup_contests new.end.winner) }
+    ensures refused { IfErr result IsEnding }
+{
+    let ready = settle(going, limits.tries)?;
+    let generation = ready.generation;
+    let (resumed, origin) = follow(alloc, ready, next, limits)?;
+    let end = run_generation_at(rt, alloc, resumed, gate, limits.turns)?;
+    Ok(Going {
+        end,
+        origin,
+        generation,
+    })
+}

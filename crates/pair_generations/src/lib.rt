@@ -1,0 +1,13 @@
+//! A pair on threads that goes on: each generation begins where the one before was settled.
+#![tactic(auto)]
+
+mod following;
+mod generation;
+mod laws;
+mod origin;
+mod run;
+
+pub use generation::{Limits, Next};
+pub use laws::altairs_may_go_on;
+pub use origin::Origin;
+pub use run::run_pair;

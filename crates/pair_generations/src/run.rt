@@ -1,0 +1,89 @@
+//! A pair on threads over all its generations.
+ghost use Rattle.std.specs.Prelude.{◌≡◌, ◌⊎◌, ◌≤◌, ◌+◌, None, vec_len, IfErr, IfOk};
+ghost use Rattle.pair_generations.specs.Generations.{HasEnded, WonLater, machine_at};
+ghost use Rattle.pair_generations.specs.Guests.{IsGuest};
+ghost use Rattle.pair_threads.specs.Ending.{IsEnding, WonBy};
+ghost use Rattle.shared_disk.specs.Records.{IsUnwritten};
+
+use crate::generation::{Going, Limits, Next, advance};
+use crate::origin::origin_of;
+use clone_state::Copies;
+use i8080_words::R;
+use pair_threads::{Gate, GenerationEnd, Workers, run_generation};
+use shared_disk::SectorStore;
+use std::alloc::Global;
+use std::thread::Threads;
+use std::time::Clock;
+
+// The further generations, as long as somebody has gone on alone in the last one and there is a spare host.
+fn go_on<
+    B: Copies<H> + Send + Drop,
+    H: Drop,
+    D: SectorStore + Send,
+    G: Gate + Sync,
+    T: Threads + Clock + Sync,
+>(
+    rt: &T,
+    alloc: Global,
+    first: Going<B, D>,
+    mut later: Vec<Next<H>>,
+    gate: &G,
+    limits: Limits,
+) -> R<Going<B, D>>
+    requires guest { IsGuest B.state B.copied (machine_at B.machine (B.state first.origin.boot) first.origin.records) }
+    requires ended { HasEnded B.state D.records (machine_at B.machine (B.state first.origin.boot) first.origin.records)
+        first.end }
+    ensures ended { IfOk result (λ new. HasEnded B.state D.records
+        (machine_at B.machine (B.state first.origin.boot) first.origin.records) new.end) }
+    ensures typed { IfOk result (λ new. (new.end.typed0.items ≡ first.end.typed0.items)
+        × (new.end.typed1.items ≡ first.end.typed1.items)) }
+    ensures won { IfOk result (λ new. (new.end.winner ≡ first.end.winner) ⊎ WonLater later.items new.end.winner) }
+    ensures refused { IfErr result IsEnding }
+{
+    let mut going = first;
+    while going.end.winner.is_some() && !later.is_empty() {
+        let next = later.remove(0);
+        going = advance(rt, alloc, going, next, gate, limits)?;
+    }
+    Ok(going)
+}
+
+/// Runs a pair over generations: the first as `run_generation` does, and whenever a node goes on alone it takes what is
+/// outstanding, its machine is copied to the next spare host of `later`, and both begin the next generation where the run was
+/// settled. It ends with a generation in which nobody goes on alone, or with the last for which there is a host. Its end is that
+/// of one machine, the one that booted first, on one list, over all generations. `Stalled` if a generation ends in no such way, a
+/// disk fails too often or a copy does not arrive; `OutOfMemory` if memory or a thread is refused.
+pub fn run_pair<
+    B: Copies<H> + Send + Drop,
+    H: Drop,
+    D: SectorStore + Send,
+    G: Gate + Sync,
+    T: Threads + Clock + Sync,
+>(
+    rt: &T,
+    alloc: Global,
+    workers: Workers<B, D>,
+    later: Vec<Next<H>>,
+    gate: &G,
+    limits: Limits,
+) -> R<GenerationEnd<B, D>>
+    requires guest { IsGuest B.state B.copied (machine_at B.machine (B.state workers.primary) (D.records workers.disk)) }
+    requires alike { B.state workers.backup ≡ B.state workers.primary }
+    requires unwritten { IsUnwritten (D.records workers.disk) }
+    ensures ended { IfOk result (λ e. HasEnded B.state D.records
+        (machine_at B.machine (B.state workers.primary) (D.records workers.disk)) e) }
+    ensures typed { IfOk result (λ e. (e.typed0.items ≡ workers.typed0.items) × (e.typed1.items ≡ workers.typed1.items)) }
+    ensures won { IfOk result (λ e. WonBy workers.primary_contests workers.backup_contests e.winner
+        ⊎ WonLater later.items e.winner) }
+    ensures refused { IfErr result IsEnding }
+{
+    let origin = origin_of(&workers);
+    let end = run_generation(rt, alloc, workers, gate, limits.turns)?;
+    let first = Going {
+        end,
+        origin,
+        generation: 1,
+    };
+    let last = go_on(rt, alloc, first, later, gate, limits)?;
+    Ok(last.end)
+}
