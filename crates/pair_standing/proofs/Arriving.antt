@@ -1,10 +1,11 @@
 -- The parts of an image are sent over a link that loses some and repeats others. Whatever has arrived is of the image, and a
 -- part that was not lost in some round has arrived.
-use Rattle.std.proofs.Common.{◌≡◌, ◌⊎◌, inl, inr, ℕ, zero, suc, ◌+◌, ◌<◌, ◌≤◌, ◌^◌, Bool, true, false, cond, eqb, ◌==◌, ◌&&◌, List, [], ◌∷◌, length, replicate, Option, Some, None, is_none, is_some, refl, sym, ap, subst, ◌∙◌, arith}
+use Rattle.std.proofs.Common.{◌≡◌, ◌⊎◌, inl, inr, ℕ, zero, suc, ◌+◌, ◌-◌, ◌<◌, ◌≤◌, ◌^◌, min, Bool, true, false, cond, ltb, ◌==◌, ◌&&◌, List, [], ◌∷◌, length, replicate, Option, Some, None, is_none, is_some, unwrap_or, refl, sym, ap, subst, ◌∙◌, arith}
 use Rattle.std.specs.Prelude.{Result, Ok, Err, is_ok, slice_get, slice_index_or, slice_set}
-use Rattle.std.proofs.lemmas.Bool.{eq-eqb, false≢true}
+use Rattle.std.specs.Option.{option_or}
+use Rattle.std.proofs.lemmas.Bool.{eq-eqb, false≢true, ltb-false, ltb-true}
 use Rattle.std.proofs.lemmas.List.{get_or-set_same}
-use Rattle.std.proofs.lemmas.Option.{none-some, same_Some, slice_get-get_or}
+use Rattle.std.proofs.lemmas.Option.{none-some, same_Some, slice_get-get_or, slice_get_past}
 use Rattle.clone_state.specs.Assembly.{Gathering, Slots, after_part, gathered, is_missing, is_whole, whole_answer, with_part}
 use Rattle.clone_state.specs.Gathering.{AreOf, IsOfImage, StaysOfImage}
 use Rattle.clone_state.specs.Laws.{PartsAreReadAgain}
@@ -15,6 +16,7 @@ use Rattle.log_entry.specs.Numbers.{◌>>=◌}
 use Rattle.log_entry.proofs.ReadingLaws.{first_read}
 use Rattle.pair_protocol.proofs.Traces.Lists.{le-cases}
 use Rattle.pair_standing.specs.Copying.{Sent, SomeIsLost, after_fate, after_parts, after_rounds, fate_in, message_of}
+use Rattle.pair_threads.specs.Fates.{fate_at}
 use Rattle.pair_threads.specs.declared.link.Fate.{Fate}
 use Rattle.pair_threads.specs.declared.link.Fate.TheVariants.{Pass, Drop, Twice}
 
@@ -80,6 +82,29 @@ whole_are slots parts are whole = go (gathered slots) refl whole
     go : (o : Option (List (List ℕ))) → gathered slots ≡ o → is_some o ≡ true → gathered slots ≡ Some parts
     go None is e = absurd cc
     go (Some payloads) is e = is ∙ ap Some (gathered_are slots parts payloads are is)
+
+-- ---- fates
+
+or_itself : {A : Type 0} (o : Option A) → option_or o o ≡ o
+or_itself None = refl
+or_itself (Some x) = refl
+
+-- packets past the list have its last fate
+pub past_alike : (fates : List Fate) (packet number : ℕ) → packet ≡ min number (length fates - 1)
+    → fate_at fates packet ≡ fate_at fates number
+past_alike fates packet number is = go (ltb number (length fates)) refl
+  where
+    go : (b : Bool) → ltb number (length fates) ≡ b → fate_at fates packet ≡ fate_at fates number
+    go true less =
+        let same : packet ≡ number = (let lt = ltb-true number (length fates) less in omega (arith, is, lt)) in
+        ap (fate_at fates) same
+    go false not_less =
+        let le = ltb-false number (length fates) not_less in
+        let last : packet ≡ length fates - 1 = omega (arith, is, le) in
+        ap (fate_at fates) last
+        ∙ ap (λ (o : Option Fate). unwrap_or o Pass) (or_itself (slice_get fates (length fates - 1)))
+        ∙ ap (λ (o : Option Fate). unwrap_or (option_or o (slice_get fates (length fates - 1))) Pass)
+        (sym (slice_get_past fates number le))
 
 -- ---- an assembly grows
 

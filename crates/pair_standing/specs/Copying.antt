@@ -1,6 +1,6 @@
 -- How a guest is copied to a spare host: the parts of its image, over a link that loses some and repeats others, and what has
 -- arrived after each.
-use Rattle.std.specs.Prelude.{◌≡◌, ◌<◌, ◌+◌, ◌*◌, ◌-◌, ◌^◌, ℕ, zero, suc, min, true, List, [], slice_index_or, Some}
+use Rattle.std.specs.Prelude.{◌≡◌, ◌<◌, ◌+◌, ◌*◌, ℕ, zero, suc, true, List, [], slice_index_or, Some}
 use Rattle.clone_state.specs.Assembly.{Gathering, after_part, is_whole}
 use Rattle.clone_state.specs.Copies.{CopiesAs, image_parts}
 use Rattle.clone_state.specs.Image.{part_bytes}
@@ -32,13 +32,10 @@ sent_of image = record {
 abbrev pub message_of : Sent → ℕ → List ℕ
 message_of s index = part_bytes s.generation index (slice_index_or s.parts index [])
 
--- how many packets are sent before the part of this index in this round, from round 0, if each round has so many; no number
--- is past the greatest
-abbrev pub packet_number : ℕ → ℕ → ℕ → ℕ
-packet_number count round index = min (round * count + index) (2 ^ 64 - 1)
-
+-- the fate of the part of this index in a round, from round 0, if each round sends so many: it is that of its packet, by how
+-- many were sent before
 abbrev pub fate_in : List Fate → ℕ → ℕ → ℕ → Fate
-fate_in fates count round index = fate_at fates (packet_number count round index)
+fate_in fates count round index = fate_at fates (round * count + index)
 
 -- one of so many parts was lost in each of so many rounds
 pub record SomeIsLost (fates : List Fate) (count rounds : ℕ) : Type 0 where

@@ -10,8 +10,8 @@ ghost use Rattle.pair_standing.specs.Copying.{
   after_fate,
   after_parts,
   after_rounds,
+  fate_in,
   message_of,
-  packet_number,
   sent_of,
 };
 ghost use Rattle.pair_threads.specs.Ending.{IsEnding};
@@ -34,13 +34,15 @@ fn fate_of(fates: &[Fate], packet: usize) -> Fate
     own.or(last).unwrap_or(Fate::Pass)
 }
 
-// How many packets were sent before a part of this index in this round.
-fn packet_number(count: u16, round: u64, index: u16) -> usize
-    ensures { result ≡ packet_number count round index }
+// The fate of a part in a round, from round 0, if each round has so many. Packets past the list have its last fate.
+fn fate_in(fates: &[Fate], count: u16, round: u64, index: u16) -> Fate
+    ensures { result ≡ fate_in fates.now count round index }
 {
-    (round as usize)
+    let packet = (round as usize)
         .saturating_mul(usize::from(count))
-        .saturating_add(usize::from(index))
+        .saturating_add(usize::from(index));
+    let last = fates.len().saturating_sub(1);
+    fate_of(fates, packet.min(last))
 }
 
 // The message of a part of an image.
@@ -84,7 +86,7 @@ fn send_round(
     let count = image.parts();
     for index in 0..count {
         let part = part_of(alloc, image, index)?;
-        send(assembly, &part, fate_of(fates, packet_number(count, round, index)));
+        send(assembly, &part, fate_in(fates, count, round, index));
     }
     Ok(())
 }
