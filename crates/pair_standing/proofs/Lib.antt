@@ -3,3 +3,5 @@ pub mod Going
 pub mod Settling
 pub mod Altair
 pub mod Following
+pub mod Arriving
+pub mod Copied

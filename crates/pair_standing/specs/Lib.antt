@@ -1,3 +1,4 @@
 pub mod Standing
 pub mod Finishing
 pub mod Following
+pub mod Copying

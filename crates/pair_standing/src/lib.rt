@@ -1,12 +1,15 @@
-//! A winner that finishes alone: it takes what is outstanding, and then its run is settled.
+//! A winner that finishes alone: it takes what is outstanding, and then its run is settled. Its guest can be copied to a spare
+//! host.
 #![tactic(auto)]
 
 mod chosen;
+mod copying;
 mod finish;
 mod laws;
 mod standing;
 mod winner;
 
+pub use copying::copy_to;
 pub use finish::finish_alone;
 pub use laws::{altairs_are_due, standings_may_follow};
 pub use standing::Standing;

@@ -1,0 +1,10 @@
+-- What has arrived after the rounds so far, and that it is not all.
+use Rattle.std.proofs.Common.{◌≡◌, false}
+use Rattle.clone_state.specs.Assembly.{is_whole}
+use Rattle.pair_standing.specs.Copying.{after_rounds, sent_of}
+use Rattle.pair_standing.proofs.copying.send_all.Given as goal
+
+abbrev pub invariant-loop-round : goal.invariant-loop-round
+invariant-loop-round l =
+    (l.assembly ≡ after_rounds (sent_of l.image) l.fates l.round l.fn.assembly)
+    × (is_whole l.fn.assembly ≡ false → is_whole l.assembly ≡ false)
