@@ -1,5 +1,5 @@
 -- What a pair on threads prints.
-use Rattle.std.specs.Prelude.{◌≡◌, ℕ, ◌==◌, if◌then◌else◌, IsTrue, Option, Some, None, List, [], ◌∷◌, ◌++◌, map, Bool, Contains, Result, Ok, Err, MatchResult, codes, replicate}
+use Rattle.std.specs.Prelude.{◌≡◌, ℕ, ◌==◌, if◌then◌else◌, IsTrue, Option, Some, None, List, [], ◌∷◌, ◌++◌, map, Bool, Result, Ok, Err, MatchResult, codes, replicate}
 use Rattle.std.specs.Global.{Vec}
 use Rattle.std.specs.Io.KnownBytes.{Appends, Keeps}
 use Rattle.disk_dcdd.specs.Address.{has_sector}
@@ -19,6 +19,7 @@ use Rattle.command_live.specs.Saving.{images_of}
 use Rattle.command_line.specs.declared.live_order.Asker.{Asker}
 use Rattle.command_line.specs.declared.live_order.Asker.TheVariants as asker
 use Rattle.command_line.specs.declared.live_order.LiveOrder.{LiveOrder}
+use Rattle.pair_protocol.specs.Lawful.{Among}
 use Rattle.pair_threads.specs.Ending.{EndsBy, WonBy}
 use Rattle.pair_threads.specs.declared.gate.Who.{Who}
 use Rattle.pair_threads.specs.declared.workers.GenerationEnd.{GenerationEnd}
@@ -111,7 +112,7 @@ pub record HasEnded (setup : ScriptSetup) (given : List SectorWrite) (lines : Li
 -- of them
 abbrev pub WonIn : LiveOrder → Option Who → Type 0
 WonIn order winner = WonBy order.primary_asks order.backup_asks winner
-    ⊎ ((asker : Asker) × Contains order.next.items asker × IsWonBy asker winner)
+    ⊎ ((a : Asker) × Among a order.next.items × IsWonBy a winner)
 
 -- such an end is printed
 pub record TellsEnd (setup : ScriptSetup) (given : List SectorWrite) (typed0 typed1 : List ℕ) (order : LiveOrder)

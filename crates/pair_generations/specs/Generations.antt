@@ -1,7 +1,8 @@
 -- How a generation of a pair ends, and how the next one begins.
-use Rattle.std.specs.Prelude.{◌≡◌, ◌≤◌, ℕ, false, length, map, take, vec_len, List, [], ◌∷◌, Option, Contains}
+use Rattle.std.specs.Prelude.{◌≡◌, ◌≤◌, ℕ, false, length, map, take, vec_len, List, [], ◌∷◌, Option}
 use Rattle.guest_lockstep.specs.Machine.{Machine, booted_from}
 use Rattle.pair_generations.specs.declared.generation.Next.{Next}
+use Rattle.pair_protocol.specs.Lawful.{Among}
 use Rattle.pair_rule.specs.Rules.{IsStart}
 use Rattle.pair_rule.specs.Threads.{bytes_accepted}
 use Rattle.pair_rule.specs.declared.view.Knowledge.{Knowledge}
@@ -33,7 +34,7 @@ pub record HasEnded {B D S : Type 0} (state : B → S) (records : D → List Rec
 -- who goes on alone was planned to in one of these generations; if nobody does, nobody was planned to in one of them
 abbrev pub WonLater : {H : Type 0} → List (Next H) → Option Who → Type 0
 WonLater {H} later winner =
-    (n : Next H) × Contains later n × WonBy n.primary_contests n.backup_contests winner
+    (n : Next H) × Among n later × WonBy n.primary_contests n.backup_contests winner
 
 -- a run of it is settled
 abbrev pub IsSettled : {B D S : Type 0} → (B → S) → (D → List Record) → Machine S → Standing B D → Type 0

@@ -15,24 +15,14 @@ ghost use Rattle.pair_standing.specs.Copying.{
   sent_of,
 };
 ghost use Rattle.pair_threads.specs.Ending.{IsEnding};
-ghost use Rattle.pair_threads.specs.Fates.{fate_at};
 
 use clone_state::{
     Assembly, Copies, Image, assemblies_gather_images, parts_are_read_again,
     parts_make_their_machines,
 };
 use i8080_words::{Fault, R};
-use pair_threads::Fate;
+use pair_threads::{Fate, fate_of};
 use std::alloc::Global;
-
-// The fate of a packet, by how many were sent before it.
-fn fate_of(fates: &[Fate], packet: usize) -> Fate
-    ensures { result ≡ fate_at fates.now packet }
-{
-    let own = fates.get(packet).copied();
-    let last = fates.last().copied();
-    own.or(last).unwrap_or(Fate::Pass)
-}
 
 // The fate of a part in a round, from round 0, if each round has so many. Packets past the list have its last fate.
 fn fate_in(fates: &[Fate], count: u16, round: u64, index: u16) -> Fate

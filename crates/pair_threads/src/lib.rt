@@ -24,7 +24,7 @@ mod yields;
 
 pub use chore::Chore;
 pub use gate::{Gate, OpenGate, Who};
-pub use link::Fate;
+pub use link::{Fate, fate_of};
 pub use rest::Rest;
 pub use resumed::run_generation_at;
 pub use run::run_generation;

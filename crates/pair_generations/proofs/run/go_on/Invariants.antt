@@ -1,6 +1,7 @@
 -- Whatever has run so far has ended as one generation of the machine that booted first.
-use Rattle.std.proofs.Common.{◌≡◌, ◌⊎◌, Contains}
+use Rattle.std.proofs.Common.{◌≡◌, ◌⊎◌}
 use Rattle.pair_generations.specs.Generations.{HasEnded, WonLater, machine_at}
+use Rattle.pair_protocol.specs.Lawful.{Among}
 use Rattle.pair_generations.proofs.run.go_on.Given as goal
 
 abbrev pub invariant-loop : goal.invariant-loop
@@ -10,4 +11,4 @@ invariant-loop g l =
     (g.B.Lockstep.state l.fn.first.origin.boot) l.fn.first.origin.records) l.going.end
     × (l.going.end.typed0.items ≡ l.fn.first.end.typed0.items) × (l.going.end.typed1.items ≡ l.fn.first.end.typed1.items)
     × ((l.going.end.winner ≡ l.fn.first.end.winner) ⊎ WonLater l.fn.later.items l.going.end.winner)
-    × ((n : _) → Contains l.later.items n → Contains l.fn.later.items n)
+    × ((n : _) → Among n l.later.items → Among n l.fn.later.items)
