@@ -1,11 +1,17 @@
--- The end of a generation is that of the machine that booted first: whether its copy is exact or not.
-use Rattle.std.proofs.Common.{◌≡◌, ℕ, true, false, List, Option, Some, None, refl, sym, ap, subst, ◌∙◌}
+-- The end of a generation is that of the machine that booted first, whether its copy is exact or not; and it is said with what the
+-- end itself has as typed.
+use Rattle.std.proofs.Common.{◌≡◌, ℕ, ◌+◌, ◌<◌, inl, inr, true, false, List, [], ◌∷◌, ◌++◌, length, map, take, drop, Option, Some, None, sym, ap, subst, ◌∙◌, arith}
+use Rattle.std.specs.Prelude.{slice_index_or}
 use Rattle.guest_lockstep.specs.Machine.{Machine, Move}
 use Rattle.guest_lockstep.specs.Reach.{Reach}
 use Rattle.log_entry.specs.Entries.{inputs_of, last_count}
 use Rattle.log_entry.specs.declared.entry.Entry.{Entry}
-use Rattle.pair_protocol.specs.Lawful.{Lawful}
+use Rattle.pair_protocol.specs.Lawful.{Among, Lawful}
+use Rattle.pair_generations.specs.Generations.{HasEnded, machine_at}
+use Rattle.pair_generations.specs.declared.origin.Origin.{Origin}
 use Rattle.pair_threads.specs.Ending.{EndsBy, IsTraceOf}
+use Rattle.pair_threads.specs.Left.{LeavesBy}
+use Rattle.pair_threads.specs.declared.workers.GenerationEnd.{GenerationEnd}
 use Rattle.pair_threads.specs.declared.gate.Who.{Who}
 use Rattle.pair_threads.specs.declared.gate.Who.TheVariants as who
 use Rattle.shared_disk.specs.declared.store.Record.{Record}
@@ -15,7 +21,7 @@ module _ {S : Type 0} (M : Machine S) (lawful : Lawful M) where
   at_its_own : (list : List Entry) (front : List Move) (t : S) → IsTraceOf M list (last_count 0 list) front t
       → IsTraceOf M list (M.count t) front t
   at_its_own list front t is = subst (λ n. IsTraceOf M list n front t)
-      (is.reach.count_is ∙ sym (lawful.counts front is.reach.last is.reach.runs) ∙ ap M.count is.ends) is
+      (sym is.reach.count_is ∙ sym (lawful.counts front is.reach.last is.reach.runs) ∙ ap M.count is.ends) is
 
   pub looser : (typed0 typed1 : List ℕ) (goes : Option Who) (primary backup : List Entry) (held : ℕ)
       (screens : List (List ℕ)) (records : List Record) (s t : S)
@@ -40,3 +46,37 @@ module _ {S : Type 0} (M : Machine S) (lawful : Lawful M) where
   looser typed0 typed1 (Some who.Link) primary backup held screens records s t ends = ends
   looser typed0 typed1 (Some who.Terminal) primary backup held screens records s t ends = ends
   looser typed0 typed1 (Some who.Disk) primary backup held screens records s t ends = ends
+
+-- what was typed is as it was
+pub has_ended : {B D S : Type 0} (state : B → S) (records : D → List Record) (M : Machine S) (e : GenerationEnd B D)
+    (typed0 typed1 : List ℕ) → e.typed0.items ≡ typed0 → e.typed1.items ≡ typed1
+    → EndsBy M false typed0 typed1 e.winner e.primary.items e.backup.items e.held (map (λ v. v.items) e.accepted)
+    (records e.disk) (state e.primary_board) (state e.backup_board)
+    → LeavesBy M typed0 typed1 e.winner e.primary.items e.backup.items e.waiting (map (λ v. v.items) e.accepted)
+    (records e.disk) (state e.primary_board) (state e.backup_board) → HasEnded state records M e
+has_ended state records M e typed0 typed1 is0 is1 ends left = record {
+  ends = subst (λ a. EndsBy M false a e.typed1.items e.winner e.primary.items e.backup.items e.held
+      (map (λ v. v.items) e.accepted) (records e.disk) (state e.primary_board) (state e.backup_board)) (sym is0)
+      (subst (λ b. EndsBy M false typed0 b e.winner e.primary.items e.backup.items e.held (map (λ v. v.items) e.accepted)
+      (records e.disk) (state e.primary_board) (state e.backup_board)) (sym is1) ends);
+  left = subst (λ a. LeavesBy M a e.typed1.items e.winner e.primary.items e.backup.items e.waiting
+      (map (λ v. v.items) e.accepted) (records e.disk) (state e.primary_board) (state e.backup_board)) (sym is0)
+      (subst (λ b. LeavesBy M typed0 b e.winner e.primary.items e.backup.items e.waiting (map (λ v. v.items) e.accepted)
+      (records e.disk) (state e.primary_board) (state e.backup_board)) (sym is1) left);
+}
+
+-- where workers may begin, their end is that of the machine that booted first
+pub resumed_ends : {B D S : Type 0} (state : B → S) (records : D → List Record) (N : Machine S) (here there : Origin B)
+    (e : GenerationEnd B D) → here ≡ there
+    → (Lawful (machine_at N (state here.boot) here.records) → HasEnded state records (machine_at N (state here.boot) here.records) e)
+    → Lawful (machine_at N (state there.boot) there.records) → HasEnded state records (machine_at N (state there.boot) there.records) e
+resumed_ends state records N here there e same ends lawful =
+    subst (λ (o : Origin _). HasEnded state records (machine_at N (state o.boot) o.records) e) same
+    (ends (subst (λ (o : Origin _). Lawful (machine_at N (state o.boot) o.records)) (sym same) lawful))
+
+-- ---- the generations that are left
+
+pub first_of : {X : Type 0} (all rest : List X) (x : X) → 0 < length all → x ≡ slice_index_or all 0 x
+    → rest ≡ take 0 all ++ drop (0 + 1) all → Among x all × ((n : X) → Among n rest → Among n all)
+first_of [] rest x some value is = absurd (omega (arith, some))
+first_of (y ∷ all) rest x some value is = (inl value, λ n at. inr (subst (Among n) is at))

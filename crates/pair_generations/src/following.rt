@@ -11,6 +11,7 @@ use crate::origin::Origin;
 use clone_state::Copies;
 use guest_lockstep::Lockstep;
 use i8080_words::R;
+use log_entry::Entry;
 use pair_rule::{Known, Recalls, Start, known_by};
 use pair_standing::{Standing, copy_to};
 use pair_threads::{Fate, Resumed, Workers};
@@ -102,12 +103,13 @@ pub(crate) fn follow<B: Copies<H> + Drop, H: Drop, D: SectorStore>(
         origin,
         generation,
     } = ready;
-    let resumed = resumed_at(standing, known, copy, generation, orders)?;
+    let resumed = resumed_at(alloc, standing, known, copy, generation, orders)?;
     Ok((resumed, origin))
 }
 
 // The workers that begin there: the guest that stands is the primary's, its copy the backup's, and both have the whole list.
 fn resumed_at<B: Lockstep + Drop, D: SectorStore>(
+    alloc: Global,
     standing: Standing<B, D>,
     known: Known,
     copy: B,
@@ -123,7 +125,7 @@ fn resumed_at<B: Lockstep + Drop, D: SectorStore>(
     ensures refused { IfErr result IsEnding }
 {
     let start = start_at(&standing, known, generation);
-    let backup_list = standing.list.clone()?;
+    let backup_list = copy_of(alloc, &standing.list)?;
     let Standing {
         board,
         list,
@@ -142,6 +144,16 @@ fn resumed_at<B: Lockstep + Drop, D: SectorStore>(
         taken: (taken.0 as usize, taken.1 as usize),
         accepted,
     })
+}
+
+// A copy of a list.
+fn copy_of(alloc: Global, list: &[Entry]) -> R<Vec<Entry>>
+    ensures same { IfOk result (λ copy. copy.items ≡ list.now) }
+    ensures refused { IfErr result IsEnding }
+{
+    let mut copy = Vec::with_capacity(alloc, list.len())?;
+    copy.extend_from_slice(list)?;
+    Ok(copy)
 }
 
 // How its table begins.

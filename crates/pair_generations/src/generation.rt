@@ -1,5 +1,5 @@
 //! One generation of a pair after another.
-ghost use Rattle.std.specs.Prelude.{◌≡◌, ◌<◌, IfErr, IfOk};
+ghost use Rattle.std.specs.Prelude.{◌≡◌, ◌+◌, IfErr, IfOk};
 ghost use Rattle.pair_generations.specs.Generations.{HasEnded, IsSettled, machine_at};
 ghost use Rattle.pair_generations.specs.Guests.{IsGuest};
 ghost use Rattle.pair_threads.specs.Ending.{IsEnding, WonBy};

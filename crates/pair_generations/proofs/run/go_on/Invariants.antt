@@ -1,14 +1,17 @@
 -- Whatever has run so far has ended as one generation of the machine that booted first.
-use Rattle.std.proofs.Common.{◌≡◌, ◌⊎◌}
+use Rattle.std.proofs.Common.{◌≡◌, ◌⊎◌, length}
 use Rattle.pair_generations.specs.Generations.{HasEnded, WonLater, machine_at}
 use Rattle.pair_protocol.specs.Lawful.{Among}
 use Rattle.pair_generations.proofs.run.go_on.Given as goal
 
-abbrev pub invariant-loop : goal.invariant-loop
-invariant-loop g l =
+abbrev pub invariant-loop-later : goal.invariant-loop-later
+invariant-loop-later g l =
     (l.going.origin ≡ l.fn.first.origin)
     × HasEnded g.B.Lockstep.state g.D.SectorStore.records (machine_at g.B.Lockstep.machine
     (g.B.Lockstep.state l.fn.first.origin.boot) l.fn.first.origin.records) l.going.end
     × (l.going.end.typed0.items ≡ l.fn.first.end.typed0.items) × (l.going.end.typed1.items ≡ l.fn.first.end.typed1.items)
     × ((l.going.end.winner ≡ l.fn.first.end.winner) ⊎ WonLater l.fn.later.items l.going.end.winner)
     × ((n : _) → Among n l.later.items → Among n l.fn.later.items)
+
+abbrev pub decreases-loop-later : goal.decreases-loop-later
+decreases-loop-later g l = length l.later.items

@@ -1,0 +1,26 @@
+-- After one more generation the pair has still ended as one generation of the machine that booted first.
+use Rattle.std.proofs.Common.{◌<◌, length, inr, subst, ◌∙◌, arith}
+use Rattle.pair_generations.specs.Generations.{HasEnded, machine_at}
+use Rattle.pair_generations.specs.declared.origin.Origin.{Origin}
+use Rattle.pair_generations.proofs.Ending.{first_of}
+use Rattle.pair_generations.proofs.run.go_on.Goals as goal
+
+pub loop-later-preserved : goal.loop-later-preserved
+loop-later-preserved g c =
+    let state = g.B.Lockstep.state in
+    let records = g.D.SectorStore.records in
+    let N = g.B.Lockstep.machine in
+    let inv = c.loop-later.invariant in
+    let later = c.loop-later.later in
+    let new = c.in_ok-going.ensures in
+    let some : 0 < length later.items = (let l = c.remove-next.ensures.len in let o = later.ok.0 in omega (arith, l, o)) in
+    let first = first_of later.items c.remove-next.new.self.items c.remove-next.result some c.remove-next.ensures.value
+    c.remove-next.ensures.by_index.2 in (
+      new.origin ∙ inv.0,
+      subst (λ (o : Origin _). HasEnded state records (machine_at N (state o.boot) o.records) c.in_ok-going.going.end) inv.0
+          new.ended,
+      new.typed.0 ∙ inv.2,
+      new.typed.1 ∙ inv.3,
+      inr (c.remove-next.result, inv.5 c.remove-next.result first.0, new.won),
+      λ n at. inv.5 n (first.1 n at),
+    )
