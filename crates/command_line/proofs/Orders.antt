@@ -1,5 +1,5 @@
 -- From what an option was given to the number that it says, and from what was found to what is asked for.
-use Rattle.std.proofs.Common.{◌≡◌, ℕ, List, [], ◌∷◌, ◌++◌, Option, Some, None, Result, Ok, Err, inl, inr, refl, subst, unwrap_or}
+use Rattle.std.proofs.Common.{◌≡◌, ℕ, zero, suc, ◌<◌, List, [], ◌∷◌, ◌++◌, length, map, take, get_or, arith, Option, Some, None, Result, Ok, Err, inl, inr, refl, subst, unwrap_or}
 use Rattle.std.specs.Prelude.{IfOk}
 use Rattle.std.specs.Str.Parse.{ParsesUnsigned}
 use Rattle.clap.specs.Words.{ReadsOne}
@@ -49,9 +49,20 @@ pub asked_by_found : (words : List (List ℕ)) (word : List ℕ) (asked : Reques
 asked_by_found words word asked is h = inl (subst (λ w. HasFound w asked) is h)
 
 -- one more word says one more turn
-pub one_more_turn : (words : List (List ℕ)) (turns : List ℕ) (word : List ℕ) (turn : ℕ) → AreTurns words turns
-    → IsGivenOr 0 (Some word) turn → AreTurns (words ++ word ∷ []) (turns ++ turn ∷ [])
-one_more_turn [] [] word turn are is = (is, tt)
-one_more_turn [] (x ∷ turns) word turn are is = absurd are
-one_more_turn (w ∷ words) [] word turn are is = absurd are
-one_more_turn (w ∷ words) (x ∷ turns) word turn are is = (are.0, one_more_turn words turns word turn are.1 is)
+pub one_more_turn : {X : Type 0} (text : X → List ℕ) (words : List X) (turns : List ℕ) (i : ℕ) (other : X) (turn : ℕ)
+    → i < length words → AreTurns (map text (take i words)) turns → IsGivenOr 0 (Some (text (get_or words i other))) turn
+    → AreTurns (map text (take (suc i) words)) (turns ++ turn ∷ [])
+one_more_turn text [] turns i other turn within are is = absurd (omega (arith, within))
+one_more_turn text (w ∷ words) [] zero other turn within are is = (is, tt)
+one_more_turn text (w ∷ words) (t ∷ turns) zero other turn within are is = absurd are
+one_more_turn text (w ∷ words) [] (suc i) other turn within are is = absurd are
+one_more_turn text (w ∷ words) (t ∷ turns) (suc i) other turn within are is =
+    (are.0, one_more_turn text words turns i other turn (let l = within in omega (arith, l)) are.1 is)
+
+-- a word that is a number, and one that is none
+module _ {E : Type 0} (word : List ℕ) (r : Result ℕ E) (parses : ParsesUnsigned 64 10 word r) where
+  pub turn_read : (turn : ℕ) → r ≡ Ok turn → IsGivenOr 0 (Some word) turn
+  turn_read turn is = (Some turn, ((subst (ParsesUnsigned 64 10 word) is parses).1, refl))
+
+  pub no_turn : (e : E) → r ≡ Err e → IsGivenOr 0 (Some word) 0
+  no_turn e is = (None, ((λ numeral. (subst (ParsesUnsigned 64 10 word) is parses) numeral), refl))

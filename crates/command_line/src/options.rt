@@ -238,7 +238,10 @@ fn turns_of(alloc: Global, words: &[&str]) -> Result<Vec<u64>, AllocError>
 fn turn_of(word: &str) -> u64
     ensures { IsGivenOr 0 (Some word.now) result }
 {
-    word.parse::<u64>().unwrap_or(0)
+    match word.parse::<u64>() {
+        Ok(turn) => turn,
+        Err(_) => 0,
+    }
 }
 
 // Drives, by their names.
