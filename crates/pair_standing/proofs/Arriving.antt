@@ -154,8 +154,8 @@ parts-grow s fates round (suc n) g =
 
 -- one more part, and one more round
 pub one_more : (s : Sent) (fates : List Fate) (round n : ℕ) (old g new : Gathering) (fate : Fate) (bytes : List ℕ)
-    → g ≡ after_parts s fates round n old → fate ≡ fate_in fates s.count round n → bytes ≡ message_of s n → new ≡ after_fate fate bytes g
-    → new ≡ after_parts s fates round (n + 1) old
+    → g ≡ after_parts s fates round n old → fate ≡ fate_in fates s.count round n → bytes ≡ message_of s n
+    → new ≡ after_fate fate bytes g → new ≡ after_parts s fates round (n + 1) old
 unfolding after_parts
 one_more s fates round n old g new fate bytes before is_fate is_message sent =
     let next : suc n ≡ n + 1 = omega arith in
@@ -300,10 +300,11 @@ module _ (again : PartsAreReadAgain) (stays : StaysOfImage) (s : Sent) (fates : 
     unfolding after_rounds
     rounds_come zero g h index inside round less = absurd (omega (arith, less))
     rounds_come (suc n) g h index inside round less = elim (le-cases round n (omega (arith, less))) [
-      | inl before ↦ still (after_rounds s fates n g) (after_rounds s fates (suc n) g) (parts-grow s fates n s.count (after_rounds s fates n g))
-          index (rounds_come n g h index inside round before)
-      | inr same ↦ subst (λ k. (fate_in fates s.count k index ≡ Drop) ⊎ Came (after_rounds s fates (suc n) g).slots index) (sym same)
-          (parts_come n s.count (after_rounds s fates n g) (omega (arith, counted)) (rounds-keep n g h) index inside)
+      | inl before ↦ still (after_rounds s fates n g) (after_rounds s fates (suc n) g)
+          (parts-grow s fates n s.count (after_rounds s fates n g)) index
+          (rounds_come n g h index inside round before)
+      | inr same ↦ subst (λ k. (fate_in fates s.count k index ≡ Drop) ⊎ Came (after_rounds s fates (suc n) g).slots index)
+          (sym same) (parts_come n s.count (after_rounds s fates n g) (omega (arith, counted)) (rounds-keep n g h) index inside)
     ]
 
     -- what is missing in the end was lost in each round

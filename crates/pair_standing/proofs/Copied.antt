@@ -1,5 +1,4 @@
--- All parts of a guest's image make the guest, so a copy that ends is of its state, and one that stalls lost a part again and
--- again.
+-- All parts of a guest's image make its state again; and if some are missing in the end, one was lost in each round.
 use Rattle.std.proofs.Common.{◌≡◌, ℕ, ◌+◌, ◌<◌, ◌^◌, Bool, true, false, cond, eqb, List, [], ◌∷◌, length, take, drop, Some, None, is_some, refl, sym, ap, subst, ◌∙◌, arith}
 use Rattle.std.proofs.lemmas.Bool.{eqb-true}
 use Rattle.std.proofs.lemmas.Option.{same_Some}
@@ -14,8 +13,8 @@ use Rattle.guest_parts.specs.Guest.{Guest}
 use Rattle.guest_parts.specs.Parts.{guest_of_parts}
 use Rattle.log_entry.specs.Numbers.{◌>>=◌}
 use Rattle.pair_standing.specs.Copying.{AllCame, IsMadeByItsImage, Sent, SomeIsLost, after_rounds, sent_of}
-use Rattle.pair_threads.specs.declared.link.Fate.{Fate}
 use Rattle.pair_standing.proofs.Arriving.{Gathers, none_gathered, rounds-keep, some_is_lost, whole_are}
+use Rattle.pair_threads.specs.declared.link.Fate.{Fate}
 
 -- ---- an image that makes its guest
 
@@ -27,9 +26,8 @@ sized drives [] fits = absurd cc
 sized drives (front ∷ rest) fits = go (eqb (length rest) (256 + table_count drives)) refl fits
   where
     go : (b : Bool) → eqb (length rest) (256 + table_count drives) ≡ b
-        → is_some (cond b (read_parts drives front (take 256 rest) (drop 256 rest)) None >>= λ (c : Checkpoint). Some (guest_of c))
-        ≡ true
-        → length (front ∷ rest) ≡ part_count drives
+        → is_some (cond b (read_parts drives front (take 256 rest) (drop 256 rest)) None
+        >>= λ (c : Checkpoint). Some (guest_of c)) ≡ true → length (front ∷ rest) ≡ part_count drives
     go true is e = let n = eqb-true (length rest) (256 + table_count drives) is in omega (arith, n)
     go false is e = absurd cc
 

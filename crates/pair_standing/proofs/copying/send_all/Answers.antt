@@ -20,5 +20,6 @@ pub loop-round-preserved : goal.loop-round-preserved
 loop-round-preserved c = (
   one_round_more (sent_of c.args.image.now) c.args.fates.now c.loop-round.round c.args.assembly.now
       c.loop-round.assembly c.send_round.new.assembly c.loop-round.invariant.0 c.in_ok-send_round.ensures.sent,
-  λ missing. is_not_all c.send_round.new.assembly c.whole.result c.is_ok.result c.whole.ensures c.is_ok.ensures.value c.if-is_ok.false,
+  λ missing. is_not_all c.send_round.new.assembly c.whole.result c.is_ok.result c.whole.ensures c.is_ok.ensures.value
+      c.if-is_ok.false,
 )
