@@ -1,3 +1,3 @@
 pub mod Living
 pub mod Places
-pub mod Generations
+pub mod Later

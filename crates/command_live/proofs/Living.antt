@@ -1,5 +1,5 @@
 -- What a pair on threads prints is an end of its generation; what is typed at it, line by line.
-use Rattle.std.proofs.Common.{◌≡◌, ℕ, ◌+◌, ◌<◌, zero, suc, true, Option, Some, None, List, [], ◌∷◌, ◌++◌, Result, Ok, Err, inl, inr, refl, subst, sym, ap, ◌∙◌, length, replicate, take, get_or, if◌then◌else◌, append-nil, arith}
+use Rattle.std.proofs.Common.{◌≡◌, ℕ, ◌+◌, ◌<◌, zero, suc, Bool, Option, Some, None, List, [], ◌∷◌, ◌++◌, Result, Ok, Err, inl, inr, refl, subst, sym, ap, ◌∙◌, length, replicate, take, get_or, if◌then◌else◌, append-nil, arith}
 use Rattle.std.specs.Prelude.{◌⊎◌, IfErr, IfOk, OnOk}
 use Rattle.std.specs.Global.{Vec}
 use Rattle.std.specs.Result.{IsErrAnd}
@@ -12,7 +12,7 @@ use Rattle.guest_board.specs.Guest.{guest_at_boot}
 use Rattle.guest_board.specs.Inputs.{some_altair}
 use Rattle.guest_lockstep.specs.Machine.{booted_from}
 use Rattle.log_entry.specs.declared.entry.Entry.{Entry}
-use Rattle.command_live.specs.Living.{AreBooted, AreTyped, BeginsAs, EndsOf, HasEnded, PrintsLive, PrintsNone, PrintsScreens, Tells, TellsEnd, TellsScreens, end_text, typed_by, typed_in, with_byte}
+use Rattle.command_live.specs.Living.{AreBooted, AreTyped, BeginsAs, EndsOf, HasEnded, PrintsLive, PrintsNone, PrintsScreens, Tells, TellsEnd, TellsScreens, WonIn, end_text, typed_by, typed_in, with_byte}
 use Rattle.command_live.specs.Saving.{images_of}
 use Rattle.command_ending.specs.Reports.{AddsLine}
 use Rattle.command_ending.specs.declared.failure.Failure.{Failure}
@@ -22,7 +22,7 @@ use Rattle.command_line.specs.declared.live_order.LiveOrder.{LiveOrder}
 use Rattle.pair_threads.specs.Ending.{EndsBy, WonBy}
 use Rattle.pair_threads.specs.Stores.{bytes_in}
 use Rattle.pair_threads.specs.declared.gate.Who.{Who}
-use Rattle.shared_disk.specs.Records.{IsAtBoot, IsUnwritten, boot_record, bytes_after}
+use Rattle.shared_disk.specs.Records.{HasWholeSectors, IsAtBoot, IsUnwritten, boot_record, bytes_after}
 use Rattle.shared_disk.specs.declared.store.Record.{Record}
 use Rattle.script_language.specs.declared.line.Line.{Line}
 use Rattle.script_language.specs.declared.setup.ScriptSetup.{ScriptSetup}
@@ -56,7 +56,7 @@ tells_residual winner screens records saved (Err k) told e old new is was kept w
 module _ (setup : ScriptSetup) (given : List SectorWrite) (typed0 typed1 : List ℕ) (order : LiveOrder) where
   -- the end is printed
   pub tells_end : (old new : Option (List ℕ)) (first second images : List ℕ) (winner : Option Who)
-      → WonBy order.primary_asks order.backup_asks winner
+      → WonIn order winner
       → EndsOf setup given typed0 typed1 order.saved.items winner (first ∷ second ∷ []) images
       → AddsLine (Some (end_text first second winner)) old new
       → TellsEnd setup given typed0 typed1 order images old new
@@ -148,24 +148,25 @@ are_booted setup given records at address there =
 pub begins_as : (setup : ScriptSetup) (given : List SectorWrite) (lines typed : List Line) (primary backup : Guest)
     (records : List Record) (typed0 typed1 : List ℕ) → typed ≡ lines → primary ≡ guest_at_boot setup.guest
     → backup ≡ guest_at_boot setup.guest → IsAtBoot records setup.guest.drives given → IsUnwritten records
-    → AreTyped typed typed0 typed1 → BeginsAs setup given lines primary backup records typed0 typed1
-begins_as setup given lines typed primary backup records typed0 typed1 same is0 is1 at_boot unwritten are = record {
+    → HasWholeSectors records → AreTyped typed typed0 typed1 → BeginsAs setup given lines primary backup records typed0 typed1
+begins_as setup given lines typed primary backup records typed0 typed1 same is0 is1 at_boot unwritten whole are = record {
   primary_is = is0;
   backup_is = is1;
   at_boot = at_boot;
   unwritten = unwritten;
+  whole = whole;
   typed = subst (λ ls. AreTyped ls typed0 typed1) same are;
 }
 
 -- a generation that has begun like this and has ended is one of the script
 pub has_ended : (setup : ScriptSetup) (given : List SectorWrite) (lines : List Line) (boot backup_boot : Guest)
     (booted : List Record) (typed0 typed1 : List ℕ) (winner : Option Who) (primary backup : List Entry) (held : ℕ)
-    (screens : List (List ℕ)) (records : List Record) (s t : Guest)
+    (screens : List (List ℕ)) (records : List Record) (s t : Guest) (exact : Bool)
     → BeginsAs setup given lines boot backup_boot booted typed0 typed1
-    → EndsBy (booted_from some_altair boot (bytes_in booted)) true typed0 typed1 winner primary backup held screens records s t
+    → EndsBy (booted_from some_altair boot (bytes_in booted)) exact typed0 typed1 winner primary backup held screens records s t
     → HasEnded setup given lines winner screens records
-has_ended setup given lines boot backup_boot booted typed0 typed1 winner primary backup held screens records s t begins ends =
-    record {
+has_ended setup given lines boot backup_boot booted typed0 typed1 winner primary backup held screens records s t exact
+    begins ends = record {
       sectors = bytes_in booted;
       booted = are_booted setup given booted begins.at_boot;
       primary = primary;
@@ -173,11 +174,12 @@ has_ended setup given lines boot backup_boot booted typed0 typed1 winner primary
       held = held;
       s = s;
       t = t;
-      ends = subst (λ g. EndsBy (booted_from some_altair g (bytes_in booted)) true (typed_in 0 lines) (typed_in 1 lines) winner
+      exact = exact;
+      ends = subst (λ g. EndsBy (booted_from some_altair g (bytes_in booted)) exact (typed_in 0 lines) (typed_in 1 lines) winner
           primary backup held screens records s t) begins.primary_is
-          (subst (λ l. EndsBy (booted_from some_altair boot (bytes_in booted)) true l (typed_in 1 lines) winner primary backup held
+          (subst (λ l. EndsBy (booted_from some_altair boot (bytes_in booted)) exact l (typed_in 1 lines) winner primary backup held
           screens records s t) begins.typed.0
-          (subst (λ l. EndsBy (booted_from some_altair boot (bytes_in booted)) true typed0 l winner primary backup held screens
+          (subst (λ l. EndsBy (booted_from some_altair boot (bytes_in booted)) exact typed0 l winner primary backup held screens
           records s t) begins.typed.1 ends));
     }
 
@@ -200,6 +202,7 @@ ends_of setup given lines saved drives winner screens records images h are all =
   records = records;
   s = h.s;
   t = h.t;
+  exact = h.exact;
   ends = h.ends;
   images_are = all ∙ ap (images_of records) are;
 }
@@ -208,7 +211,7 @@ ends_of setup given lines saved drives winner screens records images h are all =
 pub tells_of : (setup : ScriptSetup) (given : List SectorWrite) (lines : List Line) (order : LiveOrder) (saved : List ℕ)
     (winner : Option Who) (screens : List (List ℕ)) (records : List Record) (result : Result (Vec ℕ) Failure)
     (old new : Option (List ℕ)) → HasEnded setup given lines winner screens records
-    → WonBy order.primary_asks order.backup_asks winner → saved ≡ order.saved.items
+    → WonIn order winner → saved ≡ order.saved.items
     → TellsScreens winner screens records saved result old new
     → Tells setup given (typed_in 0 lines) (typed_in 1 lines) order result old new
 tells_of setup given lines order saved winner screens records (Ok images) old new ended won are told =
@@ -218,3 +221,13 @@ tells_of setup given lines order saved winner screens records (Ok images) old ne
     (ends_of setup given lines order.saved.items saved winner screens records images.items ended are told.images_are))
     told.printed
 tells_of setup given lines order saved winner screens records (Err failure) old new ended won are told = told
+
+-- of one generation, and of several
+pub tells_one : (setup : ScriptSetup) (given : List SectorWrite) (lines : List Line) (order : LiveOrder) (saved : List ℕ)
+    (winner : Option Who) (screens : List (List ℕ)) (records : List Record) (result : Result (Vec ℕ) Failure)
+    (old new : Option (List ℕ)) → HasEnded setup given lines winner screens records
+    → WonBy order.primary_asks order.backup_asks winner → saved ≡ order.saved.items
+    → TellsScreens winner screens records saved result old new
+    → Tells setup given (typed_in 0 lines) (typed_in 1 lines) order result old new
+tells_one setup given lines order saved winner screens records result old new ended won are told =
+    tells_of setup given lines order saved winner screens records result old new ended (inl won) are told

@@ -1,5 +1,5 @@
 -- What a pair on threads prints.
-use Rattle.std.specs.Prelude.{◌≡◌, ℕ, ◌==◌, if◌then◌else◌, IsTrue, Option, Some, None, List, [], ◌∷◌, ◌++◌, map, Bool, Result, Ok, Err, MatchResult, codes, replicate}
+use Rattle.std.specs.Prelude.{◌≡◌, ◌⊎◌, ℕ, ◌==◌, if◌then◌else◌, IsTrue, Option, Some, None, List, [], ◌∷◌, ◌++◌, Bool, Result, MatchResult, codes, replicate}
 use Rattle.std.specs.Global.{Vec}
 use Rattle.std.specs.Io.KnownBytes.{Appends, Keeps}
 use Rattle.disk_dcdd.specs.Address.{has_sector}
@@ -7,7 +7,6 @@ use Rattle.disk_dcdd.specs.declared.address.SectorAddress.{SectorAddress}
 use Rattle.disk_dcdd.specs.declared.sector.SectorWrite.{SectorWrite}
 use Rattle.disk_dcdd.specs.declared.sector.TheConstants.{SECTOR_BYTES}
 use Rattle.guest_parts.specs.Guest.{Guest}
-use Rattle.i8080_words.specs.declared.refusal.Fault.{Fault}
 use Rattle.guest_board.specs.Guest.{altair, guest_at_boot}
 use Rattle.log_entry.specs.declared.entry.Entry.{Entry}
 use Rattle.pair_events.specs.Printed.{accepted_text}
@@ -22,12 +21,11 @@ use Rattle.command_line.specs.declared.live_order.LiveOrder.{LiveOrder}
 use Rattle.pair_protocol.specs.Lawful.{Among}
 use Rattle.pair_threads.specs.Ending.{EndsBy, WonBy}
 use Rattle.pair_threads.specs.declared.gate.Who.{Who}
-use Rattle.pair_threads.specs.declared.workers.GenerationEnd.{GenerationEnd}
 use Rattle.pair_threads.specs.declared.gate.Who.TheVariants.{Primary, Backup}
 use Rattle.script_language.specs.declared.line.Line.{Line}
 use Rattle.script_language.specs.declared.line.Line.TheVariants.{Event}
 use Rattle.script_language.specs.declared.setup.ScriptSetup.{ScriptSetup}
-use Rattle.shared_disk.specs.Records.{IsAtBoot, IsUnwritten, bytes_after}
+use Rattle.shared_disk.specs.Records.{HasWholeSectors, IsAtBoot, IsUnwritten, bytes_after}
 use Rattle.shared_disk.specs.declared.store.Record.{Record}
 
 -- the byte that a line types at a port, and the bytes that lines do
@@ -84,14 +82,15 @@ pub record EndsOf (setup : ScriptSetup) (given : List SectorWrite) (typed0 typed
 abbrev pub AreTyped : List Line → List ℕ → List ℕ → Type 0
 AreTyped lines typed0 typed1 = (typed0 ≡ typed_in 0 lines) × (typed1 ≡ typed_in 1 lines)
 
--- a generation begins as a script says: both guests at boot, the sectors of its setup on the disk, nothing written on it, and
--- what its lines type
+-- a generation begins as a script says: both guests at boot, the sectors of its setup on the disk, all of them whole and
+-- none of them written, and what its lines type
 pub record BeginsAs (setup : ScriptSetup) (given : List SectorWrite) (lines : List Line) (primary backup : Guest)
     (records : List Record) (typed0 typed1 : List ℕ) : Type 0 where
   pub primary_is : primary ≡ guest_at_boot setup.guest
   pub backup_is : backup ≡ guest_at_boot setup.guest
   pub at_boot : IsAtBoot records setup.guest.drives given
   pub unwritten : IsUnwritten records
+  pub whole : HasWholeSectors records
   pub typed : AreTyped lines typed0 typed1
 
 -- it has ended, with these records on its disk
@@ -144,17 +143,6 @@ abbrev pub TellsScreens : Option Who → List (List ℕ) → List Record → Lis
     → Option (List ℕ) → Option (List ℕ) → Type 0
 TellsScreens winner screens records saved result old new = MatchResult result
     (λ images. PrintsScreens winner screens records saved images.items old new) (λ failure. PrintsNone failure old new)
-
--- the same of a pair that has ended, if it has
-abbrev pub PrintsFailed : Result (Vec ℕ) Failure → Option (List ℕ) → Option (List ℕ) → Type 0
-PrintsFailed (Ok images) old new = ⊥
-PrintsFailed (Err failure) old new = PrintsNone failure old new
-
-abbrev pub TellsEnded : {B D : Type 0} → (D → List Record) → Result (GenerationEnd B D) Fault → List ℕ
-    → Result (Vec ℕ) Failure → Option (List ℕ) → Option (List ℕ) → Type 0
-TellsEnded records ended saved result old new = MatchResult ended
-    (λ end. TellsScreens end.winner (map (λ v. v.items) end.accepted) (records end.disk) saved result old new)
-    (λ fault. PrintsFailed result old new)
 
 -- the end is printed, and these are the images
 abbrev pub Tells : ScriptSetup → List SectorWrite → List ℕ → List ℕ → LiveOrder → Result (Vec ℕ) Failure

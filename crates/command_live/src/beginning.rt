@@ -4,7 +4,7 @@ ghost use Rattle.event_callbacks.specs.declared.devices.TheConstants.{SENT, SECT
 ghost use Rattle.event_callbacks.specs.Keeping.{Keeps};
 ghost use Rattle.guest_board.specs.Guest.{guest_at_boot};
 ghost use Rattle.command_live.specs.Living.{AreTyped, BeginsAs, typed_by, typed_in};
-ghost use Rattle.shared_disk.specs.Records.{IsAtBoot, IsUnwritten};
+ghost use Rattle.shared_disk.specs.Records.{HasWholeSectors, IsAtBoot, IsUnwritten};
 
 use command_input::Input;
 use event_callbacks::{Callbacks, Completes};
@@ -13,7 +13,7 @@ use i8080_words::R;
 use pair_events::Event;
 use pair_threads::{Fate, Workers};
 use script_language::Line;
-use shared_disk::{MemoryStore, SharedDisk};
+use shared_disk::{MemoryStore, SectorStore, SharedDisk};
 use std::alloc::Global;
 
 /// How many instructions a guest executes in one turn, at most.
@@ -71,8 +71,10 @@ pub(crate) fn workers_of<
 fn disk_of(alloc: Global, input: &Input) -> R<SharedDisk<MemoryStore>>
     ensures at_boot { IfOk result (λ disk. IsAtBoot disk input.now.script.setup.guest.drives input.now.sectors.items) }
     ensures unwritten { IfOk result (λ disk. IsUnwritten disk) }
+    ensures whole { IfOk result (λ disk. HasWholeSectors disk) }
 {
     let store = MemoryStore::at_boot(alloc, input.script.setup.guest.drives, &input.sectors)?;
+    store.has_whole_sectors();
     Ok(SharedDisk::new(store))
 }
 

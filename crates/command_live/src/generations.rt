@@ -1,16 +1,16 @@
 //! A pair on threads that goes on: what happens in its further generations, and how it is run.
-ghost use Rattle.std.specs.Prelude.{◌≡◌, ◌⊎◌, IfOk, map};
+ghost use Rattle.std.specs.Prelude.{◌≡◌, ◌⊎◌, ◌<◌, ◌^◌, IfOk, length, map};
 ghost use Rattle.event_callbacks.specs.declared.devices.TheConstants.{SENT, SECTOR, WRITTEN};
 ghost use Rattle.event_callbacks.specs.Keeping.{Keeps};
-ghost use Rattle.command_live.specs.Generations.{AreLater, IsNext};
-ghost use Rattle.command_live.specs.Living.{HasEnded};
+ghost use Rattle.command_live.specs.Later.{AreLater, IsNext};
+ghost use Rattle.command_live.specs.Living.{HasEnded, WonIn};
 ghost use Rattle.pair_generations.specs.Generations.{WonLater};
 ghost use Rattle.pair_threads.specs.Ending.{WonBy};
 
 use crate::beginning::{Asked, STEPS, workers_of};
 use board_image::DraftedBoard;
 use command_input::Input;
-use command_line::Asker;
+use command_line::{Asker, LiveOrder};
 use event_callbacks::{Callbacks, Completes};
 use guest_board::Board;
 use i8080_words::R;
@@ -105,9 +105,14 @@ fn drafted<T: Completes + Drop, S: Completes + Drop, W: Completes + Drop>(
     }
 }
 
-/// The pair at the end of its last generation.
-#[tactic(auto, using(crate::proofs::Living::has_ended))]
-pub(crate) fn run_generations<
+// The levels and the switches of a setup have the sizes of their types.
+fn sizes(levels: &[u8; 3], sense: u8)
+    ensures levels { length levels.now ≡ 3 }
+    ensures sense { sense < 2 ^ 8 }
+{}
+
+// The pair at the end of its last generation, with these further ones.
+fn run_generations<
     H: Threads + Clock + Sync,
     T: Completes + Drop + Copy + Send,
     S: Completes + Drop + Copy + Send,
@@ -131,7 +136,7 @@ pub(crate) fn run_generations<
     ensures won { IfOk result (λ end. WonBy asked.primary asked.backup end.winner ⊎ WonLater later.items end.winner) }
 {
     altairs_may_go_on();
-    input.script.setup.guest.sizes();
+    sizes(&input.script.setup.guest.levels, input.script.setup.guest.sense);
     let limits = Limits {
         turns: asked.turns,
         steps: STEPS,
@@ -140,4 +145,34 @@ pub(crate) fn run_generations<
     };
     let workers = workers_of(alloc, asked, link, input, sent, sector, written)?;
     run_pair(rt, alloc, drafted(workers), later, &OpenGate, limits)
+}
+
+/// The pair at the end of its last generation.
+#[tactic(auto, using(crate::proofs::Later::won_among))]
+pub(crate) fn generations<
+    H: Threads + Clock + Sync,
+    T: Completes + Drop + Copy + Send,
+    S: Completes + Drop + Copy + Send,
+    W: Completes + Drop + Copy + Send,
+>(
+    rt: &H,
+    alloc: Global,
+    asked: Asked,
+    order: &LiveOrder,
+    input: &Input,
+    sent: T,
+    sector: S,
+    written: W,
+) -> R<GenerationEnd<DraftedBoard<T, S, W>, MemoryStore>>
+    requires asked { (asked.primary ≡ order.now.primary_asks) × (asked.backup ≡ order.now.backup_asks) }
+    requires sent { Keeps (T.may sent) (T.gives sent) SENT }
+    requires sector { Keeps (S.may sector) (S.gives sector) SECTOR }
+    requires written { Keeps (W.may written) (W.gives written) WRITTEN }
+    ensures ended { IfOk result (λ end. HasEnded input.now.script.setup input.now.sectors.items
+        input.now.script.lines.items end.winner (map (λ v. v.items) end.accepted) end.disk) }
+    ensures won { IfOk result (λ end. WonIn order.now end.winner) }
+{
+    let link = order.link.clone()?;
+    let later = later_of(alloc, &order.next, &order.next_at, &order.link, sent, sector, written)?;
+    run_generations(rt, alloc, asked, link, later, input, sent, sector, written)
 }

@@ -7,6 +7,7 @@ ghost use Rattle.command_live.specs.Living.{HasEnded, PrintsNone, Tells, TellsSc
 ghost use Rattle.pair_threads.specs.Ending.{WonBy};
 
 use crate::beginning::{Asked, workers_of};
+use crate::generations::generations;
 use crate::saving::images_of;
 use altair_laws::altairs_are_lawful;
 use command_ending::{Failure, Report};
@@ -60,7 +61,6 @@ impl fmt::Display for EndText<'_> {
 /// Boots a pair whose completions are these closures, runs it on threads until it is at its end, and prints what its
 /// terminals have accepted. Nothing is printed of a pair that stalls. What is returned are the images of the disks that
 /// are saved; input or output has failed if one of them is not attached.
-#[tactic(auto, using(crate::proofs::Living::tells_of))]
 pub fn run<
     H: Threads + Clock + Sync,
     T: Completes + Drop + Copy + Send,
@@ -91,11 +91,77 @@ pub fn run<
         backup: order.backup_asks,
     };
     if order.next.is_empty() {
-        let end = generation(rt, alloc, asked, order.link, input, sent, sector, written);
-        return tell_of(alloc, end, &order.saved, report, writer);
+        return run_one(rt, alloc, asked, order, input, report, writer, sent, sector, written);
     }
-    let end = generations(rt, alloc, asked, &order, input, sent, sector, written);
-    tell_of(alloc, end, &order.saved, report, writer)
+    run_several(rt, alloc, asked, order, input, report, writer, sent, sector, written)
+}
+
+// The same of one generation.
+#[tactic(auto, using(crate::proofs::Living::tells_one))]
+fn run_one<
+    H: Threads + Clock + Sync,
+    T: Completes + Drop + Copy + Send,
+    S: Completes + Drop + Copy + Send,
+    W: Completes + Drop + Copy + Send,
+    O: Write + Drop,
+>(
+    rt: &H,
+    alloc: Global,
+    asked: Asked,
+    order: LiveOrder,
+    input: &Input,
+    report: &mut Report,
+    writer: &mut O,
+    sent: T,
+    sector: S,
+    written: W,
+) -> Result<Vec<u8>, Failure>
+    requires asked { (asked.primary ≡ order.primary_asks) × (asked.backup ≡ order.backup_asks) }
+    requires sent { Keeps (T.may sent) (T.gives sent) SENT }
+    requires sector { Keeps (S.may sector) (S.gives sector) SECTOR }
+    requires written { Keeps (W.may written) (W.gives written) WRITTEN }
+    ensures { Tells input.now.script.setup input.now.sectors.items (typed_in 0 input.now.script.lines.items)
+        (typed_in 1 input.now.script.lines.items) order result
+        (handed (O.contents writer.old) report.old) (handed (O.contents writer.new) report.new) }
+{
+    match generation(rt, alloc, asked, order.link, input, sent, sector, written) {
+        Ok(mut end) => tell(alloc, &mut end, &order.saved, report, writer),
+        Err(fault) => Err(failure_of(fault)),
+    }
+}
+
+// The same of several.
+#[tactic(auto, using(crate::proofs::Living::tells_of))]
+fn run_several<
+    H: Threads + Clock + Sync,
+    T: Completes + Drop + Copy + Send,
+    S: Completes + Drop + Copy + Send,
+    W: Completes + Drop + Copy + Send,
+    O: Write + Drop,
+>(
+    rt: &H,
+    alloc: Global,
+    asked: Asked,
+    order: LiveOrder,
+    input: &Input,
+    report: &mut Report,
+    writer: &mut O,
+    sent: T,
+    sector: S,
+    written: W,
+) -> Result<Vec<u8>, Failure>
+    requires asked { (asked.primary ≡ order.primary_asks) × (asked.backup ≡ order.backup_asks) }
+    requires sent { Keeps (T.may sent) (T.gives sent) SENT }
+    requires sector { Keeps (S.may sector) (S.gives sector) SECTOR }
+    requires written { Keeps (W.may written) (W.gives written) WRITTEN }
+    ensures { Tells input.now.script.setup input.now.sectors.items (typed_in 0 input.now.script.lines.items)
+        (typed_in 1 input.now.script.lines.items) order result
+        (handed (O.contents writer.old) report.old) (handed (O.contents writer.new) report.new) }
+{
+    match generations(rt, alloc, asked, &order, input, sent, sector, written) {
+        Ok(mut end) => tell(alloc, &mut end, &order.saved, report, writer),
+        Err(fault) => Err(failure_of(fault)),
+    }
 }
 
 // Why nothing is printed.
@@ -106,23 +172,6 @@ fn failure_of(fault: Fault) -> Failure
         Fault::Stalled => Failure::Stalled,
         Fault::Unknown => Failure::InputOrOutput,
         _ => Failure::OutOfMemory,
-    }
-}
-
-// Prints how a pair has ended, if it has.
-fn tell_of<B: Lockstep + Drop, O: Write + Drop>(
-    alloc: Global,
-    ended: R<GenerationEnd<B, MemoryStore>>,
-    saved: &[u8],
-    report: &mut Report,
-    writer: &mut O,
-) -> Result<Vec<u8>, Failure>
-    ensures { TellsEnded MemoryStore.records ended saved.now result (handed (O.contents writer.old) report.old)
-        (handed (O.contents writer.new) report.new) }
-{
-    match ended {
-        Ok(mut end) => tell(alloc, &mut end, saved, report, writer),
-        Err(fault) => Err(failure_of(fault)),
     }
 }
 

@@ -1,5 +1,5 @@
 -- The generation begins as the script says, so its end is one of that script.
-use Rattle.std.proofs.Common.{map}
+use Rattle.std.proofs.Common.{map, true}
 use Rattle.command_live.proofs.Living.{has_ended, if_ok}
 use Rattle.command_live.proofs.live.generation.Goals as goal
 
@@ -13,5 +13,5 @@ returns-clause-ended g c =
     if_ok c.run_generation.result _ _
     (λ end ends. has_ended input.script.setup input.sectors.items input.script.lines.items workers.primary.guest
     workers.backup.guest workers.disk workers.typed0.items workers.typed1.items end.winner end.primary.items end.backup.items
-    end.held (map (λ v. v.items) end.accepted) end.disk end.primary_board.guest end.backup_board.guest
+    end.held (map (λ v. v.items) end.accepted) end.disk end.primary_board.guest end.backup_board.guest true
     c.in_ok-workers.ensures.begins ends) c.run_generation.ensures.ends
