@@ -1,7 +1,7 @@
 -- What happens in further generations: one more is named by both lists; and who goes on alone at the end was to ask in one.
-use Rattle.std.proofs.Common.{◌≡◌, ℕ, suc, zero, min, ◌+◌, ◌<◌, ◌≤◌, ◌^◌, ◌∙◌, inl, inr, Bool, true, false, if◌then◌else◌, replicate, List, [], ◌∷◌, ◌++◌, length, take, get_or, Option, Some, None, refl, sym, subst, ap, arith}
+use Rattle.std.proofs.Common.{◌≡◌, ℕ, suc, zero, min, ◌<◌, ◌≤◌, ◌^◌, ◌∙◌, inl, inr, Bool, true, false, if◌then◌else◌, replicate, List, [], ◌∷◌, ◌++◌, length, take, get_or, Option, Some, None, refl, sym, subst, ap, arith}
 use Rattle.std.proofs.lemmas.Bool.{false≢true}
-use Rattle.std.specs.Prelude.{◌⊎◌, IsTrue, IfOk, Result, Ok, Err}
+use Rattle.std.specs.Prelude.{◌⊎◌, IsTrue}
 use Rattle.std.specs.Option.{option_map_or}
 use Rattle.altair_copies.specs.Copies.{IsSetup}
 use Rattle.command_line.specs.declared.live_order.Asker.{Asker}
@@ -128,11 +128,6 @@ begins_so setup given lines primary backup first second records found typed0 typ
   whole = subst HasWholeSectors (sym d) begins.whole;
   typed = (k0 ∙ begins.typed.0, k1 ∙ begins.typed.1);
 }
-
-pub if_both : {A E : Type 0} (result : Result A E) (P Q R : A → Type 0) → ((a : A) → P a → Q a → R a) → IfOk result P
-    → IfOk result Q → IfOk result R
-if_both (Ok a) P Q R so p q = so a p q
-if_both (Err e) P Q R so p q = tt
 
 pub won_in : {H : Type 0} (order : LiveOrder) (primary backup : Option ℕ) (askers : List Asker) (turns : List ℕ)
     (later : List (Next H)) (winner : Option Who) → primary ≡ order.primary_asks → backup ≡ order.backup_asks

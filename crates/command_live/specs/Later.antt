@@ -1,7 +1,7 @@
 -- What happens in the further generations of a pair on threads.
 use Rattle.std.specs.Prelude.{◌≡◌, ℕ, List, [], ◌∷◌, Option, Some, None}
 use Rattle.command_line.specs.declared.live_order.Asker.{Asker}
-use Rattle.command_line.specs.declared.live_order.Asker.TheVariants.{Nobody, Primary, Backup}
+use Rattle.command_line.specs.declared.live_order.Asker.TheVariants.{Primary, Backup}
 use Rattle.pair_generations.specs.declared.generation.Next.{Next}
 
 -- when the primary, and the backup, asks to go on alone

@@ -144,7 +144,8 @@ fn run_generations<
         rounds: TRIES,
     };
     let workers = workers_of(alloc, asked, link, input, sent, sector, written)?;
-    run_pair(rt, alloc, drafted(workers), later, &OpenGate, limits)
+    let last = run_pair(rt, alloc, drafted(workers), later, &OpenGate, limits)?;
+    Ok(last.end)
 }
 
 /// The pair at the end of its last generation.

@@ -1,5 +1,5 @@
 -- An Altair is a guest of a pair that goes on, and so is whatever holds one.
-use Rattle.std.proofs.Common.{◌≡◌, ℕ, List, Some, refl}
+use Rattle.std.proofs.Common.{ℕ, List, refl}
 use Rattle.altair_copies.specs.Copies.{image_copy}
 use Rattle.clone_state.specs.Copies.{CopiesAs}
 use Rattle.disk_dcdd.specs.declared.address.SectorAddress.{SectorAddress}

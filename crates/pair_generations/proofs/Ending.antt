@@ -3,8 +3,7 @@
 use Rattle.std.proofs.Common.{◌≡◌, ℕ, ◌+◌, ◌<◌, inl, inr, true, false, List, [], ◌∷◌, ◌++◌, length, map, take, drop, Option, Some, None, sym, ap, subst, ◌∙◌, arith}
 use Rattle.std.specs.Prelude.{slice_index_or}
 use Rattle.guest_lockstep.specs.Machine.{Machine, Move}
-use Rattle.guest_lockstep.specs.Reach.{Reach}
-use Rattle.log_entry.specs.Entries.{inputs_of, last_count}
+use Rattle.log_entry.specs.Entries.{last_count}
 use Rattle.log_entry.specs.declared.entry.Entry.{Entry}
 use Rattle.pair_protocol.specs.Lawful.{Among, Lawful}
 use Rattle.pair_generations.specs.Generations.{HasEnded, machine_at}
@@ -80,3 +79,9 @@ pub first_of : {X : Type 0} (all rest : List X) (x : X) → 0 < length all → x
     → rest ≡ take 0 all ++ drop (0 + 1) all → Among x all × ((n : X) → Among n rest → Among n all)
 first_of [] rest x some value is = absurd (omega (arith, some))
 first_of (y ∷ all) rest x some value is = (inl value, λ n at. inr (subst (Among n) is at))
+
+-- one more generation, and one less that is left
+pub one_less : {X : Type 0} (all rest : List X) (number next total : ℕ) → rest ≡ take 0 all ++ drop (0 + 1) all
+    → 0 < length all → next ≡ number + 1 → number + length all ≡ total → next + length rest ≡ total
+one_less [] rest number next total is some more sum = absurd (omega (arith, some))
+one_less (x ∷ all) rest number next total is some more sum = (let l = ap length is in omega (arith, l, more, sum))

@@ -1,6 +1,6 @@
 -- The workers that begin where a run is settled: with all that is known there, their lists and screens, and two guests in
 -- one state.
-use Rattle.std.proofs.Common.{◌≡◌, ℕ, ◌≤◌, false, length, take, List, [], ◌∷◌, Option, refl, sym, ap, subst, ◌∙◌, arith, vec_len, Vec, Global}
+use Rattle.std.proofs.Common.{◌≡◌, ℕ, ◌≤◌, false, length, take, List, [], Option, sym, subst, ◌∙◌, arith, vec_len, Vec, Global}
 use Rattle.guest_lockstep.specs.Machine.{Machine}
 use Rattle.log_entry.specs.declared.entry.Entry.{Entry}
 use Rattle.pair_generations.specs.Generations.{MayBeKnownAt, MayResume}
@@ -11,7 +11,6 @@ use Rattle.pair_threads.specs.Leading.{by_port}
 use Rattle.pair_threads.specs.Resuming.{BeginsAt}
 use Rattle.pair_threads.specs.Stores.{bytes_in}
 use Rattle.pair_threads.specs.declared.link.Fate.{Fate}
-use Rattle.pair_threads.specs.declared.workers.Resumed.{Resumed}
 use Rattle.shared_disk.specs.declared.store.Record.{Record}
 
 how_long : {T : Type 0} (v : Vec T Global) → length v.items ≡ vec_len v

@@ -102,6 +102,7 @@ pub(crate) fn advance<
     requires ended { HasEnded B.state D.records (machine_at B.machine (B.state going.origin.boot) going.origin.records)
         going.end }
     ensures origin { IfOk result (λ new. new.origin ≡ going.origin) }
+    ensures next { IfOk result (λ new. new.generation ≡ going.generation + 1) }
     ensures ended { IfOk result (λ new. HasEnded B.state D.records
         (machine_at B.machine (B.state going.origin.boot) going.origin.records) new.end) }
     ensures typed { IfOk result (λ new. (new.end.typed0.items ≡ going.end.typed0.items)

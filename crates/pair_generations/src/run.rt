@@ -1,5 +1,5 @@
 //! A pair on threads over all its generations.
-ghost use Rattle.std.specs.Prelude.{◌≡◌, ◌⊎◌, ◌≤◌, ◌+◌, None, vec_len, IfErr, IfOk};
+ghost use Rattle.std.specs.Prelude.{◌≡◌, ◌⊎◌, ◌+◌, None, length, IfErr, IfOk};
 ghost use Rattle.pair_generations.specs.Generations.{HasEnded, WonLater, machine_at};
 ghost use Rattle.pair_generations.specs.Guests.{IsGuest};
 ghost use Rattle.pair_threads.specs.Ending.{IsEnding, WonBy};
@@ -14,6 +14,14 @@ use shared_disk::SectorStore;
 use std::alloc::Global;
 use std::thread::Threads;
 use std::time::Clock;
+
+/// How a pair has ended: its last generation, with all lists and all that its terminals have accepted since its boot, and how
+/// many generations there were.
+#[derive(Drop)]
+pub struct PairEnd<B: Drop, D: SectorStore> {
+    pub end: GenerationEnd<B, D>,
+    pub generations: u32,
+}
 
 // The further generations, as long as somebody has gone on alone in the last one and there is a spare host.
 fn go_on<
@@ -38,6 +46,8 @@ fn go_on<
     ensures typed { IfOk result (λ new. (new.end.typed0.items ≡ first.end.typed0.items)
         × (new.end.typed1.items ≡ first.end.typed1.items)) }
     ensures won { IfOk result (λ new. (new.end.winner ≡ first.end.winner) ⊎ WonLater later.items new.end.winner) }
+    ensures last { IfOk result (λ new. (new.end.winner ≡ None)
+        ⊎ (new.generation ≡ first.generation + length later.items)) }
     ensures refused { IfErr result IsEnding }
 {
     let mut going = first;
@@ -50,8 +60,8 @@ fn go_on<
 
 /// Runs a pair over generations: the first as `run_generation` does, and whenever a node goes on alone it takes what is
 /// outstanding, its machine is copied to the next spare host of `later`, and both begin the next generation where the run was
-/// settled. It ends with a generation in which nobody goes on alone, or with the last for which there is a host. Its end is that
-/// of one machine, the one that booted first, on one list, over all generations. `Stalled` if a generation ends in no such way, a
+/// settled. It ends with the first generation in which nobody goes on alone, or with the last for which there is a host. Its end
+/// is that of one machine, the one that booted first, on one list, over all generations. `Stalled` if a generation ends in no such way, a
 /// disk fails too often or a copy does not arrive; `OutOfMemory` if memory or a thread is refused.
 pub fn run_pair<
     B: Copies<H> + Send + Drop,
@@ -66,15 +76,17 @@ pub fn run_pair<
     later: Vec<Next<H>>,
     gate: &G,
     limits: Limits,
-) -> R<GenerationEnd<B, D>>
+) -> R<PairEnd<B, D>>
     requires guest { IsGuest B.state B.copied (machine_at B.machine (B.state workers.primary) (D.records workers.disk)) }
     requires alike { B.state workers.backup ≡ B.state workers.primary }
     requires unwritten { IsUnwritten (D.records workers.disk) }
     ensures ended { IfOk result (λ e. HasEnded B.state D.records
-        (machine_at B.machine (B.state workers.primary) (D.records workers.disk)) e) }
-    ensures typed { IfOk result (λ e. (e.typed0.items ≡ workers.typed0.items) × (e.typed1.items ≡ workers.typed1.items)) }
-    ensures won { IfOk result (λ e. WonBy workers.primary_contests workers.backup_contests e.winner
-        ⊎ WonLater later.items e.winner) }
+        (machine_at B.machine (B.state workers.primary) (D.records workers.disk)) e.end) }
+    ensures typed { IfOk result (λ e. (e.end.typed0.items ≡ workers.typed0.items)
+        × (e.end.typed1.items ≡ workers.typed1.items)) }
+    ensures won { IfOk result (λ e. WonBy workers.primary_contests workers.backup_contests e.end.winner
+        ⊎ WonLater later.items e.end.winner) }
+    ensures last { IfOk result (λ e. (e.end.winner ≡ None) ⊎ (e.generations ≡ 1 + length later.items)) }
     ensures refused { IfErr result IsEnding }
 {
     let origin = origin_of(&workers);
@@ -85,5 +97,8 @@ pub fn run_pair<
         generation: 1,
     };
     let last = go_on(rt, alloc, first, later, gate, limits)?;
-    Ok(last.end)
+    Ok(PairEnd {
+        end: last.end,
+        generations: last.generation,
+    })
 }

@@ -1,5 +1,5 @@
 -- One more generation is named by both lists, and at the end all are that both name.
-use Rattle.std.proofs.Common.{◌≡◌, ◌+◌, ◌<◌, ◌≤◌, suc, min, [], ◌∷◌, ◌++◌, length, take, arith, subst, sym}
+use Rattle.std.proofs.Common.{◌≡◌, ◌+◌, suc, [], ◌∷◌, ◌++◌, length, take, arith, subst, sym}
 use Rattle.command_live.specs.Later.{AreLater}
 use Rattle.command_live.proofs.Later.{all_later, below_both, one_later}
 use Rattle.command_live.proofs.generations.later_of.Goals as goal

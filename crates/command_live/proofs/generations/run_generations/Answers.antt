@@ -1,10 +1,10 @@
 -- The guests of the workers are those of the boards, so the pair begins as the script says, and its end is one of that script.
-use Rattle.std.proofs.Common.{◌≡◌, ◌⊎◌, map, false, subst, sym, ap, ◌∙◌, Vec, Global, ℕ}
+use Rattle.std.proofs.Common.{◌⊎◌, map, false, subst, sym, ap, ◌∙◌, Vec, Global, ℕ}
 use Rattle.guest_parts.specs.Board.{OnBoard}
 use Rattle.pair_generations.specs.Generations.{WonLater}
 use Rattle.pair_threads.specs.Ending.{WonBy}
-use Rattle.command_live.proofs.Later.{begins_as_guest, begins_so, if_both}
-use Rattle.command_live.proofs.Living.{has_ended, if_ok}
+use Rattle.command_live.proofs.Later.{begins_as_guest, begins_so}
+use Rattle.command_live.proofs.Living.{has_ended}
 use Rattle.shared_disk.specs.Records.{IsUnwritten}
 use Rattle.command_live.proofs.generations.run_generations.Goals as goal
 
@@ -34,21 +34,22 @@ returns-clause-ended g c =
     let old = c.in_ok-workers.workers in
     let new = c.drafted.result in
     let same = c.drafted.ensures in
-    if_both c.run_pair.result _ _ _
-    (λ end ended typed. has_ended input.script.setup input.sectors.items input.script.lines.items new.primary.board.guest
+    let end = c.in_ok-last.last.end in
+    let last = c.in_ok-last.ensures in
+    has_ended input.script.setup input.sectors.items input.script.lines.items new.primary.board.guest
     new.backup.board.guest new.disk end.typed0.items end.typed1.items end.winner end.primary.items end.backup.items end.held
     (map (λ v. v.items) end.accepted) end.disk end.primary_board.board.guest end.backup_board.board.guest false
     (begins_so input.script.setup input.sectors.items input.script.lines.items old.primary.guest old.backup.guest
     new.primary.board.guest new.backup.board.guest old.disk new.disk old.typed0.items old.typed1.items end.typed0.items
     end.typed1.items (ap (λ (b : OnBoard). b.guest) same.guests.0) (ap (λ (b : OnBoard). b.guest) same.guests.1) same.disk
-    (typed.0 ∙ ap (λ (v : Vec ℕ Global). v.items) same.typed.0) (typed.1 ∙ ap (λ (v : Vec ℕ Global). v.items) same.typed.1)
-    c.in_ok-workers.ensures.begins) ended.ends) c.run_pair.ensures.ended c.run_pair.ensures.typed
+    (last.typed.0 ∙ ap (λ (v : Vec ℕ Global). v.items) same.typed.0)
+    (last.typed.1 ∙ ap (λ (v : Vec ℕ Global). v.items) same.typed.1) c.in_ok-workers.ensures.begins) last.ended.ends
 
 pub returns-clause-won : goal.returns-clause-won
 returns-clause-won g c =
     let asks = c.drafted.ensures.asks in
-    if_ok c.run_pair.result _ _
-    (λ end won. subst (λ p. WonBy p c.args.asked.backup end.winner ⊎ WonLater c.args.later.items end.winner)
+    let winner = c.in_ok-last.last.end.winner in
+    subst (λ p. WonBy p c.args.asked.backup winner ⊎ WonLater c.args.later.items winner)
     (asks.0 ∙ c.in_ok-workers.ensures.primary_asks)
-    (subst (λ b. WonBy c.drafted.result.primary_contests b end.winner ⊎ WonLater c.args.later.items end.winner)
-    (asks.1 ∙ c.in_ok-workers.ensures.backup_asks) won)) c.run_pair.ensures.won
+    (subst (λ b. WonBy c.drafted.result.primary_contests b winner ⊎ WonLater c.args.later.items winner)
+    (asks.1 ∙ c.in_ok-workers.ensures.backup_asks) c.in_ok-last.ensures.won)

@@ -1,5 +1,5 @@
 -- The guest stays where it is while it is copied, and the copy is in its state.
-use Rattle.std.proofs.Common.{◌≡◌, subst, sym, ◌∙◌}
+use Rattle.std.proofs.Common.{subst, sym, ◌∙◌}
 use Rattle.pair_generations.proofs.Settled.{known_there, made_again}
 use Rattle.pair_rule.specs.declared.view.Knowledge.{Knowledge}
 use Rattle.pair_standing.specs.Following.{MayBeKnown}

@@ -2,7 +2,7 @@
 use Rattle.std.proofs.Common.{◌<◌, length, inr, subst, ◌∙◌, arith}
 use Rattle.pair_generations.specs.Generations.{HasEnded, machine_at}
 use Rattle.pair_generations.specs.declared.origin.Origin.{Origin}
-use Rattle.pair_generations.proofs.Ending.{first_of}
+use Rattle.pair_generations.proofs.Ending.{first_of, one_less}
 use Rattle.pair_generations.proofs.run.go_on.Goals as goal
 
 pub loop-later-preserved : goal.loop-later-preserved
@@ -23,4 +23,6 @@ loop-later-preserved g c =
       new.typed.1 ∙ inv.3,
       inr (c.remove-next.result, inv.5 c.remove-next.result first.0, new.won),
       λ n at. inv.5 n (first.1 n at),
+      one_less later.items c.remove-next.new.self.items c.loop-later.going.generation _ _ c.remove-next.ensures.by_index.2 some
+          new.next inv.6,
     )

@@ -1,5 +1,5 @@
 -- Whatever has run so far has ended as one generation of the machine that booted first.
-use Rattle.std.proofs.Common.{◌≡◌, ◌⊎◌, length}
+use Rattle.std.proofs.Common.{◌≡◌, ◌⊎◌, ◌+◌, length}
 use Rattle.pair_generations.specs.Generations.{HasEnded, WonLater, machine_at}
 use Rattle.pair_protocol.specs.Lawful.{Among}
 use Rattle.pair_generations.proofs.run.go_on.Given as goal
@@ -12,6 +12,7 @@ invariant-loop-later g l =
     × (l.going.end.typed0.items ≡ l.fn.first.end.typed0.items) × (l.going.end.typed1.items ≡ l.fn.first.end.typed1.items)
     × ((l.going.end.winner ≡ l.fn.first.end.winner) ⊎ WonLater l.fn.later.items l.going.end.winner)
     × ((n : _) → Among n l.later.items → Among n l.fn.later.items)
+    × (l.going.generation + length l.later.items ≡ l.fn.first.generation + length l.fn.later.items)
 
 abbrev pub decreases-loop-later : goal.decreases-loop-later
 decreases-loop-later g l = length l.later.items
