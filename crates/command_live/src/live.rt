@@ -159,8 +159,8 @@ fn run_several<
         (handed (O.contents writer.old) report.old) (handed (O.contents writer.new) report.new) }
 {
     match generations(rt, alloc, asked, &order, input, sent, sector, written) {
-        Ok(mut end) => tell(alloc, &mut end, &order.saved, report, writer),
-        Err(fault) => Err(failure_of(fault)),
+        Ok(mut last) => tell(alloc, &mut last, &order.saved, report, writer),
+        Err(why) => Err(failure_of(why)),
     }
 }
 
