@@ -13,5 +13,5 @@ mod transfer;
 
 pub use bus::Bus;
 pub use dispatch::execute;
-pub use in_place::{run_any_in_place, run_in_place, run_look};
+pub use in_place::{is_made, run_any_in_place, run_in_place, run_look};
 pub use stack::call;
