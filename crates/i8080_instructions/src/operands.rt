@@ -1,5 +1,8 @@
 //! Operands of instructions: registers, pairs and the bytes in memory that they name, and the conditions of jumps.
-ghost use Rattle.std.specs.Prelude.{◌≡◌, ◌+◌, ◌*◌, ◌/◌, ◌%◌};
+//!
+//! The caller keeps PC. Where a function takes it beside the registers, its contract says what it does to the registers with that
+//! PC, and the code does not use it.
+ghost use Rattle.std.specs.Prelude.{◌≡◌, ◌+◌, ◌*◌, ◌/◌, ◌%◌, ◌<◌};
 ghost use Rattle.i8080_words.specs.Arithmetic.{wrapped};
 ghost use Rattle.i8080_words.specs.Effects.{after_accesses, word_at, pair_value as value_of_pair, with_pair, operand, put, holds, pushed_value, with_pc, with_pushed};
 
@@ -13,6 +16,14 @@ pub fn offset(address: u16, by: u16) -> u16
     ensures { result ≡ wrapped (address + by) }
 {
     address.wrapping_add(by)
+}
+
+/// An address plus an offset that does not wrap, so that two of them beside each other are one load of a host.
+pub fn plain_offset(address: u16, by: u16) -> u16
+    requires { address + by < 65536 }
+    ensures { result ≡ wrapped (address + by) }
+{
+    address + by
 }
 
 /// The word in a register pair.
@@ -93,7 +104,11 @@ pub fn is_met(condition: Condition, flags: Flags) -> bool
 pub fn read_word<B: Bus>(bus: &B, address: u16) -> u16
     ensures { result ≡ word_at (B.byte_at (B.state bus.now)) address }
 {
-    u16::from_le_bytes([bus.read(address), bus.read(offset(address, 1))])
+    if address < 0xffff {
+        u16::from_le_bytes([bus.read(address), bus.read(plain_offset(address, 1))])
+    } else {
+        u16::from_le_bytes([bus.read(address), bus.read(offset(address, 1))])
+    }
 }
 
 /// The byte in a register, or in memory for `M`.

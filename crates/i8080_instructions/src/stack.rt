@@ -62,8 +62,8 @@ pub fn go_back<B: Bus>(bus: &B, regs: &mut Regs) -> u16
 pub fn jump_if<B: Bus>(bus: &B, condition: Condition, start: u16, regs: &Regs) -> u16
     ensures { result ≡ (if holds condition regs.now.flags
         then word_of
-            (B.byte_at (B.state bus.now) (wrapped (start + 1)))
-            (B.byte_at (B.state bus.now) (wrapped (start + 2)))
+        (B.byte_at (B.state bus.now) (wrapped (start + 1)))
+        (B.byte_at (B.state bus.now) (wrapped (start + 2)))
         else wrapped (start + 3)) }
 {
     if is_met(condition, regs.flags) {
@@ -74,7 +74,13 @@ pub fn jump_if<B: Bus>(bus: &B, condition: Condition, start: u16, regs: &Regs) -
 }
 
 /// Calls if a condition is met (CZ and the like).
-pub fn call_if<B: Bus>(bus: &mut B, condition: Condition, address: u16, next: u16, regs: &mut Regs) -> u16
+pub fn call_if<B: Bus>(
+    bus: &mut B,
+    condition: Condition,
+    address: u16,
+    next: u16,
+    regs: &mut Regs,
+) -> u16
     ensures next { result ≡ (if holds condition regs.old.flags then address else next) }
     ensures regs { regs.new ≡ (if holds condition regs.old.flags then (pushed_word next regs.old).regs else regs.old) }
     ensures bus { B.state bus.new ≡ after_accesses B.after
