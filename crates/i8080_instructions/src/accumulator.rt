@@ -1,5 +1,5 @@
 //! The arithmetic and logical instructions.
-ghost use Rattle.std.specs.Prelude.{◌≡◌, ◌+◌, ◌*◌, ◌/◌, ◌%◌, ◌<◌};
+ghost use Rattle.std.specs.Prelude.{◌≡◌, ◌+◌, ◌*◌, ◌/◌, ◌%◌};
 ghost use Rattle.i8080_words.specs.Arithmetic.{incremented, decremented, bit, has_bit, wrapped, word_of, low_byte as low_byte_of, high_byte as high_byte_of};
 ghost use Rattle.i8080_words.specs.Effects.{after_accesses, operated, counted_up, counted_down, with_pair, pair_value as pair_value_of, turned as turned_of, accumulated, with_carry, with_pc, pair_added, decimal_adjusted};
 
@@ -11,6 +11,7 @@ use i8080_words::{
 };
 
 /// An operation on the accumulator and a byte (ADD to CMP, ADI to CPI).
+#[inline(always)]
 pub fn operate(operation: AluOperation, byte: u8, pc: u16, regs: &mut Regs)
     ensures { with_pc pc regs.new ≡ operated operation byte (with_pc pc regs.old) }
 {
@@ -95,65 +96,24 @@ pub fn decrement<B: Bus>(bus: &mut B, register: Register, pc: u16, regs: &mut Re
     }
 }
 
-// A byte, and the fact that it is one.
-fn known_byte(byte: u8) -> u8
-    ensures byte { result ≡ byte }
-    ensures within { result < 256 }
+fn add_to_halves(high: &mut u8, low: &mut u8, by: u16)
+    ensures high { high.new ≡ high_byte_of (wrapped (word_of low.old high.old + by)) }
+    ensures low { low.new ≡ low_byte_of (wrapped (word_of low.old high.old + by)) }
 {
-    byte
+    let sum = offset(u16::from_le_bytes([*low, *high]), by);
+    [*low, *high] = sum.to_le_bytes();
 }
 
-// One more, by the low byte: the high one changes only after FF, so a host has one byte to change.
-fn raise_halves(high: &mut u8, low: &mut u8)
-    ensures high { high.new ≡ high_byte_of (wrapped (word_of low.old high.old + 1)) }
-    ensures low { low.new ≡ low_byte_of (wrapped (word_of low.old high.old + 1)) }
-{
-    let top = known_byte(*high);
-    if *low == 0xff {
-        *high = top.wrapping_add(1);
-        *low = 0x00;
-    } else {
-        *low += 1;
-    }
-}
-
-// One less, in the same way.
-fn lower_halves(high: &mut u8, low: &mut u8)
-    ensures high { high.new ≡ high_byte_of (wrapped (word_of low.old high.old + 0xffff)) }
-    ensures low { low.new ≡ low_byte_of (wrapped (word_of low.old high.old + 0xffff)) }
-{
-    let top = known_byte(*high);
-    if *low == 0x00 {
-        *high = top.wrapping_sub(1);
-        *low = 0xff;
-    } else {
-        *low -= 1;
-    }
-}
-
-/// INX.
-pub fn increment_pair(pair: RegisterPair, pc: u16, regs: &mut Regs)
+/// INX (by 1) and DCX (by FFFF).
+pub fn add_to_pair(pair: RegisterPair, by: u16, pc: u16, regs: &mut Regs)
     ensures { with_pc pc regs.new
-        ≡ with_pair pair (wrapped (pair_value_of pair (with_pc pc regs.old) + 1)) (with_pc pc regs.old) }
+        ≡ with_pair pair (wrapped (pair_value_of pair (with_pc pc regs.old) + by)) (with_pc pc regs.old) }
 {
     match pair {
-        RegisterPair::BC => raise_halves(&mut regs.b, &mut regs.c),
-        RegisterPair::DE => raise_halves(&mut regs.d, &mut regs.e),
-        RegisterPair::HL => raise_halves(&mut regs.h, &mut regs.l),
-        RegisterPair::SP => regs.sp = AddressRegister::new(offset(regs.sp.get(), 1)),
-    }
-}
-
-/// DCX.
-pub fn decrement_pair(pair: RegisterPair, pc: u16, regs: &mut Regs)
-    ensures { with_pc pc regs.new
-        ≡ with_pair pair (wrapped (pair_value_of pair (with_pc pc regs.old) + 0xffff)) (with_pc pc regs.old) }
-{
-    match pair {
-        RegisterPair::BC => lower_halves(&mut regs.b, &mut regs.c),
-        RegisterPair::DE => lower_halves(&mut regs.d, &mut regs.e),
-        RegisterPair::HL => lower_halves(&mut regs.h, &mut regs.l),
-        RegisterPair::SP => regs.sp = AddressRegister::new(offset(regs.sp.get(), 0xffff)),
+        RegisterPair::BC => add_to_halves(&mut regs.b, &mut regs.c, by),
+        RegisterPair::DE => add_to_halves(&mut regs.d, &mut regs.e, by),
+        RegisterPair::HL => add_to_halves(&mut regs.h, &mut regs.l, by),
+        RegisterPair::SP => regs.sp = AddressRegister::new(offset(regs.sp.get(), by)),
     }
 }
 

@@ -3,7 +3,7 @@ ghost use Rattle.std.specs.Prelude.{◌≡◌, ◌+◌, ◌*◌, ◌%◌};
 ghost use Rattle.i8080_words.specs.Arithmetic.{wrapped, word_of};
 
 use crate::bus::Bus;
-use crate::operands::{offset, plain_offset};
+use crate::operands::offset;
 
 /// The byte after the code at an address; the next code is after that byte.
 pub fn fetch_byte<B: Bus>(bus: &B, start: u16, next: &mut u16) -> u8
@@ -20,14 +20,7 @@ pub fn word_after<B: Bus>(bus: &B, start: u16) -> u16
         (B.byte_at (B.state bus.now) (wrapped (start + 1)))
         (B.byte_at (B.state bus.now) (wrapped (start + 2))) }
 {
-    if start < 0xfffe {
-        u16::from_le_bytes([
-            bus.read(plain_offset(start, 1)),
-            bus.read(plain_offset(start, 2)),
-        ])
-    } else {
-        u16::from_le_bytes([bus.read(offset(start, 1)), bus.read(offset(start, 2))])
-    }
+    u16::from_le_bytes([bus.read(offset(start, 1)), bus.read(offset(start, 2))])
 }
 
 /// The word after the code at an address; the next code is after that word.

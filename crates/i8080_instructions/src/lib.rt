@@ -1,5 +1,5 @@
 //! The instructions of the Intel 8080, over any memory and any devices: what each one does, and which leave the devices,
-//! the interrupts and the halt alone.
+//! the interrupts and the halt alone. `#[inline(always)]` is at what LLVM would leave a call in an arm of 128.
 #![tactic(auto)]
 
 mod accumulator;

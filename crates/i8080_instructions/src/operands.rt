@@ -2,7 +2,7 @@
 //!
 //! The caller keeps PC. Where a function takes it beside the registers, its contract says what it does to the registers with that
 //! PC, and the code does not use it.
-ghost use Rattle.std.specs.Prelude.{◌≡◌, ◌+◌, ◌*◌, ◌/◌, ◌%◌, ◌<◌};
+ghost use Rattle.std.specs.Prelude.{◌≡◌, ◌+◌, ◌*◌, ◌/◌, ◌%◌};
 ghost use Rattle.i8080_words.specs.Arithmetic.{wrapped};
 ghost use Rattle.i8080_words.specs.Effects.{after_accesses, word_at, pair_value as value_of_pair, with_pair, operand, put, holds, pushed_value, with_pc, with_pushed};
 
@@ -16,14 +16,6 @@ pub fn offset(address: u16, by: u16) -> u16
     ensures { result ≡ wrapped (address + by) }
 {
     address.wrapping_add(by)
-}
-
-/// An address plus an offset that does not wrap, so that two of them beside each other are one load of a host.
-pub fn plain_offset(address: u16, by: u16) -> u16
-    requires { address + by < 65536 }
-    ensures { result ≡ wrapped (address + by) }
-{
-    address + by
 }
 
 /// The word in a register pair.
@@ -57,6 +49,7 @@ pub fn set_pair(pair: RegisterPair, word: u16, pc: u16, regs: &mut Regs)
 }
 
 /// The word that PUSH stores.
+#[inline(always)]
 pub fn stack_pair_value(pair: StackPair, pc: u16, regs: &Regs) -> u16
     ensures { result ≡ pushed_value pair (with_pc pc regs.now) }
 {
@@ -69,6 +62,7 @@ pub fn stack_pair_value(pair: StackPair, pc: u16, regs: &Regs) -> u16
 }
 
 /// Puts a word into the pair that POP names.
+#[inline(always)]
 pub fn set_stack_pair(pair: StackPair, word: u16, pc: u16, regs: &mut Regs)
     ensures { with_pc pc regs.new ≡ with_pushed pair word (with_pc pc regs.old) }
 {
@@ -104,11 +98,7 @@ pub fn is_met(condition: Condition, flags: Flags) -> bool
 pub fn read_word<B: Bus>(bus: &B, address: u16) -> u16
     ensures { result ≡ word_at (B.byte_at (B.state bus.now)) address }
 {
-    if address < 0xffff {
-        u16::from_le_bytes([bus.read(address), bus.read(plain_offset(address, 1))])
-    } else {
-        u16::from_le_bytes([bus.read(address), bus.read(offset(address, 1))])
-    }
+    u16::from_le_bytes([bus.read(address), bus.read(offset(address, 1))])
 }
 
 /// The byte in a register, or in memory for `M`.

@@ -9,6 +9,7 @@ use crate::operands::{is_met, offset, read_word, set_stack_pair};
 use i8080_words::{AddressRegister, Condition, Regs, StackPair};
 
 /// Pushes a word: its high byte at SP - 1, its low byte at SP - 2.
+#[inline(always)]
 pub fn push<B: Bus>(bus: &mut B, word: u16, regs: &mut Regs)
     ensures regs { regs.new ≡ (pushed_word word regs.old).regs }
     ensures bus { B.state bus.new ≡ after_accesses B.after (pushed_word word regs.old).accesses (B.state bus.old) }
@@ -31,6 +32,7 @@ fn pop_word<B: Bus>(bus: &B, regs: &mut Regs) -> u16
 }
 
 /// Pops a word into a pair.
+#[inline(always)]
 pub fn pop<B: Bus>(bus: &B, pair: StackPair, pc: u16, regs: &mut Regs)
     ensures { with_pc pc regs.new
         ≡ with_pushed pair (word_at (B.byte_at (B.state bus.now)) regs.old.sp) (popped (with_pc pc regs.old)) }
@@ -40,6 +42,7 @@ pub fn pop<B: Bus>(bus: &B, pair: StackPair, pc: u16, regs: &mut Regs)
 }
 
 /// Pushes the address of the next code, and returns the address to go to (CALL, RST, and an accepted interrupt).
+#[inline(always)]
 pub fn call<B: Bus>(bus: &mut B, address: u16, next: u16, regs: &mut Regs) -> u16
     ensures next { result ≡ address }
     ensures regs { regs.new ≡ (pushed_word next regs.old).regs }
@@ -74,6 +77,7 @@ pub fn jump_if<B: Bus>(bus: &B, condition: Condition, start: u16, regs: &Regs) -
 }
 
 /// Calls if a condition is met (CZ and the like).
+#[inline(always)]
 pub fn call_if<B: Bus>(
     bus: &mut B,
     condition: Condition,
