@@ -1,7 +1,7 @@
 //! The arithmetic and logical instructions.
 ghost use Rattle.std.specs.Prelude.{◌≡◌, ◌+◌, ◌*◌, ◌/◌, ◌%◌};
 ghost use Rattle.i8080_words.specs.Arithmetic.{incremented, decremented, bit, has_bit, wrapped, word_of, low_byte as low_byte_of, high_byte as high_byte_of};
-ghost use Rattle.i8080_words.specs.Effects.{after_accesses, operated, counted_up, counted_down, with_pair, pair_value as pair_value_of, turned as turned_of, accumulated, with_carry, pair_added, decimal_adjusted};
+ghost use Rattle.i8080_words.specs.Effects.{after_accesses, operated, counted_up, counted_down, with_pair, pair_value as pair_value_of, turned as turned_of, accumulated, with_carry, with_pc, pair_added, decimal_adjusted};
 
 use crate::bus::Bus;
 use crate::operands::{offset, pair_value, set_pair};
@@ -11,8 +11,9 @@ use i8080_words::{
 };
 
 /// An operation on the accumulator and a byte (ADD to CMP, ADI to CPI).
-pub fn operate(operation: AluOperation, byte: u8, regs: &mut Regs)
-    ensures { regs.new ≡ operated operation byte regs.old }
+#[inline(always)]
+pub fn operate(operation: AluOperation, byte: u8, pc: u16, regs: &mut Regs)
+    ensures { with_pc pc regs.new ≡ operated operation byte (with_pc pc regs.old) }
 {
     let (value, flags) = match operation {
         AluOperation::Add => add8(regs.a, byte, false),
@@ -38,10 +39,11 @@ fn count_up(byte: &mut u8, flags: &mut Flags)
 }
 
 /// INR. Each register has its own line, so that an instruction is dispatched on its register only once.
-pub fn increment<B: Bus>(bus: &mut B, register: Register, regs: &mut Regs)
-    ensures regs { regs.new ≡ (counted_up register (B.byte_at (B.state bus.old)) regs.old).regs }
-    ensures bus { B.state bus.new
-        ≡ after_accesses B.after (counted_up register (B.byte_at (B.state bus.old)) regs.old).accesses (B.state bus.old) }
+pub fn increment<B: Bus>(bus: &mut B, register: Register, pc: u16, regs: &mut Regs)
+    ensures regs { with_pc pc regs.new ≡ (counted_up register (B.byte_at (B.state bus.old)) (with_pc pc regs.old)).regs }
+    ensures bus { B.state bus.new ≡ after_accesses B.after
+        (counted_up register (B.byte_at (B.state bus.old)) (with_pc pc regs.old)).accesses
+        (B.state bus.old) }
 {
     let flags = &mut regs.flags;
     match register {
@@ -53,7 +55,7 @@ pub fn increment<B: Bus>(bus: &mut B, register: Register, regs: &mut Regs)
         Register::L => count_up(&mut regs.l, flags),
         Register::A => count_up(&mut regs.a, flags),
         Register::M => {
-            let address = pair_value(RegisterPair::HL, regs);
+            let address = pair_value(RegisterPair::HL, pc, regs);
             let mut byte = bus.read(address);
             count_up(&mut byte, &mut regs.flags);
             bus.write(address, byte);
@@ -70,10 +72,11 @@ fn count_down(byte: &mut u8, flags: &mut Flags)
 }
 
 /// DCR.
-pub fn decrement<B: Bus>(bus: &mut B, register: Register, regs: &mut Regs)
-    ensures regs { regs.new ≡ (counted_down register (B.byte_at (B.state bus.old)) regs.old).regs }
-    ensures bus { B.state bus.new
-        ≡ after_accesses B.after (counted_down register (B.byte_at (B.state bus.old)) regs.old).accesses (B.state bus.old) }
+pub fn decrement<B: Bus>(bus: &mut B, register: Register, pc: u16, regs: &mut Regs)
+    ensures regs { with_pc pc regs.new ≡ (counted_down register (B.byte_at (B.state bus.old)) (with_pc pc regs.old)).regs }
+    ensures bus { B.state bus.new ≡ after_accesses B.after
+        (counted_down register (B.byte_at (B.state bus.old)) (with_pc pc regs.old)).accesses
+        (B.state bus.old) }
 {
     let flags = &mut regs.flags;
     match register {
@@ -85,7 +88,7 @@ pub fn decrement<B: Bus>(bus: &mut B, register: Register, regs: &mut Regs)
         Register::L => count_down(&mut regs.l, flags),
         Register::A => count_down(&mut regs.a, flags),
         Register::M => {
-            let address = pair_value(RegisterPair::HL, regs);
+            let address = pair_value(RegisterPair::HL, pc, regs);
             let mut byte = bus.read(address);
             count_down(&mut byte, &mut regs.flags);
             bus.write(address, byte);
@@ -102,8 +105,9 @@ fn add_to_halves(high: &mut u8, low: &mut u8, by: u16)
 }
 
 /// INX (by 1) and DCX (by FFFF).
-pub fn add_to_pair(pair: RegisterPair, by: u16, regs: &mut Regs)
-    ensures { regs.new ≡ with_pair pair (wrapped (pair_value_of pair regs.old + by)) regs.old }
+pub fn add_to_pair(pair: RegisterPair, by: u16, pc: u16, regs: &mut Regs)
+    ensures { with_pc pc regs.new
+        ≡ with_pair pair (wrapped (pair_value_of pair (with_pc pc regs.old) + by)) (with_pc pc regs.old) }
 {
     match pair {
         RegisterPair::BC => add_to_halves(&mut regs.b, &mut regs.c, by),
@@ -114,12 +118,15 @@ pub fn add_to_pair(pair: RegisterPair, by: u16, regs: &mut Regs)
 }
 
 /// DAD.
-pub fn add_pair(pair: RegisterPair, regs: &mut Regs)
-    ensures { regs.new ≡ pair_added pair regs.old }
+pub fn add_pair(pair: RegisterPair, pc: u16, regs: &mut Regs)
+    ensures { with_pc pc regs.new ≡ pair_added pair (with_pc pc regs.old) }
 {
-    let (sum, carry) = dad(pair_value(RegisterPair::HL, regs), pair_value(pair, regs));
+    let (sum, carry) = dad(
+        pair_value(RegisterPair::HL, pc, regs),
+        pair_value(pair, pc, regs),
+    );
     regs.flags.cy = carry;
-    set_pair(RegisterPair::HL, sum, regs);
+    set_pair(RegisterPair::HL, sum, pc, regs);
 }
 
 fn set_turned(turned: (u8, bool), regs: &mut Regs)
@@ -140,8 +147,8 @@ fn adjust(regs: &mut Regs)
 }
 
 /// The rotations, DAA, CMA, STC and CMC.
-pub fn accumulate(operation: AccumulatorOperation, regs: &mut Regs)
-    ensures { regs.new ≡ accumulated operation regs.old }
+pub fn accumulate(operation: AccumulatorOperation, pc: u16, regs: &mut Regs)
+    ensures { with_pc pc regs.new ≡ accumulated operation (with_pc pc regs.old) }
 {
     let a = regs.a;
     let carry = regs.flags.cy;

@@ -1,7 +1,10 @@
 //! Operands of instructions: registers, pairs and the bytes in memory that they name, and the conditions of jumps.
+//!
+//! The caller keeps PC. Where a function takes it beside the registers, its contract says what it does to the registers with that
+//! PC, and the code does not use it.
 ghost use Rattle.std.specs.Prelude.{◌≡◌, ◌+◌, ◌*◌, ◌/◌, ◌%◌};
 ghost use Rattle.i8080_words.specs.Arithmetic.{wrapped};
-ghost use Rattle.i8080_words.specs.Effects.{after_accesses, word_at, pair_value as value_of_pair, with_pair, operand, put, holds, pushed_value, with_pushed};
+ghost use Rattle.i8080_words.specs.Effects.{after_accesses, word_at, pair_value as value_of_pair, with_pair, operand, put, holds, pushed_value, with_pc, with_pushed};
 
 use crate::bus::Bus;
 use i8080_words::{
@@ -16,8 +19,8 @@ pub fn offset(address: u16, by: u16) -> u16
 }
 
 /// The word in a register pair.
-pub fn pair_value(pair: RegisterPair, regs: &Regs) -> u16
-    ensures { result ≡ value_of_pair pair regs.now }
+pub fn pair_value(pair: RegisterPair, pc: u16, regs: &Regs) -> u16
+    ensures { result ≡ value_of_pair pair (with_pc pc regs.now) }
 {
     match pair {
         RegisterPair::BC => u16::from_le_bytes([regs.c, regs.b]),
@@ -28,8 +31,8 @@ pub fn pair_value(pair: RegisterPair, regs: &Regs) -> u16
 }
 
 /// Puts a word into a register pair.
-pub fn set_pair(pair: RegisterPair, word: u16, regs: &mut Regs)
-    ensures { regs.new ≡ with_pair pair word regs.old }
+pub fn set_pair(pair: RegisterPair, word: u16, pc: u16, regs: &mut Regs)
+    ensures { with_pc pc regs.new ≡ with_pair pair word (with_pc pc regs.old) }
 {
     match pair {
         RegisterPair::BC => {
@@ -46,8 +49,9 @@ pub fn set_pair(pair: RegisterPair, word: u16, regs: &mut Regs)
 }
 
 /// The word that PUSH stores.
-pub fn stack_pair_value(pair: StackPair, regs: &Regs) -> u16
-    ensures { result ≡ pushed_value pair regs.now }
+#[inline(always)]
+pub fn stack_pair_value(pair: StackPair, pc: u16, regs: &Regs) -> u16
+    ensures { result ≡ pushed_value pair (with_pc pc regs.now) }
 {
     match pair {
         StackPair::BC => u16::from_le_bytes([regs.c, regs.b]),
@@ -58,13 +62,14 @@ pub fn stack_pair_value(pair: StackPair, regs: &Regs) -> u16
 }
 
 /// Puts a word into the pair that POP names.
-pub fn set_stack_pair(pair: StackPair, word: u16, regs: &mut Regs)
-    ensures { regs.new ≡ with_pushed pair word regs.old }
+#[inline(always)]
+pub fn set_stack_pair(pair: StackPair, word: u16, pc: u16, regs: &mut Regs)
+    ensures { with_pc pc regs.new ≡ with_pushed pair word (with_pc pc regs.old) }
 {
     match pair {
-        StackPair::BC => set_pair(RegisterPair::BC, word, regs),
-        StackPair::DE => set_pair(RegisterPair::DE, word, regs),
-        StackPair::HL => set_pair(RegisterPair::HL, word, regs),
+        StackPair::BC => set_pair(RegisterPair::BC, word, pc, regs),
+        StackPair::DE => set_pair(RegisterPair::DE, word, pc, regs),
+        StackPair::HL => set_pair(RegisterPair::HL, word, pc, regs),
         StackPair::PSW => {
             let [low, high] = word.to_le_bytes();
             regs.a = high;
@@ -97,8 +102,8 @@ pub fn read_word<B: Bus>(bus: &B, address: u16) -> u16
 }
 
 /// The byte in a register, or in memory for `M`.
-pub fn read_operand<B: Bus>(bus: &B, register: Register, regs: &Regs) -> u8
-    ensures { result ≡ operand (B.byte_at (B.state bus.now)) register regs.now }
+pub fn read_operand<B: Bus>(bus: &B, register: Register, pc: u16, regs: &Regs) -> u8
+    ensures { result ≡ operand (B.byte_at (B.state bus.now)) register (with_pc pc regs.now) }
 {
     match register {
         Register::B => regs.b,
@@ -107,15 +112,16 @@ pub fn read_operand<B: Bus>(bus: &B, register: Register, regs: &Regs) -> u8
         Register::E => regs.e,
         Register::H => regs.h,
         Register::L => regs.l,
-        Register::M => bus.read(pair_value(RegisterPair::HL, regs)),
+        Register::M => bus.read(pair_value(RegisterPair::HL, pc, regs)),
         Register::A => regs.a,
     }
 }
 
 /// Puts a byte into a register, or into memory for `M`.
-pub fn write_operand<B: Bus>(bus: &mut B, register: Register, byte: u8, regs: &mut Regs)
-    ensures regs { regs.new ≡ (put register byte regs.old).regs }
-    ensures bus { B.state bus.new ≡ after_accesses B.after (put register byte regs.old).accesses (B.state bus.old) }
+pub fn write_operand<B: Bus>(bus: &mut B, register: Register, byte: u8, pc: u16, regs: &mut Regs)
+    ensures regs { with_pc pc regs.new ≡ (put register byte (with_pc pc regs.old)).regs }
+    ensures bus { B.state bus.new
+        ≡ after_accesses B.after (put register byte (with_pc pc regs.old)).accesses (B.state bus.old) }
 {
     match register {
         Register::B => regs.b = byte,
@@ -124,7 +130,7 @@ pub fn write_operand<B: Bus>(bus: &mut B, register: Register, byte: u8, regs: &m
         Register::E => regs.e = byte,
         Register::H => regs.h = byte,
         Register::L => regs.l = byte,
-        Register::M => bus.write(pair_value(RegisterPair::HL, regs), byte),
+        Register::M => bus.write(pair_value(RegisterPair::HL, pc, regs), byte),
         Register::A => regs.a = byte,
     }
 }

@@ -29,6 +29,7 @@ pub fn load_pair<B: Bus>(bus: &B, address: u16, regs: &mut Regs)
 }
 
 /// XTHL: exchanges L with the byte at SP, and H with the next.
+#[inline(always)]
 pub fn exchange_top<B: Bus>(bus: &mut B, regs: &mut Regs)
     ensures regs { regs.new ≡ record regs.old {
       l = B.byte_at (B.state bus.old) regs.old.sp;
