@@ -5,15 +5,13 @@ use Rattle.std.proofs.Common.{◌≡◌, ◌⊎◌, inl, inr, ℕ, zero, suc, �
 use Rattle.std.specs.Prelude.{Result, Ok, Err, IsOk, OnOk}
 use Rattle.std.proofs.Math.Seq.{take-length}
 use Rattle.std.proofs.lemmas.Bool.{false≢true}
-use Rattle.event_callbacks.specs.declared.operations.OpId.{OpId}
-use Rattle.guest_lockstep.specs.Machine.{Machine, Move, Do, Take, booted_from}
+use Rattle.guest_lockstep.specs.Machine.{Machine, booted_from}
 use Rattle.guest_lockstep.specs.Outstanding.{ComesAndGoes}
 use Rattle.guest_lockstep.specs.Recorded.{Counts}
 use Rattle.guest_lockstep.proofs.Booted.{ComesAndGoes-booted, Counts-booted, Recorded-booted}
 use Rattle.log_entry.specs.declared.entry.Entry.{Entry}
 use Rattle.pair_protocol.specs.Lawful.{Lawful}
 use Rattle.pair_protocol.specs.World.{accepted_after}
-use Rattle.pair_rule.specs.declared.payload.DiskAnswer.{DiskAnswer}
 use Rattle.pair_rule.specs.declared.view.PrimaryView.{PrimaryView}
 use Rattle.pair_rule.specs.declared.view.BackupView.{BackupView}
 use Rattle.pair_rule.specs.declared.view.TerminalView.{TerminalView}
@@ -27,7 +25,7 @@ use Rattle.pair_threads.specs.declared.gate.Who.{Who}
 use Rattle.pair_threads.specs.declared.gate.Who.TheVariants as who
 use Rattle.pair_threads.specs.declared.primary.PrimaryWorker.{PrimaryWorker}
 use Rattle.pair_threads.specs.Ending.{EndsAlone, EndsBy, EndsWell, IsWhereItLeads, winner_named}
-use Rattle.pair_threads.specs.Leading.{AreAnswers, Leads, with_waiting}
+use Rattle.pair_threads.specs.Leading.{Leads, with_waiting}
 use Rattle.pair_threads.specs.Left.{Leaves, LeavesBy}
 use Rattle.pair_threads.specs.Primary.{IsAtRest, WorkerLeads}
 use Rattle.pair_threads.specs.Repeating.{IsAt, Repeats}

@@ -1,8 +1,7 @@
 -- A primary's worker keeps what its seat's calls promise. The entry that waits for the list is that of the last move that
 -- has one, and the disk answered what that move says; and while all entries are seen, each note is covered.
-use Rattle.std.proofs.Common.{◌≡◌, ℕ, zero, suc, ◌+◌, ◌<◌, ◌≤◌, Bool, true, false, ◌&&◌, cond, List, [], ◌∷◌, ◌++◌, length, take, drop, Option, Some, None, refl, sym, ap, subst, ◌∙◌, arith, length-append, append-nil, nat_lt, nat_le, if◌then◌else◌}
+use Rattle.std.proofs.Common.{◌≡◌, ℕ, zero, suc, ◌+◌, ◌<◌, ◌≤◌, Bool, true, false, ◌&&◌, List, [], ◌∷◌, ◌++◌, length, take, drop, Some, None, refl, sym, ap, subst, ◌∙◌, arith, length-append, append-nil, nat_lt, nat_le, if◌then◌else◌}
 use Rattle.std.proofs.lemmas.List.{take-append-drop}
-use Rattle.disk_dcdd.specs.declared.address.SectorAddress.{SectorAddress}
 use Rattle.event_callbacks.specs.Operations.{id_of}
 use Rattle.event_callbacks.specs.declared.operations.OpId.{OpId}
 use Rattle.event_callbacks.specs.declared.operations.Operation.{Operation}
@@ -13,7 +12,7 @@ use Rattle.guest_lockstep.specs.declared.input.Input.{Input}
 use Rattle.guest_lockstep.specs.declared.input.Input.TheVariants as input
 use Rattle.guest_lockstep.specs.declared.reads.Reads.TheVariants.{Logged}
 use Rattle.guest_lockstep.specs.Reach.{acceptances, keys}
-use Rattle.log_entry.specs.Entries.{count_of, entries, entry_of, inputs_of, is_read, marks}
+use Rattle.log_entry.specs.Entries.{count_of, entries, entry_of, inputs_of, is_read}
 use Rattle.log_entry.specs.declared.entry.Entry.{Entry}
 use Rattle.log_entry.specs.declared.entry.Entry.TheVariants.{Mark}
 use Rattle.pair_protocol.specs.Faithful.{IsPrefix}
@@ -26,9 +25,8 @@ use Rattle.pair_rule.specs.declared.view.PrimaryCall.TheVariants.{Appended, Rele
 use Rattle.pair_rule.specs.declared.view.PrimaryView.{PrimaryView}
 use Rattle.pair_rule.specs.Kinds.{counted_at}
 use Rattle.pair_rule.specs.Knowledge.{AllAre}
-use Rattle.pair_rule.specs.Law.{HasLonger, IsTold, typed_at}
+use Rattle.pair_rule.specs.Law.{IsTold, typed_at}
 use Rattle.pair_rule.specs.Shown.{notes_from}
-use Rattle.pair_rule.specs.Steps.{MayRelease}
 use Rattle.pair_rule.specs.Threads.{CallKept, knew}
 use Rattle.pair_rule.proofs.Filled.{all_more}
 use Rattle.pair_rule.proofs.LongerRuns.{same_head, same_tail}

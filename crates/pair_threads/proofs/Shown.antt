@@ -1,6 +1,6 @@
 -- What the workers end with is what steps of the threads led to: the table has its steps, and each worker kept what its calls
 -- promise.
-use Rattle.std.proofs.Common.{◌≡◌, ◌≤◌, ℕ, Bool, List, [], ◌∷◌, length, map, take, Option, None, refl, sym, ap, subst, ◌∙◌, arith}
+use Rattle.std.proofs.Common.{◌≡◌, ◌≤◌, ℕ, Bool, List, [], ◌∷◌, length, map, Option, None, refl, sym, ap, subst, ◌∙◌, arith}
 use Rattle.guest_lockstep.specs.Machine.{Machine, booted_from}
 use Rattle.guest_lockstep.specs.declared.reads.Reads.TheVariants.{Logged}
 use Rattle.guest_lockstep.proofs.Booted.{Recorded-booted}
@@ -32,7 +32,7 @@ use Rattle.pair_threads.specs.Ending.{NoneUnderWay, winner_named}
 use Rattle.pair_threads.specs.Leading.{with_waiting}
 use Rattle.pair_threads.specs.Primary.{WorkerKeeps, WorkerLeads}
 use Rattle.pair_threads.specs.Repeating.{IsAt}
-use Rattle.pair_threads.specs.Shown.{HasMade, IsOfRun}
+use Rattle.pair_threads.specs.Shown.{IsOfRun}
 use Rattle.pair_threads.specs.Stores.{IsFirst, IsStore, bytes_in}
 use Rattle.shared_disk.specs.declared.store.Record.{Record}
 
