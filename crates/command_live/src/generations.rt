@@ -136,7 +136,10 @@ fn run_generations<
     ensures won { IfOk result (λ end. WonBy asked.primary asked.backup end.winner ⊎ WonLater later.items end.winner) }
 {
     altairs_may_go_on();
-    sizes(&input.script.setup.guest.levels, input.script.setup.guest.sense);
+    sizes(
+        &input.script.setup.guest.levels,
+        input.script.setup.guest.sense,
+    );
     let limits = Limits {
         turns: asked.turns,
         steps: STEPS,
@@ -174,6 +177,14 @@ pub(crate) fn generations<
     ensures won { IfOk result (λ end. WonIn order.now end.winner) }
 {
     let link = order.link.clone()?;
-    let later = later_of(alloc, &order.next, &order.next_at, &order.link, sent, sector, written)?;
+    let later = later_of(
+        alloc,
+        &order.next,
+        &order.next_at,
+        &order.link,
+        sent,
+        sector,
+        written,
+    )?;
     run_generations(rt, alloc, asked, link, later, input, sent, sector, written)
 }

@@ -91,9 +91,13 @@ pub fn run<
         backup: order.backup_asks,
     };
     if order.next.is_empty() {
-        return run_one(rt, alloc, asked, order, input, report, writer, sent, sector, written);
+        return run_one(
+            rt, alloc, asked, order, input, report, writer, sent, sector, written,
+        );
     }
-    run_several(rt, alloc, asked, order, input, report, writer, sent, sector, written)
+    run_several(
+        rt, alloc, asked, order, input, report, writer, sent, sector, written,
+    )
 }
 
 // The same of one generation.

@@ -26,19 +26,23 @@ module _ {S : Type 0} (M : Machine S) (lawful : Lawful M) where
       (screens : List (List ℕ)) (records : List Record) (s t : S)
       → EndsBy M true typed0 typed1 goes primary backup held screens records s t
       → EndsBy M false typed0 typed1 goes primary backup held screens records s t
-  looser typed0 typed1 None primary backup held screens records s t ends = (ends.0, ends.1, record {
-    trace = ends.2.trace;
-    is = ends.2.is;
-    idle = ends.2.idle;
-    none = ends.2.none;
-    no_sector = ends.2.no_sector;
-    keys0 = ends.2.keys0;
-    keys1 = ends.2.keys1;
-    outputs = ends.2.outputs;
-    disk = ends.2.disk;
-    front = ends.2.front;
-    copied = at_its_own primary ends.2.front t ends.2.copied;
-  })
+  looser typed0 typed1 None primary backup held screens records s t ends = (
+    ends.0,
+    ends.1,
+    record {
+      trace = ends.2.trace;
+      is = ends.2.is;
+      idle = ends.2.idle;
+      none = ends.2.none;
+      no_sector = ends.2.no_sector;
+      keys0 = ends.2.keys0;
+      keys1 = ends.2.keys1;
+      outputs = ends.2.outputs;
+      disk = ends.2.disk;
+      front = ends.2.front;
+      copied = at_its_own primary ends.2.front t ends.2.copied;
+    },
+  )
   looser typed0 typed1 (Some who.Primary) primary backup held screens records s t ends = ends
   looser typed0 typed1 (Some who.Backup) primary backup held screens records s t ends =
       (ends.0, (ends.1.0, at_its_own backup ends.1.0 t ends.1.1))

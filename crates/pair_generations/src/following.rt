@@ -163,11 +163,11 @@ fn start_at<B: Lockstep + Drop, D: SectorStore>(
     generation: u32,
 ) -> Start
     ensures { result ≡ record {
-        generation = generation;
-        entries = vec_len standing.now.list;
-        accepted0 = vec_len standing.now.accepted.0;
-        accepted1 = vec_len standing.now.accepted.1;
-        known = known;
+      generation = generation;
+      entries = vec_len standing.now.list;
+      accepted0 = vec_len standing.now.accepted.0;
+      accepted1 = vec_len standing.now.accepted.1;
+      known = known;
     } }
 {
     Start {
@@ -189,15 +189,15 @@ fn workers_at<B: Lockstep + Drop, D: SectorStore>(
     orders: Orders,
 ) -> Workers<B, D>
     ensures { result ≡ record {
-        primary = primary;
-        backup = backup;
-        disk = disk;
-        typed0 = typed0;
-        typed1 = typed1;
-        fates = orders.fates;
-        primary_contests = orders.primary_contests;
-        backup_contests = orders.backup_contests;
-        steps = orders.steps;
+      primary = primary;
+      backup = backup;
+      disk = disk;
+      typed0 = typed0;
+      typed1 = typed1;
+      fates = orders.fates;
+      primary_contests = orders.primary_contests;
+      backup_contests = orders.backup_contests;
+      steps = orders.steps;
     } }
 {
     let Orders {
