@@ -51,7 +51,7 @@ def endings(output, said, scripts):
 def run(command, script, around=None):
     """Runs a command on a script, in an environment if one is given."""
     try:
-        ran = subprocess.run([CRATE / "out/pair_main", command], input=script, capture_output=True, timeout=60, env=around)
+        ran = subprocess.run([CRATE / "out/pair_main", *command.split()], input=script, capture_output=True, timeout=60, env=around)
     except subprocess.TimeoutExpired:
         return Ending("no answer", b"", b"")
     return Ending(ran.returncode, ran.stdout, ran.stderr)
