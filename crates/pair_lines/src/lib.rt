@@ -1,0 +1,11 @@
+//! The lines of a pair that runs: keys to its guest, accepted bytes to its terminals, and word that a host has failed.
+#![tactic(auto)]
+
+mod detector;
+mod keyboard;
+mod ring;
+mod screen;
+
+pub use detector::{Detector, Suspicion};
+pub use keyboard::{Keyboard, Stroke};
+pub use screen::{Screen, Shown};
