@@ -44,6 +44,11 @@ module _ {T A P : Type 0} where
   HasRoom None = Unit {0}
   HasRoom (Some ring) = 0 < known_free ring
 
+  -- none is
+  abbrev pub IsFull : Option (Producer T A P) → Type 0
+  IsFull None = ⊥
+  IsFull (Some ring) = known_free ring ≡ 0
+
   -- what has gone into it then
   abbrev pub after_push : Option (Producer T A P) → T → List T
   after_push None item = []

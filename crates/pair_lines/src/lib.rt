@@ -3,9 +3,11 @@
 
 mod detector;
 mod keyboard;
+mod lines;
 mod ring;
 mod screen;
 
 pub use detector::{Detector, Suspicion};
 pub use keyboard::{Keyboard, Stroke};
+pub use lines::Lines;
 pub use screen::{Screen, Shown};

@@ -1,6 +1,6 @@
 // Rings that may be there or not.
-ghost use Rattle.std.specs.Prelude.{◌≡◌, ◌++◌, ◌∷◌, [], ◌↔◌, IsTrue, true};
-ghost use Rattle.pair_lines.specs.Lines.{HasRoom, IsSameEnd, IsSameStart, came_by, found, after_push, gone_by};
+ghost use Rattle.std.specs.Prelude.{◌≡◌, ◌++◌, ◌∷◌, [], ◌↔◌, IsTrue, false, true};
+ghost use Rattle.pair_lines.specs.Lines.{HasRoom, IsFull, IsSameEnd, IsSameStart, came_by, found, after_push, gone_by};
 
 use rtrb::{Consumer, Producer};
 
@@ -20,6 +20,7 @@ pub(crate) fn has_room<T>(ring: &mut Option<Producer<T>>) -> bool
     ensures same { IsSameStart ring.old ring.new }
     ensures none { gone_by ring.new ≡ gone_by ring.old }
     ensures room { result ≡ true → HasRoom ring.new }
+    ensures full { result ≡ false → IsFull ring.new }
 {
     match ring {
         Some(ring) => !ring.is_full(),

@@ -1,6 +1,6 @@
 //! The bytes that the terminals have accepted, as they go out.
-ghost use Rattle.std.specs.Prelude.{◌≡◌, ◌++◌, ◌==◌, ◌∷◌, [], if◌then◌else◌, List, None, Some, true, ℕ};
-ghost use Rattle.pair_lines.specs.Lines.{HasRoom, HasShown, IsSameStart, with_byte};
+ghost use Rattle.std.specs.Prelude.{◌≡◌, ◌++◌, ◌==◌, ◌∷◌, [], if◌then◌else◌, List, None, Some, false, true, ℕ};
+ghost use Rattle.pair_lines.specs.Lines.{HasRoom, HasShown, IsFull, IsSameStart, with_byte};
 
 use crate::ring::{has_room, push};
 use rtrb::Producer;
@@ -39,6 +39,7 @@ impl Screen {
         ensures same { IsSameStart self.old.ring self.new.ring }
         ensures shown { (port : ℕ) (bytes : List ℕ) → HasShown self.old port bytes → HasShown self.new port bytes }
         ensures room { result ≡ true → HasRoom self.new.ring }
+        ensures full { result ≡ false → IsFull self.new.ring }
     {
         has_room(&mut self.ring)
     }

@@ -2,7 +2,7 @@
 -- asked to go on alone, the primary has seen all its entries acknowledged, so the backup has them all; whoever the table
 -- names as the winner has won.
 use Rattle.std.proofs.Common.{◌≡◌, ◌⊎◌, inl, inr, ℕ, zero, suc, ◌+◌, ◌<◌, ◌≤◌, Bool, true, false, cond, List, [], ◌∷◌, ◌++◌, length, map, take, Option, Some, None, refl, sym, ap, subst, ◌∙◌, arith, length-append, append-nil, vec_len, Vec, Global}
-use Rattle.std.specs.Prelude.{Result, Ok, Err, IsOk, OnOk}
+use Rattle.std.specs.Prelude.{Result, Ok, Err, IsOk, IfOk, OnOk}
 use Rattle.std.proofs.Math.Seq.{take-length}
 use Rattle.std.proofs.lemmas.Bool.{false≢true}
 use Rattle.guest_lockstep.specs.Machine.{Machine, booted_from}
@@ -330,3 +330,7 @@ came (Err e) ok holds = absurd (false≢true ok)
 pub on_ok : {T E : Type 0} (r : Result T E) {P Q : Type 0} → (P → Q) → OnOk r P → OnOk r Q
 on_ok (Ok x) so holds = so holds
 on_ok (Err e) so holds = tt
+
+pub if_ok : {T E : Type 0} (r : Result T E) {P Q : T → Type 0} → ((x : T) → P x → Q x) → IfOk r P → IfOk r Q
+if_ok (Ok x) so holds = so x holds
+if_ok (Err e) so holds = tt

@@ -1,6 +1,8 @@
+pub mod Typing
 pub mod Serving
 pub mod Carrying
 pub mod Screens
+pub mod Showing
 pub mod Repeating
 pub mod Leading
 pub mod Telling

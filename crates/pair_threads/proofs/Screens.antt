@@ -1,8 +1,10 @@
 -- The terminals' worker: a byte that is counted arrives, and is accepted if it is the next one.
-use Rattle.std.proofs.Common.{◌≡◌, ℕ, Bool, true, false, List, ◌++◌, length, map, Option, Some, sym, ap, ◌∙◌}
-use Rattle.std.specs.Prelude.{not}
+use Rattle.std.proofs.Common.{◌≡◌, ℕ, ◌==◌, Bool, true, false, List, [], ◌∷◌, ◌++◌, if◌then◌else◌, length, map, Option, Some, refl, sym, ap, subst, ◌∙◌, arith}
+use Rattle.std.specs.Prelude.{◌≢◌, not}
 use Rattle.event_callbacks.specs.declared.operations.Operation.{Operation}
 use Rattle.event_callbacks.specs.declared.operations.Operation.TheVariants.{Byte}
+use Rattle.pair_lines.specs.Lines.{HasShown, with_byte}
+use Rattle.pair_lines.specs.declared.screen.Screen.{Screen}
 use Rattle.pair_protocol.specs.World.{accepted_after}
 use Rattle.pair_protocol.proofs.Promises.OneMore.{accepted-one}
 use Rattle.pair_rule.specs.declared.payload.PortByte.{PortByte}
@@ -47,3 +49,23 @@ pub other_screen : (second : Bool) (old new : Core) (items : List ℕ)
     → items ≡ bytes_accepted (port_of (not second)) new.known
 other_screen false old new items is counts = is ∙ ap (λ (c : Core). bytes_accepted 1 c.known) (sym counts)
 other_screen true old new items is counts = is ∙ ap (λ (c : Core). bytes_accepted 0 c.known) (sym counts)
+
+-- ---- what is shown
+
+same_port : (n m : ℕ) → n ≡ m → (n == m) ≡ true
+same_port n m e = grind (arith, e)
+
+other_port : (n m : ℕ) → m ≢ n → (n == m) ≡ false
+other_port n m e = grind (arith, e)
+
+-- a byte that is shown is one more of its port
+pub shown_on : (s : Screen) (port byte : ℕ) (bytes : List ℕ) → HasShown s port (with_byte port port byte bytes) →
+    HasShown s port (bytes ++ byte ∷ [])
+shown_on s port byte bytes shown =
+    subst (λ (b : Bool). HasShown s port (if b then bytes ++ byte ∷ [] else bytes)) (same_port port port refl) shown
+
+-- and leaves what was shown of the other port
+pub shown_beside : (s : Screen) (at port byte : ℕ) (bytes : List ℕ) → at ≢ port → HasShown s at (with_byte at port byte bytes) →
+    HasShown s at bytes
+shown_beside s at port byte bytes other shown =
+    subst (λ (b : Bool). HasShown s at (if b then bytes ++ byte ∷ [] else bytes)) (other_port port at other) shown

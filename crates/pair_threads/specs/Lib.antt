@@ -1,10 +1,12 @@
 pub mod Turns
+pub mod Typing
 pub mod Choosing
 pub mod Patience
 pub mod BackupTurns
 pub mod Served
 pub mod Fates
 pub mod Screens
+pub mod Showing
 pub mod Stores
 pub mod Repeating
 pub mod Leading

@@ -27,6 +27,6 @@ pub use gate::{Gate, OpenGate, Who};
 pub use link::{Fate, fate_of};
 pub use rest::Rest;
 pub use resumed::run_generation_at;
-pub use run::run_generation;
+pub use run::{run_generation, run_generation_over};
 pub use signals::{Signals, Told};
 pub use workers::{GenerationEnd, Resumed, Workers};

@@ -1,5 +1,5 @@
 //! One generation on threads that goes on where a run was settled.
-ghost use Rattle.std.specs.Prelude.{◌≡◌, ◌≤◌, Bool, List, ℕ, [], map, take, vec_len, IfErr, IfOk};
+ghost use Rattle.std.specs.Prelude.{◌≡◌, ◌≤◌, ◌∷◌, Bool, List, ℕ, [], map, take, vec_len, IfErr, IfOk};
 ghost use Rattle.disk_dcdd.specs.declared.address.SectorAddress.{SectorAddress};
 ghost use Rattle.guest_lockstep.specs.Machine.{booted_from};
 ghost use Rattle.pair_protocol.specs.Lawful.{Lawful};
@@ -12,6 +12,7 @@ ghost use Rattle.pair_threads.specs.Left.{LeavesBy};
 ghost use Rattle.pair_threads.specs.Resuming.{BeginsAt};
 ghost use Rattle.pair_threads.specs.Shown.{IsOfRun};
 ghost use Rattle.pair_threads.specs.Stores.{IsStore, bytes_in};
+ghost use Rattle.pair_threads.specs.Typing.{IsOver};
 ghost use Rattle.shared_disk.specs.declared.store.Record.{Record};
 
 use crate::backup::BackupWorker;
@@ -27,6 +28,7 @@ use crate::terminal::TerminalWorker;
 use crate::workers::{GenerationEnd, Resumed, Workers};
 use guest_lockstep::Lockstep;
 use i8080_words::R;
+use pair_lines::Lines;
 use pair_rule::Fabric;
 use shared_disk::SectorStore;
 use std::alloc::Global;
@@ -35,6 +37,7 @@ use std::time::Clock;
 
 /// Runs a further generation, where a run of the machine that booted first was settled: with the whole lists, and with all
 /// that the terminals have accepted. It ends as `run_generation` does, and its end is that machine's, with the whole lists.
+#[tactic(auto, using(crate::proofs::Typing::typed_same, crate::proofs::Showing::shows_same))]
 pub fn run_generation_at<
     B: Lockstep + Send + Drop,
     D: SectorStore + Send,
@@ -64,11 +67,11 @@ pub fn run_generation_at<
         (by_port (take resumed.taken.0 resumed.workers.typed0.items) (take resumed.taken.1 resumed.workers.typed1.items) [])
         (by_port resumed.start.accepted0 resumed.start.accepted1 0) (B.state resumed.workers.primary)
         (B.state resumed.workers.backup) (D.records resumed.workers.disk)
-        → IfOk result (λ e. EndsBy (booted_from B.machine boot (bytes_in first)) exact resumed.workers.typed0.items
-        resumed.workers.typed1.items e.winner e.primary.items e.backup.items e.held (map (λ v. v.items) e.accepted)
+        → IfOk result (λ e. EndsBy (booted_from B.machine boot (bytes_in first)) exact e.typed0.items e.typed1.items
+        e.winner e.primary.items e.backup.items e.held (map (λ v. v.items) e.accepted)
         (D.records e.disk) (B.state e.primary_board) (B.state e.backup_board)) }
-    ensures typed { IfOk result (λ e. (e.typed0.items ≡ resumed.workers.typed0.items)
-        × (e.typed1.items ≡ resumed.workers.typed1.items)) }
+    ensures over { IfOk result (IsOver resumed.workers.typed0.items resumed.workers.typed1.items resumed.lines
+        (resumed.accepted.0.items ∷ resumed.accepted.1.items ∷ [])) }
     ensures left { (boot : B.State) (first : List Record) (exact : Bool)
         → Lawful (booted_from B.machine boot (bytes_in first)) → BeginsAt B.machine exact boot (bytes_in first)
         resumed.workers.typed0.items resumed.workers.typed1.items
@@ -76,8 +79,8 @@ pub fn run_generation_at<
         (by_port (take resumed.taken.0 resumed.workers.typed0.items) (take resumed.taken.1 resumed.workers.typed1.items) [])
         (by_port resumed.start.accepted0 resumed.start.accepted1 0) (B.state resumed.workers.primary)
         (B.state resumed.workers.backup) (D.records resumed.workers.disk)
-        → IfOk result (λ e. LeavesBy (booted_from B.machine boot (bytes_in first)) resumed.workers.typed0.items
-        resumed.workers.typed1.items e.winner e.primary.items e.backup.items e.waiting (map (λ v. v.items) e.accepted)
+        → IfOk result (λ e. LeavesBy (booted_from B.machine boot (bytes_in first)) e.typed0.items e.typed1.items
+        e.winner e.primary.items e.backup.items e.waiting (map (λ v. v.items) e.accepted)
         (D.records e.disk) (B.state e.primary_board) (B.state e.backup_board)) }
     ensures ran { (boot : B.State) (first : List Record) (exact : Bool)
         → Lawful (booted_from B.machine boot (bytes_in first)) → BeginsAt B.machine exact boot (bytes_in first)
@@ -86,8 +89,8 @@ pub fn run_generation_at<
         (by_port (take resumed.taken.0 resumed.workers.typed0.items) (take resumed.taken.1 resumed.workers.typed1.items) [])
         (by_port resumed.start.accepted0 resumed.start.accepted1 0) (B.state resumed.workers.primary)
         (B.state resumed.workers.backup) (D.records resumed.workers.disk)
-        → IfOk result (λ e. IsOfRun (booted_from B.machine boot (bytes_in first)) resumed.workers.typed0.items
-        resumed.workers.typed1.items e.winner e.primary.items e.backup.items e.held (map (λ v. v.items) e.accepted)
+        → IfOk result (λ e. IsOfRun (booted_from B.machine boot (bytes_in first)) e.typed0.items e.typed1.items
+        e.winner e.primary.items e.backup.items e.held (map (λ v. v.items) e.accepted)
         (D.records e.disk) (B.state e.primary_board) (B.state e.backup_board)) }
 {
     let Resumed {
@@ -97,6 +100,7 @@ pub fn run_generation_at<
         backup_list,
         taken,
         accepted,
+        lines,
     } = resumed;
     let (fabric, seats) = Fabric::open_at(alloc, &start)?;
     let Workers {
@@ -110,19 +114,24 @@ pub fn run_generation_at<
         backup_contests,
         steps,
     } = workers;
+    let Lines {
+        keyboard0,
+        keyboard1,
+        screen,
+    } = lines;
     let contested = primary_contests.is_some() || backup_contests.is_some();
     let lead = Plan::new(primary_contests, contested, steps);
     let follow = Plan::new(backup_contests, contested, steps);
     let ports = (
-        PortInputs::after(typed0, taken.0, start.accepted0),
-        PortInputs::after(typed1, taken.1, start.accepted1),
+        PortInputs::after(typed0, taken.0, start.accepted0, keyboard0),
+        PortInputs::after(typed1, taken.1, start.accepted1, keyboard1),
     );
     let (accepted0, accepted1) = accepted;
     let five = Five {
         primary: PrimaryWorker::resume(alloc, seats.primary, primary_list, primary, ports, lead),
         link: LinkWorker::new(seats.link, fates),
         backup: BackupWorker::resume(seats.backup, backup_list, backup, follow),
-        terminal: TerminalWorker::resume(seats.terminal, accepted0, accepted1),
+        terminal: TerminalWorker::resume(seats.terminal, accepted0, accepted1, screen),
         disk: DiskWorker::new(seats.disk, disk),
     };
     let served = work(rt, five, &fabric, gate, turns, contested);

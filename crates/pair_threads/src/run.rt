@@ -5,12 +5,16 @@ ghost use Rattle.pair_protocol.specs.Lawful.{Lawful};
 ghost use Rattle.pair_rule.specs.Knowledge.{StartsWith, last_or};
 ghost use Rattle.pair_rule.specs.Threads.{bytes_accepted};
 ghost use Rattle.pair_threads.specs.Choosing.{together};
-ghost use Rattle.pair_threads.specs.Ending.{EndsBy, HasAsked, IsEnding, WonBy, winner_named};
+ghost use Rattle.pair_lines.specs.Lines.{HasShown, IsSameStart};
+ghost use Rattle.pair_lines.specs.declared.lines.Lines.{Lines};
+ghost use Rattle.pair_threads.specs.Ending.{EachScreen, EndsBy, HasAsked, IsEnding, WonBy, winner_named};
 ghost use Rattle.pair_threads.specs.Left.{LeavesBy};
 ghost use Rattle.pair_threads.specs.Primary.{IsAtRest, WorkerKeeps, WorkerLeads};
 ghost use Rattle.pair_threads.specs.Repeating.{IsAt};
+ghost use Rattle.pair_threads.specs.Showing.{ShowsAll};
 ghost use Rattle.pair_threads.specs.Shown.{IsOfRun};
 ghost use Rattle.pair_threads.specs.Stores.{IsStore, bytes_in};
+ghost use Rattle.pair_threads.specs.Typing.{IsOver, IsTyped, typed_with};
 ghost use Rattle.shared_disk.specs.Records.{IsUnwritten};
 ghost use Rattle.shared_disk.specs.declared.store.Record.{Record};
 
@@ -29,6 +33,7 @@ use crate::workers::{GenerationEnd, Workers};
 use guest_lockstep::Lockstep;
 use i8080_words::{Fault, R};
 use log_entry::Entry;
+use pair_lines::Lines;
 use pair_rule::{Fabric, FiveSeats};
 use shared_disk::{SectorStore, SharedDisk};
 use std::alloc::Global;
@@ -72,6 +77,7 @@ struct Parts<B, D: SectorStore> {
     typed1: Vec<u8>,
     accepted: [Vec<u8>; 2],
     disk: SharedDisk<D>,
+    lines: Lines,
 }
 
 // Takes the workers apart.
@@ -91,6 +97,9 @@ fn take_apart<B: Lockstep + Drop, D: SectorStore>(
     ensures disk { result.disk ≡ disk.disk }
     ensures screens { map (λ v. v.items) result.accepted
         ≡ bytes_accepted 0 terminal.seat.core.known ∷ bytes_accepted 1 terminal.seat.core.known ∷ [] }
+    ensures accepted { map (λ v. v.items) result.accepted ≡ terminal.accepted0.items ∷ terminal.accepted1.items ∷ [] }
+    ensures lines { (result.lines.keyboard0 ≡ primary.port0.keyboard) × (result.lines.keyboard1 ≡ primary.port1.keyboard)
+        × (result.lines.screen ≡ terminal.screen) }
 {
     let PrimaryWorker {
         seat: primary_seat,
@@ -100,8 +109,16 @@ fn take_apart<B: Lockstep + Drop, D: SectorStore>(
         port1,
         ..
     } = primary;
-    let PortInputs { typed: typed0, .. } = port0;
-    let PortInputs { typed: typed1, .. } = port1;
+    let PortInputs {
+        typed: typed0,
+        keyboard: keyboard0,
+        ..
+    } = port0;
+    let PortInputs {
+        typed: typed1,
+        keyboard: keyboard1,
+        ..
+    } = port1;
     let BackupWorker {
         seat: backup_seat,
         guest: backup_guest,
@@ -111,6 +128,7 @@ fn take_apart<B: Lockstep + Drop, D: SectorStore>(
         seat: terminal_seat,
         accepted0,
         accepted1,
+        screen,
         ..
     } = terminal;
     let DiskWorker {
@@ -149,6 +167,11 @@ fn take_apart<B: Lockstep + Drop, D: SectorStore>(
         typed1,
         accepted: [accepted0, accepted1],
         disk,
+        lines: Lines {
+            keyboard0,
+            keyboard1,
+            screen,
+        },
     }
 }
 
@@ -187,31 +210,34 @@ fn conclude<B: Lockstep + Drop, D: SectorStore>(
     ensures boards { IfOk result (λ e. (e.primary_board ≡ primary.guest.board) × (e.backup_board ≡ backup.guest.board)) }
     ensures typed { IfOk result (λ e. (e.typed0.items ≡ primary.port0.typed.items)
         × (e.typed1.items ≡ primary.port1.typed.items)) }
+    ensures over { (typed0 typed1 : List ℕ) (lines : Lines) (screens : List (List ℕ))
+        → IsTyped (typed0, lines.keyboard0) (typed_with primary.port0)
+        → IsTyped (typed1, lines.keyboard1) (typed_with primary.port1)
+        → IsSameStart lines.screen.ring terminal.screen.ring
+        → (EachScreen (HasShown lines.screen) 0 screens → ShowsAll terminal)
+        → IfOk result (IsOver typed0 typed1 lines screens) }
     ensures prefix { IfOk result (λ e. StartsWith e.primary.items e.backup.items) }
-    ensures ends { (boot : B.State) (first : List Record) (typed0 typed1 : List ℕ) (exact : Bool)
+    ensures ends { (boot : B.State) (first : List Record) (exact : Bool)
         → Lawful (booted_from B.machine boot (bytes_in first))
-        → (primary.port0.typed.items ≡ typed0) × (primary.port1.typed.items ≡ typed1)
-        × WorkerLeads B.state B.machine boot primary → IsAt B.state B.machine exact boot backup.guest
+        → WorkerLeads B.state B.machine boot primary → IsAt B.state B.machine exact boot backup.guest
         → IsStore (bytes_in first) (D.records disk.disk) disk.seat.core.known.disk
-        → IfOk result (λ e. EndsBy (booted_from B.machine boot (bytes_in first)) exact typed0 typed1 e.winner
-        e.primary.items e.backup.items e.held (map (λ v. v.items) e.accepted) (D.records e.disk)
+        → IfOk result (λ e. EndsBy (booted_from B.machine boot (bytes_in first)) exact e.typed0.items e.typed1.items
+        e.winner e.primary.items e.backup.items e.held (map (λ v. v.items) e.accepted) (D.records e.disk)
         (B.state e.primary_board) (B.state e.backup_board)) }
-    ensures left { (boot : B.State) (first : List Record) (typed0 typed1 : List ℕ) (exact : Bool)
+    ensures left { (boot : B.State) (first : List Record) (exact : Bool)
         → Lawful (booted_from B.machine boot (bytes_in first))
-        → (primary.port0.typed.items ≡ typed0) × (primary.port1.typed.items ≡ typed1)
-        × WorkerLeads B.state B.machine boot primary → IsAt B.state B.machine exact boot backup.guest
+        → WorkerLeads B.state B.machine boot primary → IsAt B.state B.machine exact boot backup.guest
         → IsStore (bytes_in first) (D.records disk.disk) disk.seat.core.known.disk
-        → IfOk result (λ e. LeavesBy (booted_from B.machine boot (bytes_in first)) typed0 typed1 e.winner e.primary.items
-        e.backup.items e.waiting (map (λ v. v.items) e.accepted) (D.records e.disk) (B.state e.primary_board)
+        → IfOk result (λ e. LeavesBy (booted_from B.machine boot (bytes_in first)) e.typed0.items e.typed1.items e.winner
+        e.primary.items e.backup.items e.waiting (map (λ v. v.items) e.accepted) (D.records e.disk) (B.state e.primary_board)
         (B.state e.backup_board)) }
-    ensures ran { (boot : B.State) (first : List Record) (typed0 typed1 : List ℕ) (exact : Bool)
+    ensures ran { (boot : B.State) (first : List Record) (exact : Bool)
         → Lawful (booted_from B.machine boot (bytes_in first))
-        → (primary.port0.typed.items ≡ typed0) × (primary.port1.typed.items ≡ typed1)
-        × WorkerLeads B.state B.machine boot primary → WorkerKeeps B.machine boot primary
+        → WorkerLeads B.state B.machine boot primary → WorkerKeeps B.machine boot primary
         → IsAt B.state B.machine exact boot backup.guest
         → IsStore (bytes_in first) (D.records disk.disk) disk.seat.core.known.disk
-        → IfOk result (λ e. IsOfRun (booted_from B.machine boot (bytes_in first)) typed0 typed1 e.winner e.primary.items
-        e.backup.items e.held (map (λ v. v.items) e.accepted) (D.records e.disk) (B.state e.primary_board)
+        → IfOk result (λ e. IsOfRun (booted_from B.machine boot (bytes_in first)) e.typed0.items e.typed1.items e.winner
+        e.primary.items e.backup.items e.held (map (λ v. v.items) e.accepted) (D.records e.disk) (B.state e.primary_board)
         (B.state e.backup_board)) }
 {
     let parts = take_apart(primary, link, backup, terminal, disk);
@@ -226,6 +252,7 @@ fn conclude<B: Lockstep + Drop, D: SectorStore>(
         typed1,
         accepted,
         disk,
+        lines,
     } = parts;
     let closed = fabric.close(seats);
     let winner = winner_of(closed.winner);
@@ -244,6 +271,7 @@ fn conclude<B: Lockstep + Drop, D: SectorStore>(
         winner,
         accepted,
         disk,
+        lines,
     })
 }
 
@@ -269,36 +297,36 @@ pub(crate) fn finish<B: Lockstep + Drop, D: SectorStore>(
     ensures decided { (first second : Option ℕ) → OnOk five.primary.1 (five.primary.0.plan.contests_at ≡ first)
         → OnOk five.backup.1 (five.backup.0.plan.contests_at ≡ second) → IfOk result (λ e. WonBy first second e.winner) }
     ensures prefix { IfOk result (λ e. StartsWith e.primary.items e.backup.items) }
-    ensures ends { (boot : B.State) (first : List Record) (typed0 typed1 : List ℕ) (exact : Bool)
+    ensures ends { (boot : B.State) (first : List Record) (exact : Bool)
         → Lawful (booted_from B.machine boot (bytes_in first))
-        → OnOk five.primary.1 ((five.primary.0.port0.typed.items ≡ typed0) × (five.primary.0.port1.typed.items ≡ typed1)
-        × WorkerLeads B.state B.machine boot five.primary.0)
+        → OnOk five.primary.1 (WorkerLeads B.state B.machine boot five.primary.0)
         → OnOk five.backup.1 (IsAt B.state B.machine exact boot five.backup.0.guest)
         → OnOk five.disk.1 (IsStore (bytes_in first) (D.records five.disk.0.disk) five.disk.0.seat.core.known.disk)
-        → IfOk result (λ e. EndsBy (booted_from B.machine boot (bytes_in first)) exact typed0 typed1 e.winner
-        e.primary.items e.backup.items e.held (map (λ v. v.items) e.accepted) (D.records e.disk)
+        → IfOk result (λ e. EndsBy (booted_from B.machine boot (bytes_in first)) exact e.typed0.items e.typed1.items
+        e.winner e.primary.items e.backup.items e.held (map (λ v. v.items) e.accepted) (D.records e.disk)
         (B.state e.primary_board) (B.state e.backup_board)) }
-    ensures typed { (typed0 typed1 : List ℕ)
-        → OnOk five.primary.1 ((five.primary.0.port0.typed.items ≡ typed0) × (five.primary.0.port1.typed.items ≡ typed1))
-        → IfOk result (λ e. (e.typed0.items ≡ typed0) × (e.typed1.items ≡ typed1)) }
-    ensures left { (boot : B.State) (first : List Record) (typed0 typed1 : List ℕ) (exact : Bool)
+    ensures over { (typed0 typed1 : List ℕ) (lines : Lines) (screens : List (List ℕ))
+        → OnOk five.primary.1 (IsTyped (typed0, lines.keyboard0) (typed_with five.primary.0.port0)
+        × IsTyped (typed1, lines.keyboard1) (typed_with five.primary.0.port1))
+        → OnOk five.terminal.1 (IsSameStart lines.screen.ring five.terminal.0.screen.ring
+        × (EachScreen (HasShown lines.screen) 0 screens → ShowsAll five.terminal.0))
+        → IfOk result (IsOver typed0 typed1 lines screens) }
+    ensures left { (boot : B.State) (first : List Record) (exact : Bool)
         → Lawful (booted_from B.machine boot (bytes_in first))
-        → OnOk five.primary.1 ((five.primary.0.port0.typed.items ≡ typed0) × (five.primary.0.port1.typed.items ≡ typed1)
-        × WorkerLeads B.state B.machine boot five.primary.0)
+        → OnOk five.primary.1 (WorkerLeads B.state B.machine boot five.primary.0)
         → OnOk five.backup.1 (IsAt B.state B.machine exact boot five.backup.0.guest)
         → OnOk five.disk.1 (IsStore (bytes_in first) (D.records five.disk.0.disk) five.disk.0.seat.core.known.disk)
-        → IfOk result (λ e. LeavesBy (booted_from B.machine boot (bytes_in first)) typed0 typed1 e.winner e.primary.items
-        e.backup.items e.waiting (map (λ v. v.items) e.accepted) (D.records e.disk) (B.state e.primary_board)
+        → IfOk result (λ e. LeavesBy (booted_from B.machine boot (bytes_in first)) e.typed0.items e.typed1.items e.winner
+        e.primary.items e.backup.items e.waiting (map (λ v. v.items) e.accepted) (D.records e.disk) (B.state e.primary_board)
         (B.state e.backup_board)) }
-    ensures ran { (boot : B.State) (first : List Record) (typed0 typed1 : List ℕ) (exact : Bool)
+    ensures ran { (boot : B.State) (first : List Record) (exact : Bool)
         → Lawful (booted_from B.machine boot (bytes_in first))
-        → OnOk five.primary.1 ((five.primary.0.port0.typed.items ≡ typed0) × (five.primary.0.port1.typed.items ≡ typed1)
-        × WorkerLeads B.state B.machine boot five.primary.0)
+        → OnOk five.primary.1 (WorkerLeads B.state B.machine boot five.primary.0)
         → OnOk five.primary.1 (WorkerKeeps B.machine boot five.primary.0)
         → OnOk five.backup.1 (IsAt B.state B.machine exact boot five.backup.0.guest)
         → OnOk five.disk.1 (IsStore (bytes_in first) (D.records five.disk.0.disk) five.disk.0.seat.core.known.disk)
-        → IfOk result (λ e. IsOfRun (booted_from B.machine boot (bytes_in first)) typed0 typed1 e.winner e.primary.items
-        e.backup.items e.held (map (λ v. v.items) e.accepted) (D.records e.disk) (B.state e.primary_board)
+        → IfOk result (λ e. IsOfRun (booted_from B.machine boot (bytes_in first)) e.typed0.items e.typed1.items e.winner
+        e.primary.items e.backup.items e.held (map (λ v. v.items) e.accepted) (D.records e.disk) (B.state e.primary_board)
         (B.state e.backup_board)) }
 {
     let Five {
@@ -315,17 +343,24 @@ pub(crate) fn finish<B: Lockstep + Drop, D: SectorStore>(
     conclude(fabric, primary, link, backup, terminal, disk, contested)
 }
 
-/// Runs one generation, a worker for each of the five seats on its own thread, with at most this many turns for the primary and
-/// for the backup. If nobody is planned to go on alone, it ends well when the guest idles, all keys are taken, nothing is
-/// outstanding, under way or due, and all entries are acknowledged and repeated. Otherwise it ends when it is decided who goes on alone; a backup
-/// that does has repeated its list. `Stalled` if it ends in no such way, `OutOfMemory` if memory or a thread is refused.
-#[tactic(auto, using(crate::proofs::Beginning::nothing_yet, crate::proofs::Serving::first_disk))]
-pub fn run_generation<
+/// Runs one generation over these lines, a worker for each of the five seats on its own thread, with at most this many turns for
+/// the primary and for the backup. If nobody is planned to go on alone, it ends well when the guest idles, all keys are taken and no more
+/// come, nothing is outstanding, under way or due, and all entries are acknowledged and repeated. Otherwise it ends when it is decided who goes
+/// on alone; a backup that does has repeated its list. `Stalled` if it ends in no such way, `OutOfMemory` if memory or a thread is refused.
+#[tactic(auto, using(crate::proofs::Beginning::nothing_yet, crate::proofs::Serving::first_disk, crate::proofs::Typing::typed_same, crate::proofs::Showing::shows_same))]
+pub fn run_generation_over<
     B: Lockstep + Send + Drop,
     D: SectorStore + Send,
     G: Gate + Sync,
     T: Threads + Clock + Sync,
->(rt: &T, alloc: Global, workers: Workers<B, D>, gate: &G, turns: u64) -> R<GenerationEnd<B, D>>
+>(
+    rt: &T,
+    alloc: Global,
+    workers: Workers<B, D>,
+    lines: Lines,
+    gate: &G,
+    turns: u64,
+) -> R<GenerationEnd<B, D>>
     requires lawful { Lawful (booted_from B.machine (B.state workers.primary) (bytes_in (D.records workers.disk))) }
     requires alike { B.state workers.backup ≡ B.state workers.primary }
     requires unwritten { IsUnwritten (D.records workers.disk) }
@@ -333,14 +368,14 @@ pub fn run_generation<
     ensures decided { IfOk result (λ e. WonBy workers.primary_contests workers.backup_contests e.winner) }
     ensures prefix { IfOk result (λ e. StartsWith e.primary.items e.backup.items) }
     ensures ends { IfOk result (λ e. EndsBy (booted_from B.machine (B.state workers.primary) (bytes_in (D.records workers.disk)))
-        true workers.typed0.items workers.typed1.items e.winner e.primary.items e.backup.items e.held
+        true e.typed0.items e.typed1.items e.winner e.primary.items e.backup.items e.held
         (map (λ v. v.items) e.accepted) (D.records e.disk) (B.state e.primary_board) (B.state e.backup_board)) }
-    ensures typed { IfOk result (λ e. (e.typed0.items ≡ workers.typed0.items) × (e.typed1.items ≡ workers.typed1.items)) }
+    ensures over { IfOk result (IsOver workers.typed0.items workers.typed1.items lines ([] ∷ [] ∷ [])) }
     ensures left { IfOk result (λ e. LeavesBy (booted_from B.machine (B.state workers.primary) (bytes_in (D.records workers.disk)))
-        workers.typed0.items workers.typed1.items e.winner e.primary.items e.backup.items e.waiting
+        e.typed0.items e.typed1.items e.winner e.primary.items e.backup.items e.waiting
         (map (λ v. v.items) e.accepted) (D.records e.disk) (B.state e.primary_board) (B.state e.backup_board)) }
     ensures ran { IfOk result (λ e. IsOfRun (booted_from B.machine (B.state workers.primary) (bytes_in (D.records workers.disk)))
-        workers.typed0.items workers.typed1.items e.winner e.primary.items e.backup.items e.held
+        e.typed0.items e.typed1.items e.winner e.primary.items e.backup.items e.held
         (map (λ v. v.items) e.accepted) (D.records e.disk) (B.state e.primary_board) (B.state e.backup_board)) }
 {
     let (fabric, seats) = Fabric::open(alloc, 1)?;
@@ -355,16 +390,53 @@ pub fn run_generation<
         backup_contests,
         steps,
     } = workers;
+    let Lines {
+        keyboard0,
+        keyboard1,
+        screen,
+    } = lines;
     let contested = primary_contests.is_some() || backup_contests.is_some();
     let lead = Plan::new(primary_contests, contested, steps);
     let follow = Plan::new(backup_contests, contested, steps);
+    let ports = (
+        PortInputs::new(typed0, keyboard0),
+        PortInputs::new(typed1, keyboard1),
+    );
     let five = Five {
-        primary: PrimaryWorker::new(alloc, seats.primary, primary, typed0, typed1, lead),
+        primary: PrimaryWorker::new(alloc, seats.primary, primary, ports, lead),
         link: LinkWorker::new(seats.link, fates),
         backup: BackupWorker::new(alloc, seats.backup, backup, follow),
-        terminal: TerminalWorker::new(alloc, seats.terminal),
+        terminal: TerminalWorker::new(alloc, seats.terminal, screen),
         disk: DiskWorker::new(seats.disk, disk),
     };
     let served = work(rt, five, &fabric, gate, turns, contested);
     finish(fabric, served, contested)
+}
+
+/// Runs one generation without lines: its keys are those that were typed before.
+#[tactic(auto, using(crate::proofs::Typing::over_none))]
+pub fn run_generation<
+    B: Lockstep + Send + Drop,
+    D: SectorStore + Send,
+    G: Gate + Sync,
+    T: Threads + Clock + Sync,
+>(rt: &T, alloc: Global, workers: Workers<B, D>, gate: &G, turns: u64) -> R<GenerationEnd<B, D>>
+    requires lawful { Lawful (booted_from B.machine (B.state workers.primary) (bytes_in (D.records workers.disk))) }
+    requires alike { B.state workers.backup ≡ B.state workers.primary }
+    requires unwritten { IsUnwritten (D.records workers.disk) }
+    ensures refused { IfErr result IsEnding }
+    ensures decided { IfOk result (λ e. WonBy workers.primary_contests workers.backup_contests e.winner) }
+    ensures prefix { IfOk result (λ e. StartsWith e.primary.items e.backup.items) }
+    ensures typed { IfOk result (λ e. (e.typed0.items ≡ workers.typed0.items) × (e.typed1.items ≡ workers.typed1.items)) }
+    ensures ends { IfOk result (λ e. EndsBy (booted_from B.machine (B.state workers.primary) (bytes_in (D.records workers.disk)))
+        true e.typed0.items e.typed1.items e.winner e.primary.items e.backup.items e.held
+        (map (λ v. v.items) e.accepted) (D.records e.disk) (B.state e.primary_board) (B.state e.backup_board)) }
+    ensures left { IfOk result (λ e. LeavesBy (booted_from B.machine (B.state workers.primary) (bytes_in (D.records workers.disk)))
+        e.typed0.items e.typed1.items e.winner e.primary.items e.backup.items e.waiting
+        (map (λ v. v.items) e.accepted) (D.records e.disk) (B.state e.primary_board) (B.state e.backup_board)) }
+    ensures ran { IfOk result (λ e. IsOfRun (booted_from B.machine (B.state workers.primary) (bytes_in (D.records workers.disk)))
+        e.typed0.items e.typed1.items e.winner e.primary.items e.backup.items e.held
+        (map (λ v. v.items) e.accepted) (D.records e.disk) (B.state e.primary_board) (B.state e.backup_board)) }
+{
+    run_generation_over(rt, alloc, workers, Lines::none(), gate, turns)
 }

@@ -3,6 +3,7 @@
 use crate::gate::Who;
 use crate::link::Fate;
 use log_entry::Entry;
+use pair_lines::Lines;
 use pair_rule::Start;
 use shared_disk::{SectorStore, SharedDisk};
 
@@ -46,6 +47,8 @@ pub struct GenerationEnd<B: Drop, D: SectorStore> {
     /// What the terminal of each port has accepted.
     pub accepted: [Vec<u8>; 2],
     pub disk: SharedDisk<D>,
+    /// The lines over which it was told and told.
+    pub lines: Lines,
 }
 
 /// What a generation on threads begins with that goes on where a run was settled.
@@ -61,4 +64,6 @@ pub struct Resumed<B: Drop, D: SectorStore> {
     pub taken: (usize, usize),
     /// What the terminal of each port has accepted.
     pub accepted: (Vec<u8>, Vec<u8>),
+    /// The lines over which it is told and tells.
+    pub lines: Lines,
 }

@@ -373,8 +373,8 @@ impl<B: Lockstep> PrimaryWorker<B> {
         true
     }
 
-    // Whether a run in which nobody is planned to go on alone is at its end: the guest idles with all keys taken, nothing
-    // is outstanding, in flight or due, and all is acknowledged.
+    // Whether a run in which nobody is planned to go on alone is at its end: the guest idles with all keys taken and no more to
+    // come, nothing is outstanding, in flight or due, and all is acknowledged.
     pub(super) fn is_at_its_end(&self) -> bool
         ensures { IsTrue result ↔ ((self.now.plan.contested ≡ false) × IsAtRest B.state B.machine self.now) }
     {
@@ -385,6 +385,8 @@ impl<B: Lockstep> PrimaryWorker<B> {
             && self.answer.is_none()
             && self.port0.is_taken()
             && self.port1.is_taken()
+            && self.port0.is_closed()
+            && self.port1.is_closed()
             && self.guest.idle
             && self.no_sector_is_due()
     }

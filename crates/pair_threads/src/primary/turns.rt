@@ -9,6 +9,8 @@ ghost use Rattle.pair_threads.specs.Leading.{Leads, Says, by_port};
 ghost use Rattle.pair_threads.specs.Primary.{Does, HasAppended, HasDone, IsAtRest, WorkerKeeps, WorkerLeads, Works, has_work_at_1, keys_taken, second_after};
 ghost use Rattle.pair_threads.specs.Screens.{port_of};
 ghost use Rattle.pair_threads.specs.Turns.{Leaves};
+ghost use Rattle.pair_threads.specs.Typing.{HasListened};
+ghost use Rattle.pair_threads.specs.declared.primary.PrimaryWorker.{PrimaryWorker};
 
 use super::PrimaryWorker;
 use crate::chore::{Chore, ROTATION};
@@ -28,8 +30,7 @@ impl<B: Lockstep> PrimaryWorker<B> {
         alloc: Global,
         seat: PrimarySeat,
         board: B,
-        typed0: Vec<u8>,
-        typed1: Vec<u8>,
+        ports: (PortInputs, PortInputs),
         plan: Plan,
     ) -> PrimaryWorker<B>
         requires list { seat.core.known.primary.list ≡ [] }
@@ -37,19 +38,21 @@ impl<B: Lockstep> PrimaryWorker<B> {
             × (seat.core.known.primary.calls ≡ []) × (seat.core.known.primary.asked ≡ 0) }
         requires uncounted { (seat.core.known.primary.counted0 ≡ 0) × (seat.core.known.primary.counted1 ≡ 0) }
         requires none { (name : OpId) → B.machine.find (B.state board) name ≡ None }
+        requires untaken { (ports.0.taken ≡ 0) × (ports.1.taken ≡ 0) × (ports.0.accepted ≡ 0) × (ports.1.accepted ≡ 0) }
         ensures seat { result.seat ≡ seat }
         ensures board { result.guest.board ≡ board }
-        ensures plan { (result.plan ≡ plan) × (result.port0.typed ≡ typed0) × (result.port1.typed ≡ typed1) }
+        ensures plan { (result.plan ≡ plan) × (result.port0 ≡ ports.0) × (result.port1 ≡ ports.1) }
         ensures first { result.second ≡ false }
         ensures leads { WorkerLeads B.state B.machine (B.state board) result }
         ensures keeps { WorkerKeeps B.machine (B.state board) result }
     {
+        let (port0, port1) = ports;
         PrimaryWorker {
             seat,
             list: Vec::new(alloc),
             guest: Recording::new(alloc, board),
-            port0: PortInputs::new(typed0),
-            port1: PortInputs::new(typed1),
+            port0,
+            port1,
             seen: 0,
             counted0: 0,
             counted1: 0,
@@ -148,6 +151,57 @@ impl<B: Lockstep> PrimaryWorker<B> {
             }
             Err(_) => Err(Fault::Stalled),
         }
+    }
+
+    // Notes the keys that have come, before the guest may take one.
+    #[tactic(auto, using(crate::proofs::Typing::listened_same, crate::proofs::Typing::listened_on))]
+    fn listen(&mut self) -> R<()>
+        ensures listens { OnOk result (HasListened self.old self.new) }
+        ensures seat { self.new.seat ≡ self.old.seat }
+        ensures refused { IfErr result IsEnding }
+    {
+        if self.chore == Chore::Key {
+            self.listen0()?;
+            self.listen1()?;
+        }
+        Ok(())
+    }
+
+    // Notes the next key that has come at port 0.
+    #[tactic(auto, using(crate::proofs::Typing::notes_same))]
+    fn listen0(&mut self) -> R<()>
+        ensures listens { OnOk result (HasListened self.old self.new) }
+        ensures seat { self.new.seat ≡ self.old.seat }
+        ensures refused { IfErr result IsEnding }
+    {
+        self.port0.listen()
+    }
+
+    // Notes the next key that has come at port 1.
+    #[tactic(auto, using(crate::proofs::Typing::notes_same))]
+    fn listen1(&mut self) -> R<()>
+        ensures listens { OnOk result (HasListened self.old self.new) }
+        ensures seat { self.new.seat ≡ self.old.seat }
+        ensures refused { IfErr result IsEnding }
+    {
+        self.port1.listen()
+    }
+
+    // Notes the keys that have come, and does the next chore.
+    fn listen_and_work(&mut self, fabric: &Fabric) -> R<Turn>
+        requires table { self.old.seat.table ≡ fabric.now }
+        requires before { self.old.seat.core.known.primary.winner ≡ 0 }
+        requires swaps { HasSwapsLeft self.old.seat.core }
+        ensures works { OnOk result ((heard : PrimaryWorker B) × HasListened self.old heard
+            × Works B.state B.machine heard self.new) }
+        ensures table { self.new.seat.table ≡ self.old.seat.table }
+        ensures leaves { Leaves result (Unit {0}) (IsAtRest B.state B.machine self.new) }
+        ensures turn { IfOk result (λ turn. (heard : PrimaryWorker B) × HasListened self.old heard
+            × HasDone B.state B.machine heard self.new turn) }
+        ensures refused { IfErr result IsEnding }
+    {
+        self.listen()?;
+        self.work(fabric)
     }
 
     // The entry to append.
@@ -284,13 +338,14 @@ impl<B: Lockstep> Worker for PrimaryWorker<B> {
     ghost use Rattle.pair_threads.specs.Turns.{AsksAt};
     ghost use Rattle.pair_threads.specs.Patience.{is_held_up};
     ghost use Rattle.pair_threads.specs.Primary.{HasHadTurn, IsAtRest, WorkerKeeps, WorkerLeads};
+    ghost use Rattle.pair_threads.specs.Typing.{HasHeard};
 
     ghost table = { λ w. w.seat.table };
 
     ghost ready = { λ w. w.seat.core.known.primary.winner ≡ 0 };
 
-    ghost came = { λ first w. (w.plan ≡ first.plan) × (w.port0.typed ≡ first.port0.typed)
-        × (w.port1.typed ≡ first.port1.typed) × HasAsked w.plan.contests_at w.seat.core.known.primary.winner
+    ghost came = { λ first w. (w.plan ≡ first.plan) × HasHeard first.port0 w.port0
+        × HasHeard first.port1 w.port1 × HasAsked w.plan.contests_at w.seat.core.known.primary.winner
         × ((boot : B.State) → WorkerLeads B.state B.machine boot first → WorkerLeads B.state B.machine boot w)
         × ((boot : B.State) → WorkerLeads B.state B.machine boot first → WorkerKeeps B.machine boot first
         → WorkerKeeps B.machine boot w) };
@@ -316,7 +371,7 @@ impl<B: Lockstep> Worker for PrimaryWorker<B> {
         }
         match self.to_append() {
             Some(entry) => self.append(fabric, entry),
-            None => self.work(fabric),
+            None => self.listen_and_work(fabric),
         }
     }
 

@@ -1,14 +1,34 @@
 -- The workers' ends are those of the machine that booted first.
-use Rattle.std.proofs.Common.{ap, sym, subst, ◌∙◌, Vec, Global, ℕ, refl, inl, inr, false}
+use Rattle.std.proofs.Common.{ap, sym, subst, ◌∙◌, Vec, Global, ℕ, refl, inl, inr, false, [], ◌∷◌}
 use Rattle.pair_rule.specs.Seats.{Seat}
 use Rattle.pair_rule.specs.declared.view.Core.{Core}
 use Rattle.pair_threads.specs.declared.plan.Plan.{Plan}
-use Rattle.pair_threads.specs.declared.port_inputs.PortInputs.{PortInputs}
 use Rattle.pair_threads.specs.Repeating.{Repeats}
 use Rattle.pair_threads.specs.Stores.{IsStore, bytes_in}
+use Rattle.pair_threads.specs.Typing.{IsTyped, typed_with}
 use Rattle.pair_threads.proofs.Ending.{on_ok}
+use Rattle.pair_threads.proofs.Showing.{shows_began}
+use Rattle.pair_threads.proofs.Typing.{typed_began, typed_same}
 use Rattle.pair_threads.proofs.Resuming.{keeps_at, leads_at, says_at}
 use Rattle.pair_threads.proofs.resumed.run_generation_at.Goals as goal
+
+pub work-served-requires-clause-primary : goal.work-served-requires-clause-primary
+work-served-requires-clause-primary g c κs within =
+    let w = c.resume.result in
+    let opened = c.in_ok-fabric.ensures in
+    let waits = ap (λ (x : Seat). x.core.known.primary.winner) c.resume.ensures.seat
+    ∙ ap (λ (x : Core). x.known.primary.winner) opened.primary ∙ sym c.requires.start.primary_waits in (
+      ap (λ (x : Seat). x.table) c.resume.ensures.seat ∙ opened.one.0,
+      waits,
+      (
+        refl,
+        typed_same (typed_with w.port0),
+        typed_same (typed_with w.port1),
+        inl waits,
+        λ boot leads. leads,
+        λ boot leads kept. kept,
+      ),
+    )
 
 pub finish-requires-clause-primary : goal.finish-requires-clause-primary
 finish-requires-clause-primary g c = let served = c.work-served in (
@@ -66,23 +86,19 @@ returns-clause-ends g c = λ boot first exact lawful begins.
     let leads = leads_at M exact boot (bytes_in first) workers.typed0 workers.typed1 resumed.start.known.known resumed.taken.0
     resumed.taken.1 resumed.start.accepted0 resumed.start.accepted1 (state workers.primary) (state workers.backup)
     (records workers.disk) begins c.in_ok-fabric.seats.primary.core opened.primary c.after.result c.after-2.result
-    c.after.ensures c.after-2.ensures in
+    (c.after.ensures.0, c.after.ensures.1, c.after.ensures.2)
+    (c.after-2.ensures.0, c.after-2.ensures.1, c.after-2.ensures.2) in
     let says = says_at M exact boot (bytes_in first) workers.typed0 workers.typed1 resumed.start.known.known resumed.taken.0
     resumed.taken.1 resumed.start.accepted0 resumed.start.accepted1 (state workers.primary) (state workers.backup)
     (records workers.disk) begins c.in_ok-fabric.seats.primary.core opened.primary c.after.result c.after-2.result
-    c.after.ensures c.after-2.ensures in
+    (c.after.ensures.0, c.after.ensures.1, c.after.ensures.2)
+    (c.after-2.ensures.0, c.after-2.ensures.1, c.after-2.ensures.2) in
     let repeats = subst (λ l. Repeats M exact boot l false (state workers.backup)) (sym c.requires.lists.1) begins.repeats in
     let store = subst (λ d. IsStore (bytes_in first) (records d) c.new-2.result.seat.core.known.disk) (sym made.disk)
     (subst (λ (x : Core). IsStore (bytes_in first) (records workers.disk) x.known.disk)
     (sym (ap (λ (x : Seat). x.core) made.seat ∙ opened.disk)) begins.store) in
-    c.finish.ensures.ends boot first workers.typed0.items workers.typed1.items exact lawful
-    (on_ok served.result.primary.1 (λ end. (
-      ap (λ (v : Vec ℕ Global). v.items)
-          (end.0.1 ∙ ap (λ (p : PortInputs). p.typed) c.resume.ensures.plan.1 ∙ c.after.ensures.0),
-      ap (λ (v : Vec ℕ Global). v.items)
-          (end.0.2 ∙ ap (λ (p : PortInputs). p.typed) c.resume.ensures.plan.2 ∙ c.after-2.ensures.0),
-      end.0.4 boot (c.resume.ensures.leads boot leads says),
-    )) served.ensures.primary.1)
+    c.finish.ensures.ends boot first exact lawful
+    (on_ok served.result.primary.1 (λ end. end.0.4 boot (c.resume.ensures.leads boot leads says)) served.ensures.primary.1)
     (on_ok served.result.backup.1 (λ end. end.0.2 exact boot (c.resume-2.ensures.at exact boot repeats)) served.ensures.backup.1)
     (on_ok served.result.disk.1 (λ end. end.0 (bytes_in first) store) served.ensures.disk.1)
 
@@ -99,37 +115,41 @@ returns-clause-left g c = λ boot first exact lawful begins.
     let leads = leads_at M exact boot (bytes_in first) workers.typed0 workers.typed1 resumed.start.known.known resumed.taken.0
     resumed.taken.1 resumed.start.accepted0 resumed.start.accepted1 (state workers.primary) (state workers.backup)
     (records workers.disk) begins c.in_ok-fabric.seats.primary.core opened.primary c.after.result c.after-2.result
-    c.after.ensures c.after-2.ensures in
+    (c.after.ensures.0, c.after.ensures.1, c.after.ensures.2)
+    (c.after-2.ensures.0, c.after-2.ensures.1, c.after-2.ensures.2) in
     let says = says_at M exact boot (bytes_in first) workers.typed0 workers.typed1 resumed.start.known.known resumed.taken.0
     resumed.taken.1 resumed.start.accepted0 resumed.start.accepted1 (state workers.primary) (state workers.backup)
     (records workers.disk) begins c.in_ok-fabric.seats.primary.core opened.primary c.after.result c.after-2.result
-    c.after.ensures c.after-2.ensures in
+    (c.after.ensures.0, c.after.ensures.1, c.after.ensures.2)
+    (c.after-2.ensures.0, c.after-2.ensures.1, c.after-2.ensures.2) in
     let repeats = subst (λ l. Repeats M exact boot l false (state workers.backup)) (sym c.requires.lists.1) begins.repeats in
     let store = subst (λ d. IsStore (bytes_in first) (records d) c.new-2.result.seat.core.known.disk) (sym made.disk)
     (subst (λ (x : Core). IsStore (bytes_in first) (records workers.disk) x.known.disk)
     (sym (ap (λ (x : Seat). x.core) made.seat ∙ opened.disk)) begins.store) in
-    c.finish.ensures.left boot first workers.typed0.items workers.typed1.items exact lawful
-    (on_ok served.result.primary.1 (λ end. (
-      ap (λ (v : Vec ℕ Global). v.items)
-          (end.0.1 ∙ ap (λ (p : PortInputs). p.typed) c.resume.ensures.plan.1 ∙ c.after.ensures.0),
-      ap (λ (v : Vec ℕ Global). v.items)
-          (end.0.2 ∙ ap (λ (p : PortInputs). p.typed) c.resume.ensures.plan.2 ∙ c.after-2.ensures.0),
-      end.0.4 boot (c.resume.ensures.leads boot leads says),
-    )) served.ensures.primary.1)
+    c.finish.ensures.left boot first exact lawful
+    (on_ok served.result.primary.1 (λ end. end.0.4 boot (c.resume.ensures.leads boot leads says)) served.ensures.primary.1)
     (on_ok served.result.backup.1 (λ end. end.0.2 exact boot (c.resume-2.ensures.at exact boot repeats)) served.ensures.backup.1)
     (on_ok served.result.disk.1 (λ end. end.0 (bytes_in first) store) served.ensures.disk.1)
 
-pub returns-clause-typed : goal.returns-clause-typed
-returns-clause-typed g c =
+pub returns-clause-over : goal.returns-clause-over
+returns-clause-over g c =
     let served = c.work-served in
-    let workers = c.args.resumed.workers in
-    c.finish.ensures.typed workers.typed0.items workers.typed1.items
+    let resumed = c.args.resumed in
+    let lines = resumed.lines in
+    let first = typed_began resumed.workers.typed0 lines.keyboard0 c.after.result c.after.ensures.0 c.after.ensures.3 in
+    let second = typed_began resumed.workers.typed1 lines.keyboard1 c.after-2.result c.after-2.ensures.0 c.after-2.ensures.3 in
+    c.finish.ensures.over resumed.workers.typed0.items resumed.workers.typed1.items lines
+    (resumed.accepted.0.items ∷ resumed.accepted.1.items ∷ [])
     (on_ok served.result.primary.1 (λ end. (
-      ap (λ (v : Vec ℕ Global). v.items)
-          (end.0.1 ∙ ap (λ (p : PortInputs). p.typed) c.resume.ensures.plan.1 ∙ c.after.ensures.0),
-      ap (λ (v : Vec ℕ Global). v.items)
-          (end.0.2 ∙ ap (λ (p : PortInputs). p.typed) c.resume.ensures.plan.2 ∙ c.after-2.ensures.0),
+      first (typed_with served.result.primary.0.port0)
+          (subst (λ p. IsTyped (typed_with p) (typed_with served.result.primary.0.port0)) c.resume.ensures.plan.1 end.0.1),
+      second (typed_with served.result.primary.0.port1)
+          (subst (λ p. IsTyped (typed_with p) (typed_with served.result.primary.0.port1)) c.resume.ensures.plan.2 end.0.2),
     )) served.ensures.primary.1)
+    (on_ok served.result.terminal.1 (λ end. shows_began lines.screen resumed.accepted.0.items resumed.accepted.1.items
+    c.resume-3.result served.result.terminal.0 c.resume-3.ensures.seat.1
+    (ap (λ (v : Vec ℕ Global). v.items) c.resume-3.ensures.accepted.0)
+    (ap (λ (v : Vec ℕ Global). v.items) c.resume-3.ensures.accepted.1) end.0) served.ensures.terminal.1)
 
 pub returns-clause-ran : goal.returns-clause-ran
 returns-clause-ran g c = λ boot first exact lawful begins.
@@ -145,28 +165,25 @@ returns-clause-ran g c = λ boot first exact lawful begins.
     let leads = first_worker.leads boot (leads_at M exact boot (bytes_in first) workers.typed0 workers.typed1
     resumed.start.known.known resumed.taken.0 resumed.taken.1 resumed.start.accepted0 resumed.start.accepted1
     (state workers.primary) (state workers.backup) (records workers.disk) begins c.in_ok-fabric.seats.primary.core
-    opened.primary c.after.result c.after-2.result c.after.ensures c.after-2.ensures)
+    opened.primary c.after.result c.after-2.result (c.after.ensures.0, c.after.ensures.1, c.after.ensures.2)
+    (c.after-2.ensures.0, c.after-2.ensures.1, c.after-2.ensures.2))
     (says_at M exact boot (bytes_in first) workers.typed0 workers.typed1 resumed.start.known.known resumed.taken.0
     resumed.taken.1 resumed.start.accepted0 resumed.start.accepted1 (state workers.primary) (state workers.backup)
     (records workers.disk) begins c.in_ok-fabric.seats.primary.core opened.primary c.after.result c.after-2.result
-    c.after.ensures c.after-2.ensures) in
+    (c.after.ensures.0, c.after.ensures.1, c.after.ensures.2)
+    (c.after-2.ensures.0, c.after-2.ensures.1, c.after-2.ensures.2)) in
     let kept = keeps_at M exact boot (bytes_in first) workers.typed0 workers.typed1 resumed.start.known.known resumed.taken.0
     resumed.taken.1 resumed.start.accepted0 resumed.start.accepted1 (state workers.primary) (state workers.backup)
     (records workers.disk) begins c.in_ok-fabric.seats.primary.core opened.primary c.after.result c.after-2.result
-    c.after.ensures c.after-2.ensures c.resume.result c.in_ok-fabric.seats.primary refl first_worker.seat
+    (c.after.ensures.0, c.after.ensures.1, c.after.ensures.2)
+    (c.after-2.ensures.0, c.after-2.ensures.1, c.after-2.ensures.2) c.resume.result c.in_ok-fabric.seats.primary refl first_worker.seat
     first_worker.plan.1 first_worker.plan.2 in
     let repeats = subst (λ l. Repeats M exact boot l false (state workers.backup)) (sym c.requires.lists.1) begins.repeats in
     let store = subst (λ d. IsStore (bytes_in first) (records d) c.new-2.result.seat.core.known.disk) (sym made.disk)
     (subst (λ (x : Core). IsStore (bytes_in first) (records workers.disk) x.known.disk)
     (sym (ap (λ (x : Seat). x.core) made.seat ∙ opened.disk)) begins.store) in
-    c.finish.ensures.ran boot first workers.typed0.items workers.typed1.items exact lawful
-    (on_ok served.result.primary.1 (λ end. (
-      ap (λ (v : Vec ℕ Global). v.items)
-          (end.0.1 ∙ ap (λ (p : PortInputs). p.typed) first_worker.plan.1 ∙ c.after.ensures.0),
-      ap (λ (v : Vec ℕ Global). v.items)
-          (end.0.2 ∙ ap (λ (p : PortInputs). p.typed) first_worker.plan.2 ∙ c.after-2.ensures.0),
-      end.0.4 boot leads,
-    )) served.ensures.primary.1)
+    c.finish.ensures.ran boot first exact lawful
+    (on_ok served.result.primary.1 (λ end. end.0.4 boot leads) served.ensures.primary.1)
     (on_ok served.result.primary.1 (λ end. end.0.5 boot leads kept) served.ensures.primary.1)
     (on_ok served.result.backup.1 (λ end. end.0.2 exact boot (c.resume-2.ensures.at exact boot repeats)) served.ensures.backup.1)
     (on_ok served.result.disk.1 (λ end. end.0 (bytes_in first) store) served.ensures.disk.1)

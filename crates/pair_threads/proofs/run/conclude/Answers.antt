@@ -1,23 +1,29 @@
 -- What the workers are taken apart into, and who goes on alone.
-use Rattle.std.proofs.Common.{ap, sym, ◌∙◌, not, Vec, Global, arith}
+use Rattle.std.proofs.Common.{ap, sym, ◌∙◌, not, subst, Vec, Global, ℕ, map, arith}
 use Rattle.std.proofs.lemmas.Bool.{false≢true}
 use Rattle.std.specs.Option.{is_some}
 use Rattle.log_entry.specs.declared.entry.Entry.{Entry}
 use Rattle.pair_rule.specs.Seats.{Seat}
 use Rattle.guest_lockstep.specs.Machine.{booted_from}
+use Rattle.pair_lines.specs.Lines.{HasShown, IsSameStart}
+use Rattle.pair_lines.specs.declared.screen.Screen.{Screen}
+use Rattle.pair_threads.specs.Ending.{EachScreen}
 use Rattle.pair_threads.specs.Left.{LeavesBy}
 use Rattle.pair_threads.specs.Shown.{IsOfRun}
 use Rattle.pair_threads.specs.Stores.{bytes_in}
+use Rattle.pair_threads.specs.Typing.{IsTyped}
 use Rattle.pair_threads.proofs.Ending.{all_came, ends, ends_so, left, settled_so}
 use Rattle.pair_threads.proofs.Shown.{all_so, of_run}
 use Rattle.pair_threads.proofs.run.conclude.Goals as goal
 use Rattle.pair_threads.proofs.run.conclude.Goals.{else-contested-via-then-contested+else-is_none, else-contested-via-else-contested}
 
 pub returns-clause-ends : goal.returns-clause-ends
-returns-clause-ends g c = λ boot first typed0 typed1 exact lawful leads at store.
+returns-clause-ends g c = λ boot first exact lawful leads at store.
     let p = c.args.primary in
     let b = c.args.backup in
     let parts = c.take_apart-parts.ensures in
+    let parts_typed0 = c.take_apart-parts.result.typed0.items in
+    let parts_typed1 = c.take_apart-parts.result.typed1.items in
     let closed = c.close-closed.result in
     let settled = settled_so _ p.seat.core.known.primary _ b.seat.core.known.backup _
     c.args.terminal.seat.core.known.terminal _ c.args.disk.seat.core.known.disk closed.tail closed.held closed.winner
@@ -25,13 +31,14 @@ returns-clause-ends g c = λ boot first typed0 typed1 exact lawful leads at stor
     (ap (λ (x : Seat). x.core.known.terminal) parts.seats.2) (ap (λ (x : Seat). x.core.known.disk) parts.seats.3)
     c.close-closed.ensures in
     let goes = c.winner_of-winner.result in
-    ends_so _ exact typed0 typed1 p.port0.typed.items p.port1.typed.items goes closed.held _ _ _ _ _ _ _ _ _ _ _ _ leads.0 leads.1
+    ends_so _ exact parts_typed0 parts_typed1 p.port0.typed.items p.port1.typed.items goes closed.held _ _ _ _ _ _ _ _ _ _ _ _
+    (sym (ap (λ (v : Vec ℕ Global). v.items) parts.typed.0)) (sym (ap (λ (v : Vec ℕ Global). v.items) parts.typed.1))
     (ap (λ (v : Vec Entry Global). v.items) parts.lists.0) (ap (λ (v : Vec Entry Global). v.items) parts.lists.1)
     parts.screens (ap g.D.SectorStore.records parts.disk) (ap g.B.Lockstep.state parts.boards.0)
     (ap g.B.Lockstep.state parts.boards.1)
     (ends g.B.Lockstep.state g.B.Lockstep.machine g.met.B.Lockstep.counts g.met.B.Lockstep.operations exact boot first lawful p b
     c.args.terminal.seat.core.known.terminal c.args.disk.seat.core.known.disk closed.tail closed.held closed.winner settled
-    (g.D.SectorStore.records c.args.disk.disk) leads.2 at store c.args.contested c.requires.rests c.requires.repeated
+    (g.D.SectorStore.records c.args.disk.disk) leads at store c.args.contested c.requires.rests c.requires.repeated
     goes c.winner_of-winner.ensures
     (λ none. elim c.else-contested.branch [
       | else-contested-via-then-contested+else-is_none w ↦
@@ -40,10 +47,12 @@ returns-clause-ends g c = λ boot first typed0 typed1 exact lawful leads at stor
     ]))
 
 pub returns-clause-left : goal.returns-clause-left
-returns-clause-left g c = λ boot first typed0 typed1 exact lawful leads at store.
+returns-clause-left g c = λ boot first exact lawful leads at store.
     let p = c.args.primary in
     let b = c.args.backup in
     let parts = c.take_apart-parts.ensures in
+    let parts_typed0 = c.take_apart-parts.result.typed0.items in
+    let parts_typed1 = c.take_apart-parts.result.typed1.items in
     let closed = c.close-closed.result in
     let settled = settled_so _ p.seat.core.known.primary _ b.seat.core.known.backup _
     c.args.terminal.seat.core.known.terminal _ c.args.disk.seat.core.known.disk closed.tail closed.held closed.winner
@@ -53,13 +62,14 @@ returns-clause-left g c = λ boot first typed0 typed1 exact lawful leads at stor
     let goes = c.winner_of-winner.result in
     all_so (λ a b l r n k x y. LeavesBy (booted_from g.B.Lockstep.machine boot (bytes_in first)) a b goes l r
     c.take_apart-parts.result.waiting n k x y)
-    typed0 typed1 p.port0.typed.items p.port1.typed.items _ _ _ _ _ _ _ _ _ _ _ _ leads.0 leads.1
+    parts_typed0 parts_typed1 p.port0.typed.items p.port1.typed.items _ _ _ _ _ _ _ _ _ _ _ _
+    (sym (ap (λ (v : Vec ℕ Global). v.items) parts.typed.0)) (sym (ap (λ (v : Vec ℕ Global). v.items) parts.typed.1))
     (ap (λ (v : Vec Entry Global). v.items) parts.lists.0) (ap (λ (v : Vec Entry Global). v.items) parts.lists.1)
     parts.screens (ap g.D.SectorStore.records parts.disk) (ap g.B.Lockstep.state parts.boards.0)
     (ap g.B.Lockstep.state parts.boards.1)
     (left g.B.Lockstep.state g.B.Lockstep.machine g.met.B.Lockstep.counts g.met.B.Lockstep.operations exact boot first lawful p b
     c.args.terminal.seat.core.known.terminal c.args.disk.seat.core.known.disk closed.tail closed.held closed.winner settled
-    (g.D.SectorStore.records c.args.disk.disk) leads.2 at store c.args.contested c.requires.rests c.requires.repeated
+    (g.D.SectorStore.records c.args.disk.disk) leads at store c.args.contested c.requires.rests c.requires.repeated
     goes c.winner_of-winner.ensures
     (λ none. elim c.else-contested.branch [
       | else-contested-via-then-contested+else-is_none w ↦
@@ -68,10 +78,12 @@ returns-clause-left g c = λ boot first typed0 typed1 exact lawful leads at stor
     ]) c.take_apart-parts.result.waiting parts.waiting)
 
 pub returns-clause-ran : goal.returns-clause-ran
-returns-clause-ran g c = λ boot first typed0 typed1 exact lawful leads kept at store.
+returns-clause-ran g c = λ boot first exact lawful leads kept at store.
     let p = c.args.primary in
     let b = c.args.backup in
     let parts = c.take_apart-parts.ensures in
+    let parts_typed0 = c.take_apart-parts.result.typed0.items in
+    let parts_typed1 = c.take_apart-parts.result.typed1.items in
     let closed = c.close-closed.result in
     let settled = settled_so _ p.seat.core.known.primary _ b.seat.core.known.backup _
     c.args.terminal.seat.core.known.terminal _ c.args.disk.seat.core.known.disk closed.tail closed.held closed.winner
@@ -80,16 +92,35 @@ returns-clause-ran g c = λ boot first typed0 typed1 exact lawful leads kept at 
     c.close-closed.ensures in
     let goes = c.winner_of-winner.result in
     all_so (λ a b l r n k x y. IsOfRun (booted_from g.B.Lockstep.machine boot (bytes_in first)) a b goes l r closed.held n k x y)
-    typed0 typed1 p.port0.typed.items p.port1.typed.items _ _ _ _ _ _ _ _ _ _ _ _ leads.0 leads.1
+    parts_typed0 parts_typed1 p.port0.typed.items p.port1.typed.items _ _ _ _ _ _ _ _ _ _ _ _
+    (sym (ap (λ (v : Vec ℕ Global). v.items) parts.typed.0)) (sym (ap (λ (v : Vec ℕ Global). v.items) parts.typed.1))
     (ap (λ (v : Vec Entry Global). v.items) parts.lists.0) (ap (λ (v : Vec Entry Global). v.items) parts.lists.1)
     parts.screens (ap g.D.SectorStore.records parts.disk) (ap g.B.Lockstep.state parts.boards.0)
     (ap g.B.Lockstep.state parts.boards.1)
     (of_run g.B.Lockstep.state g.B.Lockstep.machine exact boot first lawful p b c.args.terminal.seat.core.known.terminal
     c.args.disk.seat.core.known.disk closed.tail closed.held closed.winner settled (g.D.SectorStore.records c.args.disk.disk)
-    leads.2 kept at store goes c.winner_of-winner.ensures
+    leads kept at store goes c.winner_of-winner.ensures
     (λ none. all_came p (c.requires.rests (elim c.else-contested.branch [
       | else-contested-via-then-contested+else-is_none w ↦
           absurd (false≢true (sym (ap is_some none) ∙ w.is_none.ensures ∙ ap not w.if-is_none.false))
       | else-contested-via-else-contested w ↦ w.if-contested.false
     ])).asks_nothing)
     (let few = c.args.disk.requests in omega (arith, few)))
+
+pub returns-clause-over : goal.returns-clause-over
+returns-clause-over g c = λ typed0 typed1 lines screens keys0 keys1 same shown.
+    let p = c.args.primary in
+    let parts = c.take_apart-parts.ensures in
+    let made = c.take_apart-parts.result in record {
+      keys0 = subst (λ k. IsTyped (typed0, lines.keyboard0) (made.typed0.items, k)) (sym parts.lines.0)
+          (subst (λ (v : Vec ℕ Global). IsTyped (typed0, lines.keyboard0) (v.items, p.port0.keyboard)) (sym parts.typed.0)
+          keys0);
+      keys1 = subst (λ k. IsTyped (typed1, lines.keyboard1) (made.typed1.items, k)) (sym parts.lines.1)
+          (subst (λ (v : Vec ℕ Global). IsTyped (typed1, lines.keyboard1) (v.items, p.port1.keyboard)) (sym parts.typed.1)
+          keys1);
+      same = subst (λ (s : Screen). IsSameStart lines.screen.ring s.ring) (sym parts.lines.2) same;
+      shown = λ before. subst (λ (s : Screen). EachScreen (HasShown s) 0 (map (λ v. v.items) made.accepted))
+          (sym parts.lines.2)
+          (subst (EachScreen (HasShown c.args.terminal.screen) 0) (sym parts.accepted)
+          ((shown before).0, ((shown before).1, tt)));
+    }

@@ -1,25 +1,28 @@
 -- The disk's worker begins with what was booted; and the workers' ends are of what was given to them.
-use Rattle.std.proofs.Common.{ap, sym, subst, true, ◌∙◌, Vec, Global, ℕ}
+use Rattle.std.proofs.Common.{ap, sym, subst, true, ◌∙◌, [], ◌∷◌}
 use Rattle.pair_rule.specs.Seats.{Seat}
 use Rattle.pair_threads.specs.declared.plan.Plan.{Plan}
 use Rattle.pair_rule.specs.declared.view.Core.{Core}
 use Rattle.pair_threads.specs.Repeating.{IsAt}
 use Rattle.pair_threads.specs.Stores.{IsStore, bytes_in}
 use Rattle.shared_disk.specs.Records.{IsUnwritten}
+use Rattle.pair_threads.specs.Typing.{IsTyped, typed_with}
 use Rattle.pair_threads.proofs.Ending.{on_ok}
+use Rattle.pair_threads.proofs.Showing.{shows_began}
+use Rattle.pair_threads.proofs.Typing.{typed_began}
 use Rattle.pair_threads.proofs.Serving.{first_disk}
-use Rattle.pair_threads.proofs.run.run_generation.Goals as goal
+use Rattle.pair_threads.proofs.run.run_generation_over.Goals as goal
 
 pub work-served-requires-clause-disk : goal.work-served-requires-clause-disk
 work-served-requires-clause-disk g c κs within =
-    let made = c.new-5.ensures in
+    let made = c.new-7.ensures in
     let opened = c.in_ok-fabric.ensures in
-    let store = first_disk (g.D.SectorStore.records c.new-5.result.disk) c.new-5.result.seat.core.known.disk
+    let store = first_disk (g.D.SectorStore.records c.new-7.result.disk) c.new-7.result.seat.core.known.disk
     (ap (λ (x : Seat). x.core.known.disk.puts) made.seat ∙ ap (λ (x : Core). x.known.disk.puts) opened.disk)
     (ap (λ (x : Seat). x.core.known.disk.given) made.seat ∙ ap (λ (x : Core). x.known.disk.given) opened.disk)
     (subst IsUnwritten (sym (ap g.D.SectorStore.records made.disk)) c.requires.unwritten) in (
       ap (λ (x : Seat). x.table) made.seat ∙ opened.one.4,
-      (bytes_in (g.D.SectorStore.records c.new-5.result.disk), store),
+      (bytes_in (g.D.SectorStore.records c.new-7.result.disk), store),
       λ boots same. same,
     )
 
@@ -28,69 +31,69 @@ returns-clause-ends g c =
     let served = c.work-served in
     let state = g.B.Lockstep.state in
     let records = g.D.SectorStore.records in
-    let made = c.new-5.ensures in
+    let made = c.new-7.ensures in
     let opened = c.in_ok-fabric.ensures in
-    let store = first_disk (records c.new-5.result.disk) c.new-5.result.seat.core.known.disk
+    let store = first_disk (records c.new-7.result.disk) c.new-7.result.seat.core.known.disk
     (ap (λ (x : Seat). x.core.known.disk.puts) made.seat ∙ ap (λ (x : Core). x.known.disk.puts) opened.disk)
     (ap (λ (x : Seat). x.core.known.disk.given) made.seat ∙ ap (λ (x : Core). x.known.disk.given) opened.disk)
     (subst IsUnwritten (sym (ap records made.disk)) c.requires.unwritten) in
-    c.finish.ensures.ends (state c.args.workers.primary) (records c.args.workers.disk) c.args.workers.typed0.items
-    c.args.workers.typed1.items true c.requires.lawful
-    (on_ok served.result.primary.1 (λ end. (
-      ap (λ (v : Vec ℕ Global). v.items) (end.0.1 ∙ c.new.ensures.plan.1),
-      ap (λ (v : Vec ℕ Global). v.items) (end.0.2 ∙ c.new.ensures.plan.2),
-      end.0.4 (state c.args.workers.primary) c.new.ensures.leads,
-    )) served.ensures.primary.1)
+    c.finish.ensures.ends (state c.args.workers.primary) (records c.args.workers.disk) true c.requires.lawful
+    (on_ok served.result.primary.1 (λ end. end.0.4 (state c.args.workers.primary) c.new-3.ensures.leads)
+    served.ensures.primary.1)
     (on_ok served.result.backup.1
     (λ end. end.0.2 true (state c.args.workers.primary)
-    (subst (λ b. IsAt state g.B.Lockstep.machine true b c.new-3.result.guest) c.requires.alike (c.new-3.ensures.at true)))
+    (subst (λ b. IsAt state g.B.Lockstep.machine true b c.new-5.result.guest) c.requires.alike (c.new-5.ensures.at true)))
     served.ensures.backup.1)
     (on_ok served.result.disk.1
     (λ end. subst (λ r. IsStore (bytes_in r) (records served.result.disk.0.disk) served.result.disk.0.seat.core.known.disk)
-    (ap records c.new-5.ensures.disk) (end.0 (bytes_in (records c.new-5.result.disk)) store)) served.ensures.disk.1)
+    (ap records c.new-7.ensures.disk) (end.0 (bytes_in (records c.new-7.result.disk)) store)) served.ensures.disk.1)
 
 pub returns-clause-left : goal.returns-clause-left
 returns-clause-left g c =
     let served = c.work-served in
     let state = g.B.Lockstep.state in
     let records = g.D.SectorStore.records in
-    let made = c.new-5.ensures in
+    let made = c.new-7.ensures in
     let opened = c.in_ok-fabric.ensures in
-    let store = first_disk (records c.new-5.result.disk) c.new-5.result.seat.core.known.disk
+    let store = first_disk (records c.new-7.result.disk) c.new-7.result.seat.core.known.disk
     (ap (λ (x : Seat). x.core.known.disk.puts) made.seat ∙ ap (λ (x : Core). x.known.disk.puts) opened.disk)
     (ap (λ (x : Seat). x.core.known.disk.given) made.seat ∙ ap (λ (x : Core). x.known.disk.given) opened.disk)
     (subst IsUnwritten (sym (ap records made.disk)) c.requires.unwritten) in
-    c.finish.ensures.left (state c.args.workers.primary) (records c.args.workers.disk) c.args.workers.typed0.items
-    c.args.workers.typed1.items true c.requires.lawful
-    (on_ok served.result.primary.1 (λ end. (
-      ap (λ (v : Vec ℕ Global). v.items) (end.0.1 ∙ c.new.ensures.plan.1),
-      ap (λ (v : Vec ℕ Global). v.items) (end.0.2 ∙ c.new.ensures.plan.2),
-      end.0.4 (state c.args.workers.primary) c.new.ensures.leads,
-    )) served.ensures.primary.1)
+    c.finish.ensures.left (state c.args.workers.primary) (records c.args.workers.disk) true c.requires.lawful
+    (on_ok served.result.primary.1 (λ end. end.0.4 (state c.args.workers.primary) c.new-3.ensures.leads)
+    served.ensures.primary.1)
     (on_ok served.result.backup.1
     (λ end. end.0.2 true (state c.args.workers.primary)
-    (subst (λ b. IsAt state g.B.Lockstep.machine true b c.new-3.result.guest) c.requires.alike (c.new-3.ensures.at true)))
+    (subst (λ b. IsAt state g.B.Lockstep.machine true b c.new-5.result.guest) c.requires.alike (c.new-5.ensures.at true)))
     served.ensures.backup.1)
     (on_ok served.result.disk.1
     (λ end. subst (λ r. IsStore (bytes_in r) (records served.result.disk.0.disk) served.result.disk.0.seat.core.known.disk)
-    (ap records c.new-5.ensures.disk) (end.0 (bytes_in (records c.new-5.result.disk)) store)) served.ensures.disk.1)
+    (ap records c.new-7.ensures.disk) (end.0 (bytes_in (records c.new-7.result.disk)) store)) served.ensures.disk.1)
 
-pub returns-clause-typed : goal.returns-clause-typed
-returns-clause-typed g c =
+pub returns-clause-over : goal.returns-clause-over
+returns-clause-over g c =
     let served = c.work-served in
-    c.finish.ensures.typed c.args.workers.typed0.items c.args.workers.typed1.items
+    let workers = c.args.workers in
+    let lines = c.args.lines in
+    let first = typed_began workers.typed0 lines.keyboard0 c.new.result c.new.ensures.0 c.new.ensures.3 in
+    let second = typed_began workers.typed1 lines.keyboard1 c.new-2.result c.new-2.ensures.0 c.new-2.ensures.3 in
+    c.finish.ensures.over workers.typed0.items workers.typed1.items lines ([] ∷ [] ∷ [])
     (on_ok served.result.primary.1 (λ end. (
-      ap (λ (v : Vec ℕ Global). v.items) (end.0.1 ∙ c.new.ensures.plan.1),
-      ap (λ (v : Vec ℕ Global). v.items) (end.0.2 ∙ c.new.ensures.plan.2),
+      first (typed_with served.result.primary.0.port0)
+          (subst (λ p. IsTyped (typed_with p) (typed_with served.result.primary.0.port0)) c.new-3.ensures.plan.1 end.0.1),
+      second (typed_with served.result.primary.0.port1)
+          (subst (λ p. IsTyped (typed_with p) (typed_with served.result.primary.0.port1)) c.new-3.ensures.plan.2 end.0.2),
     )) served.ensures.primary.1)
+    (on_ok served.result.terminal.1 (λ end. shows_began lines.screen [] [] c.new-6.result served.result.terminal.0
+    c.new-6.ensures.seat.1 c.new-6.ensures.accepted.0 c.new-6.ensures.accepted.1 end.0) served.ensures.terminal.1)
 
 pub returns-clause-decided : goal.returns-clause-decided
 returns-clause-decided g c =
     let served = c.work-served in
     c.finish.ensures.decided c.args.workers.primary_contests c.args.workers.backup_contests
-    (on_ok served.result.primary.1 (λ end. ap (λ (p : Plan). p.contests_at) (end.0.0 ∙ c.new.ensures.plan.0)
+    (on_ok served.result.primary.1 (λ end. ap (λ (p : Plan). p.contests_at) (end.0.0 ∙ c.new-3.ensures.plan.0)
     ∙ c.new-lead.ensures.asks.0) served.ensures.primary.1)
-    (on_ok served.result.backup.1 (λ end. ap (λ (p : Plan). p.contests_at) (end.0.0 ∙ c.new-3.ensures.plan.0)
+    (on_ok served.result.backup.1 (λ end. ap (λ (p : Plan). p.contests_at) (end.0.0 ∙ c.new-5.ensures.plan.0)
     ∙ c.new-follow.ensures.asks.0) served.ensures.backup.1)
 
 pub returns-clause-ran : goal.returns-clause-ran
@@ -98,25 +101,21 @@ returns-clause-ran g c =
     let served = c.work-served in
     let state = g.B.Lockstep.state in
     let records = g.D.SectorStore.records in
-    let made = c.new-5.ensures in
+    let made = c.new-7.ensures in
     let opened = c.in_ok-fabric.ensures in
-    let store = first_disk (records c.new-5.result.disk) c.new-5.result.seat.core.known.disk
+    let store = first_disk (records c.new-7.result.disk) c.new-7.result.seat.core.known.disk
     (ap (λ (x : Seat). x.core.known.disk.puts) made.seat ∙ ap (λ (x : Core). x.known.disk.puts) opened.disk)
     (ap (λ (x : Seat). x.core.known.disk.given) made.seat ∙ ap (λ (x : Core). x.known.disk.given) opened.disk)
     (subst IsUnwritten (sym (ap records made.disk)) c.requires.unwritten) in
-    c.finish.ensures.ran (state c.args.workers.primary) (records c.args.workers.disk) c.args.workers.typed0.items
-    c.args.workers.typed1.items true c.requires.lawful
-    (on_ok served.result.primary.1 (λ end. (
-      ap (λ (v : Vec ℕ Global). v.items) (end.0.1 ∙ c.new.ensures.plan.1),
-      ap (λ (v : Vec ℕ Global). v.items) (end.0.2 ∙ c.new.ensures.plan.2),
-      end.0.4 (state c.args.workers.primary) c.new.ensures.leads,
-    )) served.ensures.primary.1)
+    c.finish.ensures.ran (state c.args.workers.primary) (records c.args.workers.disk) true c.requires.lawful
+    (on_ok served.result.primary.1 (λ end. end.0.4 (state c.args.workers.primary) c.new-3.ensures.leads)
+    served.ensures.primary.1)
     (on_ok served.result.primary.1
-    (λ end. end.0.5 (state c.args.workers.primary) c.new.ensures.leads c.new.ensures.keeps) served.ensures.primary.1)
+    (λ end. end.0.5 (state c.args.workers.primary) c.new-3.ensures.leads c.new-3.ensures.keeps) served.ensures.primary.1)
     (on_ok served.result.backup.1
     (λ end. end.0.2 true (state c.args.workers.primary)
-    (subst (λ b. IsAt state g.B.Lockstep.machine true b c.new-3.result.guest) c.requires.alike (c.new-3.ensures.at true)))
+    (subst (λ b. IsAt state g.B.Lockstep.machine true b c.new-5.result.guest) c.requires.alike (c.new-5.ensures.at true)))
     served.ensures.backup.1)
     (on_ok served.result.disk.1
     (λ end. subst (λ r. IsStore (bytes_in r) (records served.result.disk.0.disk) served.result.disk.0.seat.core.known.disk)
-    (ap records c.new-5.ensures.disk) (end.0 (bytes_in (records c.new-5.result.disk)) store)) served.ensures.disk.1)
+    (ap records c.new-7.ensures.disk) (end.0 (bytes_in (records c.new-7.result.disk)) store)) served.ensures.disk.1)
