@@ -1,7 +1,7 @@
 -- The guest of a backup's worker: entries that arrive leave what it has repeated as it was; steps towards an entry keep it,
 -- and the entry's own move adds the entry.
 use Rattle.std.proofs.Common.{◌≡◌, ◌⊎◌, inl, inr, ℕ, zero, suc, ◌+◌, ◌<◌, ◌≤◌, Bool, true, false, Option, Some, None, Ok, Err, List, [], ◌∷◌, ◌++◌, length, take, get_or, refl, sym, ap, subst, ◌∙◌, arith}
-use Rattle.std.specs.Prelude.{IsSome, is_some, slice_get}
+use Rattle.std.specs.Prelude.{is_some, slice_get}
 use Rattle.std.proofs.Math.Seq.{take-suc}
 use Rattle.std.proofs.lemmas.List.{take-append-le}
 use Rattle.guest_lockstep.specs.Lockstep.{StepsUnless, step_refusal}
@@ -16,7 +16,8 @@ use Rattle.replayer.specs.declared.following.Followed.{Followed}
 use Rattle.replayer.specs.declared.following.Followed.TheVariants.{Differs, Stepped}
 use Rattle.replayer.proofs.FollowedEntries.{following_is_recording}
 use Rattle.pair_rule.specs.Seats.{Seat}
-use Rattle.pair_threads.specs.Ending.{HasAsked}
+use Rattle.pair_threads.specs.Asking.{AsksIn, HasAsked, MayAsk}
+use Rattle.pair_threads.proofs.Asking.{asks_so}
 use Rattle.pair_threads.specs.Repeating.{FollowsFor, GoesOn, IsAt, IsStuck, Repeats}
 use Rattle.pair_threads.specs.declared.backup.BackupWorker.{BackupWorker}
 use Rattle.pair_threads.specs.declared.plan.Plan.{Plan}
@@ -91,23 +92,24 @@ refused_there state M r e turns fault t follows = go (step_refusal M (state r.bo
 
 -- it has come from the first worker by way of another
 module _ {B S : Type 0} (state : B → S) (M : Machine S) (first old new : BackupWorker B) (same : new.plan ≡ old.plan)
-    (came : (old.plan ≡ first.plan) × HasAsked old.plan.contests_at old.seat.core.known.backup.winner
+    (came : (old.plan ≡ first.plan) × HasAsked old.plan.asking old.seat.core.known.backup.winner
     × GoesOn state M first.guest old.guest) where
-  pub comes_on : HasAsked new.plan.contests_at new.seat.core.known.backup.winner → GoesOn state M old.guest new.guest
-      → (new.plan ≡ first.plan) × HasAsked new.plan.contests_at new.seat.core.known.backup.winner
+  pub comes_on : HasAsked new.plan.asking new.seat.core.known.backup.winner → GoesOn state M old.guest new.guest
+      → (new.plan ≡ first.plan) × HasAsked new.plan.asking new.seat.core.known.backup.winner
       × GoesOn state M first.guest new.guest
   comes_on asked goes = (same ∙ came.0, asked, λ exact boot at. goes exact boot (came.2 exact boot at))
 
   -- its seat is as it was
-  pub still_asked : new.seat ≡ old.seat → HasAsked new.plan.contests_at new.seat.core.known.backup.winner
+  pub still_asked : new.seat ≡ old.seat → HasAsked new.plan.asking new.seat.core.known.backup.winner
   still_asked seat =
-      subst (λ (p : Plan). HasAsked p.contests_at new.seat.core.known.backup.winner) (sym same)
-      (subst (λ (s : Seat). HasAsked old.plan.contests_at s.core.known.backup.winner) (sym seat) came.1)
+      subst (λ (p : Plan). HasAsked p.asking new.seat.core.known.backup.winner) (sym same)
+      (subst (λ (s : Seat). HasAsked old.plan.asking s.core.known.backup.winner) (sym seat) came.1)
 
-  -- it asks at its turn
-  pub asks_now : (number : ℕ) → old.plan.contests_at ≡ Some number
-      → HasAsked new.plan.contests_at new.seat.core.known.backup.winner
-  asks_now number at = inr (subst IsSome (sym (ap (λ (p : Plan). p.contests_at) same ∙ at)) refl)
+  -- it asks in its turn
+  pub asks_now : (number : ℕ) (told : Bool) → AsksIn old.plan.asking number told
+      → HasAsked new.plan.asking new.seat.core.known.backup.winner
+  asks_now number told asks =
+      inr (subst (λ (p : Plan). MayAsk p.asking) (sym same) (asks_so old.plan.asking number told asks))
 
 -- a guest that is as it was goes on
 pub goes_same : {B S : Type 0} (state : B → S) (M : Machine S) (old new : Repeater B) → new ≡ old → GoesOn state M old new

@@ -1,6 +1,6 @@
 -- What each call of its seat leaves of a primary's view, and that its guest still leads under it.
-use Rattle.std.proofs.Common.{◌≡◌, ℕ, zero, suc, ◌+◌, ◌≤◌, inl, inr, List, [], ◌∷◌, ◌++◌, length, Some, None, refl, sym, ap, subst, ◌∙◌, arith, Option, take, Vec, Global, vec_len}
-use Rattle.std.specs.Prelude.{◌-◌, IsSome, slice_get}
+use Rattle.std.proofs.Common.{◌≡◌, ℕ, zero, suc, ◌+◌, ◌≤◌, inl, inr, List, [], ◌∷◌, ◌++◌, length, Some, None, refl, sym, ap, subst, ◌∙◌, arith, take, Vec, Global, vec_len}
+use Rattle.std.specs.Prelude.{◌-◌, slice_get}
 use Rattle.disk_dcdd.specs.declared.address.SectorAddress.{SectorAddress}
 use Rattle.disk_dcdd.specs.declared.sector.SectorWrite.{SectorWrite}
 use Rattle.event_callbacks.specs.declared.operations.OpId.{OpId}
@@ -27,7 +27,7 @@ use Rattle.pair_rule.specs.Knowledge as knowledge
 use Rattle.pair_rule.specs.Knowledge.{appended}
 use Rattle.pair_rule.specs.Seats.{Empties, Fills, Seat}
 use Rattle.pair_rule.specs.Shown.{IsAcknowledged}
-use Rattle.pair_threads.specs.Ending.{HasAsked}
+use Rattle.pair_threads.specs.Asking.{HasAsked}
 use Rattle.pair_threads.specs.Leading.{AreAnswers, IdlesIf, IsLeading, Leads, Says, by_port, with_waiting}
 use Rattle.pair_threads.specs.Primary.{CallsKept, MayAsk, WorkerKeeps, WorkerLeads, Works, keys_taken}
 use Rattle.pair_threads.specs.Typing.{HasHeard, HasListened, IsTyped, Notes, typed_with}
@@ -306,7 +306,7 @@ module _ {B S : Type 0} (state : B → S) (M : Machine S) (counts : Counts M) (l
 abbrev pub Came : {B S : Type 0} → (B → S) → Machine S → PrimaryWorker B → PrimaryWorker B → Type 0
 Came {B} {S} state M first w =
     (w.plan ≡ first.plan) × HasHeard first.port0 w.port0 × HasHeard first.port1 w.port1
-    × HasAsked w.plan.contests_at w.seat.core.known.primary.winner
+    × HasAsked w.plan.asking w.seat.core.known.primary.winner
     × ((boot : S) → WorkerLeads state M boot first → WorkerLeads state M boot w)
     × ((boot : S) → WorkerLeads state M boot first → WorkerKeeps M boot first → WorkerKeeps M boot w)
 
@@ -316,8 +316,8 @@ came_on state M first old new came works = (
   works.2 ∙ came.0,
   subst (IsTyped (typed_with first.port0)) (sym works.3) came.1,
   subst (IsTyped (typed_with first.port1)) (sym works.4) came.2,
-  subst (λ (p : Plan). HasAsked p.contests_at new.seat.core.known.primary.winner) (sym works.2)
-      (subst (HasAsked old.plan.contests_at) (sym works.1) came.3),
+  subst (λ (p : Plan). HasAsked p.asking new.seat.core.known.primary.winner) (sym works.2)
+      (subst (HasAsked old.plan.asking) (sym works.1) came.3),
   λ boot leads. works.5 boot (came.4 boot leads),
   λ boot leads kept. works.6 boot (came.4 boot leads) (came.5 boot leads kept),
 )
@@ -367,16 +367,11 @@ module _ {B S : Type 0} (state : B → S) (M : Machine S) (old new : PrimaryWork
     listened.work.3 ∙ came.0,
     typed_on (typed_with first.port0) (typed_with old.port0) (typed_with new.port0) came.1 listened.port0.heard,
     typed_on (typed_with first.port1) (typed_with old.port1) (typed_with new.port1) came.2 listened.port1.heard,
-    subst (λ (p : Plan). HasAsked p.contests_at new.seat.core.known.primary.winner) (sym listened.work.3)
-        (subst (λ (s : Seat). HasAsked old.plan.contests_at s.core.known.primary.winner) (sym listened.work.0) came.3),
+    subst (λ (p : Plan). HasAsked p.asking new.seat.core.known.primary.winner) (sym listened.work.3)
+        (subst (λ (s : Seat). HasAsked old.plan.asking s.core.known.primary.winner) (sym listened.work.0) came.3),
     λ boot leads. leads_heard boot (came.4 boot leads),
     λ boot leads kept. keeps_heard boot (came.5 boot leads kept),
   )
-
--- a turn at which it is to ask
-pub some_at : (o : Option ℕ) (n : ℕ) → o ≡ Some n → IsSome o
-some_at None n is = absurd cc
-some_at (Some m) n is = refl
 
 -- a worker that asks who goes on alone
 module _ {B S : Type 0} (state : B → S) (M : Machine S) (counts : Counts M) (laws : ComesAndGoes M)

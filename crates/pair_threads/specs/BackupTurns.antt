@@ -1,5 +1,5 @@
 -- What the turns of a backup are.
-use Rattle.std.specs.Prelude.{◌≡◌, ◌≢◌, ◌⊎◌, ◌||◌, not, ℕ, Bool, true, false, if◌then◌else◌, Option, Some, is_some, option_map}
+use Rattle.std.specs.Prelude.{◌≡◌, ◌⊎◌, ◌||◌, not, ℕ, Bool, true, false, if◌then◌else◌, Option, is_some, option_map}
 use Rattle.pair_rule.specs.declared.mailbox.Mailbox.TheVariants.{Inbox}
 use Rattle.pair_rule.specs.declared.payload.Packet.{Packet}
 use Rattle.pair_rule.specs.declared.payload.Payload.TheVariants.{Log}
@@ -7,8 +7,10 @@ use Rattle.pair_rule.specs.declared.view.Core.{Core}
 use Rattle.pair_rule.specs.Seats.{Empties}
 use Rattle.pair_threads.specs.declared.backup.Chore.{Chore}
 use Rattle.pair_threads.specs.declared.backup.Chore.TheVariants.{Take, Hold, Replay}
+use Rattle.pair_threads.specs.declared.plan.Asking.{Asking}
 use Rattle.pair_threads.specs.declared.worker.Turn.{Turn}
 use Rattle.pair_threads.specs.declared.worker.Turn.TheVariants.{Moved, Looks, Waits, Ends}
+use Rattle.pair_threads.specs.Asking.{AsksIn}
 
 -- it takes, acknowledges and repeats, in rotation
 abbrev pub next_chore : Chore → Chore
@@ -39,8 +41,8 @@ turn_of_asking won = if won then Moved else Ends
 abbrev pub turn_of_draining : Bool → Turn
 turn_of_draining all = if all then Ends else Moved
 
--- a turn of this number: by whether it had won, and whether it was planned to ask in it
-abbrev pub IsTurn : Bool → Option ℕ → ℕ → Bool → Bool → Type 0 → Turn → Type 0
-IsTurn true contests_at number all won follows turn = turn ≡ turn_of_draining all
-IsTurn false contests_at number all won follows turn =
-    ((contests_at ≡ Some number) × (turn ≡ turn_of_asking won)) ⊎ ((contests_at ≢ Some number) × follows)
+-- a turn of this number: by whether it had won, and whether it was to ask in it
+abbrev pub IsTurn : Bool → Asking → ℕ → Bool → Bool → Bool → Type 0 → Turn → Type 0
+IsTurn true asking number told all won follows turn = turn ≡ turn_of_draining all
+IsTurn false asking number told all won follows turn =
+    (AsksIn asking number told × (turn ≡ turn_of_asking won)) ⊎ ((AsksIn asking number told → ⊥) × follows)

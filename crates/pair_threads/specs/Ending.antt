@@ -24,10 +24,6 @@ winner_named zero = None
 winner_named (suc zero) = Some Primary
 winner_named (suc (suc n)) = Some Backup
 
--- a seat whose view names a winner has asked, so it was planned to ask at a turn
-abbrev pub HasAsked : Option ℕ → ℕ → Type 0
-HasAsked contests_at winner = (winner ≡ 0) ⊎ IsSome contests_at
-
 -- whoever goes on alone was planned to ask at a turn; if nobody does, nobody was planned to
 abbrev pub WonBy : Option ℕ → Option ℕ → Option Who → Type 0
 WonBy primary_contests backup_contests None = (primary_contests ≡ None) × (backup_contests ≡ None)

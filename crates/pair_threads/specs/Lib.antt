@@ -1,3 +1,4 @@
+pub mod Asking
 pub mod Turns
 pub mod Typing
 pub mod Choosing

@@ -22,6 +22,7 @@ use Rattle.pair_threads.specs.declared.port_inputs.PortInputs.{PortInputs}
 use Rattle.pair_threads.specs.declared.recording.Recording.{Recording}
 use Rattle.pair_threads.specs.declared.worker.Turn.{Turn}
 use Rattle.pair_threads.specs.declared.worker.Turn.TheVariants.{Ends, Moved, Waits}
+use Rattle.pair_threads.specs.Asking.{AsksIn}
 use Rattle.pair_threads.specs.Choosing.{accepted_of, at_other, counted_of, emitted_of, fruitless_after, may_accept, next_chore, to_append, to_emit, turn_after}
 use Rattle.pair_threads.specs.Ending.{NoSectorIsDue}
 use Rattle.pair_threads.specs.Leading.{IsLeading, by_port}
@@ -165,10 +166,10 @@ DoesNext state M None old new turn = HasDone state M old new turn
 
 -- what a turn of this number was: in the turn in which it asks to go on alone it is at its end; before a chore it notes the keys
 -- that have come
-abbrev pub HasHadTurn : {B S : Type 0} → (B → S) → Machine S → PrimaryWorker B → ℕ → PrimaryWorker B → Turn → Type 0
-HasHadTurn {B} state M old number new turn =
-    ((old.plan.contests_at ≡ Some number) × (turn ≡ Ends))
-    ⊎ ((old.plan.contests_at ≢ Some number) × ((heard : PrimaryWorker B) × HasListened old heard
+abbrev pub HasHadTurn : {B S : Type 0} → (B → S) → Machine S → PrimaryWorker B → ℕ → Bool → PrimaryWorker B → Turn → Type 0
+HasHadTurn {B} state M old number told new turn =
+    (AsksIn old.plan.asking number told × (turn ≡ Ends))
+    ⊎ ((AsksIn old.plan.asking number told → ⊥) × ((heard : PrimaryWorker B) × HasListened old heard
     × DoesNext state M (to_append old) heard new turn))
 
 -- its guest idles with all keys taken, no more to come and no sector due, nothing is outstanding, the disk is not asked, all that it

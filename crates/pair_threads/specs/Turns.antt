@@ -1,5 +1,5 @@
 -- What a turn of a worker leaves.
-use Rattle.std.specs.Prelude.{◌≡◌, ◌≢◌, ◌↔◌, ◌||◌, ℕ, Bool, true, false, if◌then◌else◌, Option, Some, Result, Ok, Err}
+use Rattle.std.specs.Prelude.{◌||◌, ℕ, Bool, true, false, if◌then◌else◌, Result, Ok, Err}
 use Rattle.guest_lockstep.specs.Machine.{Machine}
 use Rattle.guest_lockstep.specs.Running.{RunsOn}
 use Rattle.guest_lockstep.specs.declared.running.Stopped.{Stopped}
@@ -23,10 +23,6 @@ turn_by had has = if had || has then Moved else Waits
 abbrev pub disk_turn : Bool → Bool → Turn
 disk_turn false has = if has then Moved else Waits
 disk_turn true has = if has then Waits else Moved
-
--- who has not asked to go on alone asks in the turn at which it is planned to, and in no other
-abbrev pub AsksAt : Option ℕ → ℕ → ℕ → ℕ → Type 0
-AsksAt contests_at number before after = before ≡ 0 → ((after ≢ 0) ↔ (contests_at ≡ Some number))
 
 -- a guest runs by itself, as many steps as it may make
 abbrev pub RunsFor : {S : Type 0} → Machine S → S → ℕ → S → Type 0

@@ -239,36 +239,36 @@ impl<B: Lockstep> BackupWorker<B> {
 
 impl<B: Lockstep> Worker for BackupWorker<B> {
     ghost use Rattle.std.specs.Prelude.{◌≡◌, ◌⊎◌, ◌&&◌, ◌||◌, not, cond, false, vec_len};
-    ghost use Rattle.pair_threads.specs.Ending.{HasAsked};
+    ghost use Rattle.pair_threads.specs.Asking.{AsksAt, HasAsked};
     ghost use Rattle.pair_threads.specs.Repeating.{GoesOn, has_all};
     ghost use Rattle.pair_threads.specs.BackupTurns.{IsTurn, IsTurnOf};
-    ghost use Rattle.pair_threads.specs.Turns.{AsksAt};
 
     ghost table = { λ w. w.seat.table };
 
     ghost ready = { λ w. w.seat.core.known.backup.winner ≡ cond w.won 2 0 };
 
-    ghost came = { λ first w. (w.plan ≡ first.plan) × HasAsked w.plan.contests_at w.seat.core.known.backup.winner
+    ghost came = { λ first w. (w.plan ≡ first.plan) × HasAsked w.plan.asking w.seat.core.known.backup.winner
         × GoesOn B.state B.machine first.guest w.guest };
 
     ghost ended = { λ w. (w.plan.contested ≡ false) ⊎ (w.seat.core.known.backup.winner ≡ 2)
         → w.guest.replayed ≡ vec_len w.guest.list };
 
-    ghost asks = { λ old number new.
-        AsksAt old.plan.contests_at number old.seat.core.known.backup.winner new.seat.core.known.backup.winner };
+    ghost asks = { λ old number told new.
+        AsksAt old.plan.asking number told old.seat.core.known.backup.winner new.seat.core.known.backup.winner };
 
-    ghost turned = { λ old number new turn. IsTurn old.won old.plan.contests_at number (has_all old.guest) new.won
+    ghost turned = { λ old number told new turn. IsTurn old.won old.plan.asking number told (has_all old.guest) new.won
         (IsTurnOf old.chore old.seat.core new.seat.core (has_all new.guest) turn) turn };
 
-    ghost ends_by = { λ w told. not w.won && told.primary_ended && (w.plan.contested || has_all w.guest) };
+    ghost ends_by = { λ w told. not w.won && told.primary_ended
+        && (not (not w.plan.contested || w.plan.watched) || has_all w.guest) };
 
     ghost needs_others = { λ w. false };
 
-    fn turn(&mut self, fabric: &Fabric, number: u64) -> R<Turn> {
+    fn turn(&mut self, fabric: &Fabric, number: u64, told: bool) -> R<Turn> {
         if self.won {
             return self.drain();
         }
-        if self.plan.asks_at(number) {
+        if self.plan.asks_at(number, told) {
             return Ok(self.contest(fabric));
         }
         self.follow(fabric)
@@ -278,7 +278,7 @@ impl<B: Lockstep> Worker for BackupWorker<B> {
         if self.won || !told.primary_ended {
             return false;
         }
-        self.plan.contested || self.guest.has_replayed_all()
+        !self.plan.may_rest() || self.guest.has_replayed_all()
     }
 
     fn is_held_up(&self) -> bool {

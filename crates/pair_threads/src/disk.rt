@@ -107,15 +107,15 @@ impl<D: SectorStore> Worker for DiskWorker<D> {
 
     ghost ended = { λ w. Unit {0} };
 
-    ghost asks = { λ old number new. Unit {0} };
+    ghost asks = { λ old number told new. Unit {0} };
 
-    ghost turned = { λ old number new turn. turn ≡ disk_turn (is_some old.request) (is_some new.request) };
+    ghost turned = { λ old number told new turn. turn ≡ disk_turn (is_some old.request) (is_some new.request) };
 
     ghost ends_by = { λ w told. told.primary_ended && told.backup_ended };
 
     ghost needs_others = { λ w. false };
 
-    fn turn(&mut self, fabric: &Fabric, _number: u64) -> R<Turn> {
+    fn turn(&mut self, fabric: &Fabric, _number: u64, _told: bool) -> R<Turn> {
         if !self.seat.has_swaps_left() {
             return Err(Fault::Stalled);
         }

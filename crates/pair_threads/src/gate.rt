@@ -11,11 +11,16 @@ pub enum Who {
 }
 
 /// A caller's hold on the turns. Each worker counts its turns from 0. A gate may wait; the run ends as stalled if `enter`
-/// returns false.
+/// returns false. In a watched generation the gate also detects failures: a worker for which `suspects` is true is told that its peer has
+/// failed, and asks to go on alone.
 pub trait Gate {
     fn enter(&self, who: Who, turn: u64) -> bool;
 
     fn leave(&self, who: Who, turn: u64);
+
+    fn suspects(&self, _who: Who) -> bool {
+        false
+    }
 }
 
 /// A gate that holds nobody.

@@ -6,7 +6,8 @@ ghost use Rattle.pair_protocol.specs.Lawful.{Lawful};
 ghost use Rattle.pair_rule.specs.Knowledge.{StartsWith};
 ghost use Rattle.pair_rule.specs.Rules.{IsStart};
 ghost use Rattle.pair_rule.specs.Threads.{bytes_accepted};
-ghost use Rattle.pair_threads.specs.Ending.{EndsBy, IsEnding, NoneUnderWay, WonBy};
+ghost use Rattle.pair_threads.specs.Asking.{MayBeWatched, WonOver};
+ghost use Rattle.pair_threads.specs.Ending.{EndsBy, IsEnding, NoneUnderWay};
 ghost use Rattle.pair_threads.specs.Leading.{by_port};
 ghost use Rattle.pair_threads.specs.Left.{LeavesBy};
 ghost use Rattle.pair_threads.specs.Resuming.{BeginsAt};
@@ -20,7 +21,7 @@ use crate::disk::DiskWorker;
 use crate::gate::Gate;
 use crate::join::{Five, work};
 use crate::link::LinkWorker;
-use crate::plan::Plan;
+use crate::plan::plans_of;
 use crate::port_inputs::PortInputs;
 use crate::primary::PrimaryWorker;
 use crate::run::finish;
@@ -43,7 +44,14 @@ pub fn run_generation_at<
     D: SectorStore + Send,
     G: Gate + Sync,
     T: Threads + Clock + Sync,
->(rt: &T, alloc: Global, resumed: Resumed<B, D>, gate: &G, turns: u64) -> R<GenerationEnd<B, D>>
+>(
+    rt: &T,
+    alloc: Global,
+    resumed: Resumed<B, D>,
+    watched: bool,
+    gate: &G,
+    turns: u64,
+) -> R<GenerationEnd<B, D>>
     requires start { IsStart resumed.start.generation resumed.start.entries resumed.start.accepted0 resumed.start.accepted1
         resumed.start.known.known }
     requires lists { (resumed.primary_list.items ≡ resumed.start.known.known.primary.list)
@@ -57,8 +65,10 @@ pub fn run_generation_at<
     requires taken { (resumed.taken.0 ≤ vec_len resumed.workers.typed0) × (resumed.taken.1 ≤ vec_len resumed.workers.typed1) }
     requires store { (boots : SectorAddress → List ℕ)
         × IsStore boots (D.records resumed.workers.disk) resumed.start.known.known.disk }
+    requires watched { MayBeWatched watched resumed.workers.primary_contests resumed.workers.backup_contests }
     ensures refused { IfErr result IsEnding }
-    ensures decided { IfOk result (λ e. WonBy resumed.workers.primary_contests resumed.workers.backup_contests e.winner) }
+    ensures decided { IfOk result (λ e. WonOver watched resumed.workers.primary_contests resumed.workers.backup_contests
+        e.winner) }
     ensures prefix { IfOk result (λ e. StartsWith e.primary.items e.backup.items) }
     ensures ends { (boot : B.State) (first : List Record) (exact : Bool)
         → Lawful (booted_from B.machine boot (bytes_in first)) → BeginsAt B.machine exact boot (bytes_in first)
@@ -119,9 +129,8 @@ pub fn run_generation_at<
         keyboard1,
         screen,
     } = lines;
-    let contested = primary_contests.is_some() || backup_contests.is_some();
-    let lead = Plan::new(primary_contests, contested, steps);
-    let follow = Plan::new(backup_contests, contested, steps);
+    let (lead, follow) = plans_of(primary_contests, backup_contests, watched, steps);
+    let contested = lead.contested;
     let ports = (
         PortInputs::after(typed0, taken.0, start.accepted0, keyboard0),
         PortInputs::after(typed1, taken.1, start.accepted1, keyboard1),
@@ -135,5 +144,5 @@ pub fn run_generation_at<
         disk: DiskWorker::new(seats.disk, disk),
     };
     let served = work(rt, five, &fabric, gate, turns, contested);
-    finish(fabric, served, contested)
+    finish(fabric, served, contested, watched)
 }

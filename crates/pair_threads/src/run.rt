@@ -7,7 +7,9 @@ ghost use Rattle.pair_rule.specs.Threads.{bytes_accepted};
 ghost use Rattle.pair_threads.specs.Choosing.{together};
 ghost use Rattle.pair_lines.specs.Lines.{HasShown, IsSameStart};
 ghost use Rattle.pair_lines.specs.declared.lines.Lines.{Lines};
-ghost use Rattle.pair_threads.specs.Ending.{EachScreen, EndsBy, HasAsked, IsEnding, WonBy, winner_named};
+ghost use Rattle.pair_threads.specs.Asking.{HasAsked, MayBeWatched, IsUnplanned, WonAs, WonOver};
+ghost use Rattle.pair_threads.specs.declared.plan.Asking.{Asking};
+ghost use Rattle.pair_threads.specs.Ending.{EachScreen, EndsBy, IsEnding, WonBy, winner_named};
 ghost use Rattle.pair_threads.specs.Left.{LeavesBy};
 ghost use Rattle.pair_threads.specs.Primary.{IsAtRest, WorkerKeeps, WorkerLeads};
 ghost use Rattle.pair_threads.specs.Repeating.{IsAt};
@@ -23,7 +25,7 @@ use crate::disk::DiskWorker;
 use crate::gate::{Gate, Who};
 use crate::join::{Five, Served, work};
 use crate::link::LinkWorker;
-use crate::plan::Plan;
+use crate::plan::plans_of;
 use crate::port_inputs::PortInputs;
 use crate::primary::PrimaryWorker;
 use crate::recording::Recording;
@@ -193,18 +195,18 @@ fn conclude<B: Lockstep + Drop, D: SectorStore>(
     backup: BackupWorker<B>,
     terminal: TerminalWorker,
     disk: DiskWorker<D>,
-    contested: bool,
+    undecided: bool,
 ) -> R<GenerationEnd<B, D>>
     requires tables { (primary.seat.table ≡ fabric) × (backup.seat.table ≡ fabric) × (terminal.seat.table ≡ fabric)
         × (disk.seat.table ≡ fabric) }
-    requires rests { contested ≡ false → IsAtRest B.state B.machine primary }
-    requires plans { (primary.plan.contested ≡ contested) × (backup.plan.contested ≡ contested) }
-    requires asked { HasAsked primary.plan.contests_at primary.seat.core.known.primary.winner
-        × HasAsked backup.plan.contests_at backup.seat.core.known.backup.winner }
-    requires repeated { (contested ≡ false) ⊎ (backup.seat.core.known.backup.winner ≡ 2)
+    requires rests { undecided ≡ false → IsAtRest B.state B.machine primary }
+    requires unplanned { undecided ≡ false → IsUnplanned primary.plan.asking × IsUnplanned backup.plan.asking }
+    requires asked { HasAsked primary.plan.asking primary.seat.core.known.primary.winner
+        × HasAsked backup.plan.asking backup.seat.core.known.backup.winner }
+    requires repeated { (undecided ≡ false) ⊎ (backup.seat.core.known.backup.winner ≡ 2)
         → backup.guest.replayed ≡ vec_len backup.guest.list }
     ensures refused { IfErr result IsEnding }
-    ensures decided { IfOk result (λ e. WonBy primary.plan.contests_at backup.plan.contests_at e.winner) }
+    ensures decided { IfOk result (λ e. WonAs primary.plan.asking backup.plan.asking e.winner) }
     ensures lists { IfOk result (λ e. (e.primary ≡ primary.list) × (e.backup ≡ backup.guest.list)
         × (e.held ≡ last_or 0 backup.seat.core.known.backup.held_values)) }
     ensures boards { IfOk result (λ e. (e.primary_board ≡ primary.guest.board) × (e.backup_board ≡ backup.guest.board)) }
@@ -256,7 +258,7 @@ fn conclude<B: Lockstep + Drop, D: SectorStore>(
     } = parts;
     let closed = fabric.close(seats);
     let winner = winner_of(closed.winner);
-    if contested && winner.is_none() {
+    if undecided && winner.is_none() {
         return Err(Fault::Stalled);
     }
     Ok(GenerationEnd {
@@ -275,18 +277,41 @@ fn conclude<B: Lockstep + Drop, D: SectorStore>(
     })
 }
 
+// Whether somebody has to go on alone: one may ask, and a watched generation is not at rest.
+fn is_undecided<B: Lockstep>(
+    primary: &PrimaryWorker<B>,
+    backup: &BackupWorker<B>,
+    contested: bool,
+    watched: bool,
+) -> bool
+    ensures { result ≡ false → (contested ≡ false) ⊎ ((watched ≡ true) × IsAtRest B.state B.machine primary.now
+        × (backup.now.guest.replayed ≡ vec_len backup.now.guest.list)) }
+{
+    if !contested {
+        return false;
+    }
+    if !watched {
+        return true;
+    }
+    if !primary.is_at_rest() {
+        return true;
+    }
+    !backup.guest.has_replayed_all()
+}
+
 // What workers leave, if all of them are at their ends.
 pub(crate) fn finish<B: Lockstep + Drop, D: SectorStore>(
     fabric: Fabric,
     five: AllServed<B, D>,
     contested: bool,
+    watched: bool,
 ) -> R<GenerationEnd<B, D>>
     requires primary { (five.primary.0.seat.table ≡ fabric)
         × OnOk five.primary.1 (contested ≡ false → IsAtRest B.state B.machine five.primary.0) }
     requires primary_asked { OnOk five.primary.1 ((five.primary.0.plan.contested ≡ contested)
-        × HasAsked five.primary.0.plan.contests_at five.primary.0.seat.core.known.primary.winner) }
+        × (five.primary.0.plan.watched ≡ watched) × HasAsked five.primary.0.plan.asking five.primary.0.seat.core.known.primary.winner) }
     requires backup_asked { OnOk five.backup.1 ((five.backup.0.plan.contested ≡ contested)
-        × HasAsked five.backup.0.plan.contests_at five.backup.0.seat.core.known.backup.winner) }
+        × (five.backup.0.plan.watched ≡ watched) × HasAsked five.backup.0.plan.asking five.backup.0.seat.core.known.backup.winner) }
     requires backup { (five.backup.0.seat.table ≡ fabric)
         × OnOk five.backup.1 ((contested ≡ false) ⊎ (five.backup.0.seat.core.known.backup.winner ≡ 2)
         → five.backup.0.guest.replayed ≡ vec_len five.backup.0.guest.list) }
@@ -294,8 +319,8 @@ pub(crate) fn finish<B: Lockstep + Drop, D: SectorStore>(
     ensures refused { IfErr result IsEnding }
     ensures failed { IfErr (together (together five.primary.1 five.backup.1) (together five.link.1
         (together five.terminal.1 five.disk.1))) (λ fault. result ≡ Err fault) }
-    ensures decided { (first second : Option ℕ) → OnOk five.primary.1 (five.primary.0.plan.contests_at ≡ first)
-        → OnOk five.backup.1 (five.backup.0.plan.contests_at ≡ second) → IfOk result (λ e. WonBy first second e.winner) }
+    ensures decided { (first second : Asking) → OnOk five.primary.1 (five.primary.0.plan.asking ≡ first)
+        → OnOk five.backup.1 (five.backup.0.plan.asking ≡ second) → IfOk result (λ e. WonAs first second e.winner) }
     ensures prefix { IfOk result (λ e. StartsWith e.primary.items e.backup.items) }
     ensures ends { (boot : B.State) (first : List Record) (exact : Bool)
         → Lawful (booted_from B.machine boot (bytes_in first))
@@ -340,13 +365,15 @@ pub(crate) fn finish<B: Lockstep + Drop, D: SectorStore>(
         failure_of(primary_end, backup_end),
         failure_of(link_end, failure_of(terminal_end, disk_end)),
     )?;
-    conclude(fabric, primary, link, backup, terminal, disk, contested)
+    let undecided = is_undecided(&primary, &backup, contested, watched);
+    conclude(fabric, primary, link, backup, terminal, disk, undecided)
 }
 
 /// Runs one generation over these lines, a worker for each of the five seats on its own thread, with at most this many turns for
 /// the primary and for the backup. If nobody is planned to go on alone, it ends well when the guest idles, all keys are taken and no more
 /// come, nothing is outstanding, under way or due, and all entries are acknowledged and repeated. Otherwise it ends when it is decided who goes
-/// on alone; a backup that does has repeated its list. `Stalled` if it ends in no such way, `OutOfMemory` if memory or a thread is refused.
+/// on alone; a backup that does has repeated its list. A watched generation ends in the first of these two ways: a host fails in it when the
+/// gate says so (`Gate::suspects`), and it waits for keys as long as it takes. `Stalled` if it ends in no such way, `OutOfMemory` if memory or a thread is refused.
 #[tactic(auto, using(crate::proofs::Beginning::nothing_yet, crate::proofs::Serving::first_disk, crate::proofs::Typing::typed_same, crate::proofs::Showing::shows_same))]
 pub fn run_generation_over<
     B: Lockstep + Send + Drop,
@@ -358,14 +385,16 @@ pub fn run_generation_over<
     alloc: Global,
     workers: Workers<B, D>,
     lines: Lines,
+    watched: bool,
     gate: &G,
     turns: u64,
 ) -> R<GenerationEnd<B, D>>
     requires lawful { Lawful (booted_from B.machine (B.state workers.primary) (bytes_in (D.records workers.disk))) }
     requires alike { B.state workers.backup ≡ B.state workers.primary }
     requires unwritten { IsUnwritten (D.records workers.disk) }
+    requires watched { MayBeWatched watched workers.primary_contests workers.backup_contests }
     ensures refused { IfErr result IsEnding }
-    ensures decided { IfOk result (λ e. WonBy workers.primary_contests workers.backup_contests e.winner) }
+    ensures decided { IfOk result (λ e. WonOver watched workers.primary_contests workers.backup_contests e.winner) }
     ensures prefix { IfOk result (λ e. StartsWith e.primary.items e.backup.items) }
     ensures ends { IfOk result (λ e. EndsBy (booted_from B.machine (B.state workers.primary) (bytes_in (D.records workers.disk)))
         true e.typed0.items e.typed1.items e.winner e.primary.items e.backup.items e.held
@@ -395,9 +424,8 @@ pub fn run_generation_over<
         keyboard1,
         screen,
     } = lines;
-    let contested = primary_contests.is_some() || backup_contests.is_some();
-    let lead = Plan::new(primary_contests, contested, steps);
-    let follow = Plan::new(backup_contests, contested, steps);
+    let (lead, follow) = plans_of(primary_contests, backup_contests, watched, steps);
+    let contested = lead.contested;
     let ports = (
         PortInputs::new(typed0, keyboard0),
         PortInputs::new(typed1, keyboard1),
@@ -410,11 +438,11 @@ pub fn run_generation_over<
         disk: DiskWorker::new(seats.disk, disk),
     };
     let served = work(rt, five, &fabric, gate, turns, contested);
-    finish(fabric, served, contested)
+    finish(fabric, served, contested, watched)
 }
 
 /// Runs one generation without lines: its keys are those that were typed before.
-#[tactic(auto, using(crate::proofs::Typing::over_none))]
+#[tactic(auto, using(crate::proofs::Typing::over_none, crate::proofs::Asking::won_closed))]
 pub fn run_generation<
     B: Lockstep + Send + Drop,
     D: SectorStore + Send,
@@ -438,5 +466,5 @@ pub fn run_generation<
         e.typed0.items e.typed1.items e.winner e.primary.items e.backup.items e.held
         (map (λ v. v.items) e.accepted) (D.records e.disk) (B.state e.primary_board) (B.state e.backup_board)) }
 {
-    run_generation_over(rt, alloc, workers, Lines::none(), gate, turns)
+    run_generation_over(rt, alloc, workers, Lines::none(), false, gate, turns)
 }

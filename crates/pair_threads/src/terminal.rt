@@ -180,15 +180,15 @@ impl Worker for TerminalWorker {
 
     ghost ended = { λ w. Unit {0} };
 
-    ghost asks = { λ old number new. Unit {0} };
+    ghost asks = { λ old number told new. Unit {0} };
 
-    ghost turned = { λ old number new turn. HasTurned old new turn };
+    ghost turned = { λ old number told new turn. HasTurned old new turn };
 
     ghost ends_by = { λ w told. told.primary_ended && told.backup_ended };
 
     ghost needs_others = { λ w. false };
 
-    fn turn(&mut self, fabric: &Fabric, _number: u64) -> R<Turn> {
+    fn turn(&mut self, fabric: &Fabric, _number: u64, _told: bool) -> R<Turn> {
         let Some(byte) = self.hand else {
             return self.take(fabric);
         };

@@ -44,11 +44,11 @@ pub(crate) trait Worker {
     // What holds of a worker that is at its end.
     ghost ended: { Self → Type 0 };
 
-    // What a turn of this number is to a worker that may ask to go on alone.
-    ghost asks: { Self → ℕ → Self → Type 0 };
+    // What a turn of this number is to a worker that may ask to go on alone, by whether it is told that its peer has failed.
+    ghost asks: { Self → ℕ → Bool → Self → Type 0 };
 
     // What it has done in a turn of this number that was such a turn.
-    ghost turned: { Self → ℕ → Self → Turn → Type 0 };
+    ghost turned: { Self → ℕ → Bool → Self → Turn → Type 0 };
 
     // Whether it is at its end by what it was told.
     ghost ends_by: { Self → Told → Bool };
@@ -58,14 +58,14 @@ pub(crate) trait Worker {
 
     /// Makes at most one call of its seat, or lets its guest move. Refused if the run can no longer end well:
     /// `OutOfMemory`, and `Stalled` otherwise.
-    fn turn(&mut self, fabric: &Fabric, number: u64) -> R<Turn>
+    fn turn(&mut self, fabric: &Fabric, number: u64, told: bool) -> R<Turn>
         requires table { table self.old ≡ fabric.now }
         requires ready { ready self.old }
         ensures table { table self.new ≡ table self.old }
         ensures came { (first : Self) → came first self.old → OnOk result (came first self.new) }
         ensures leaves { Leaves result (ready self.new) (ended self.new) }
-        ensures asks { OnOk result (asks self.old number self.new) }
-        ensures turned { IfOk result (turned self.old number self.new) }
+        ensures asks { OnOk result (asks self.old number told self.new) }
+        ensures turned { IfOk result (turned self.old number told self.new) }
         ensures refused { IfErr result IsEnding };
 
     /// Whether it is at its end by what it was told.
@@ -152,7 +152,7 @@ fn take_turn<C: Clock, W: Worker, G: Gate>(
     ensures held_up { OnOk result (held_up.new ≡ W.needs_others worker.new) }
     ensures refused { IfErr result IsEnding }
 {
-    let turn = worker.turn(fabric, number);
+    let turn = worker.turn(fabric, number, gate.suspects(who));
     gate.leave(who, number);
     if worker.is_held_up() != *held_up {
         *held_up = !*held_up;

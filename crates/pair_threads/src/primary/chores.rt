@@ -1,5 +1,5 @@
 //! The chores of a primary's worker at its guest, the link and the terminals.
-ghost use Rattle.std.specs.Prelude.{◌≡◌, ◌⊎◌, ◌≢◌, ◌+◌, ◌<◌, ◌≤◌, ◌↔◌, ◌&&◌, ◌==◌, cond, false, true, nat_lt, if◌then◌else◌, is_some, IfErr, IfSome, IsSome, IsTrue, None, OnOk, Some, length};
+ghost use Rattle.std.specs.Prelude.{◌≡◌, ◌⊎◌, ◌≢◌, ◌+◌, ◌<◌, ◌≤◌, ◌↔◌, ◌&&◌, ◌==◌, cond, not, ◌||◌, false, true, nat_lt, if◌then◌else◌, is_some, IfErr, IfSome, IsSome, IsTrue, None, OnOk, Some, length};
 ghost use Rattle.event_callbacks.specs.declared.devices.TheConstants.{PORTS};
 ghost use Rattle.event_callbacks.specs.declared.operations.OpId.TheVariants as id;
 ghost use Rattle.event_callbacks.specs.declared.operations.Operation.TheVariants.{Byte};
@@ -373,13 +373,20 @@ impl<B: Lockstep> PrimaryWorker<B> {
         true
     }
 
-    // Whether a run in which nobody is planned to go on alone is at its end: the guest idles with all keys taken and no more to
-    // come, nothing is outstanding, in flight or due, and all is acknowledged.
+    // Whether a run that may end where its guest is at rest is at its end.
     pub(super) fn is_at_its_end(&self) -> bool
-        ensures { IsTrue result ↔ ((self.now.plan.contested ≡ false) × IsAtRest B.state B.machine self.now) }
+        ensures { IsTrue result ↔ (((not self.now.plan.contested || self.now.plan.watched) ≡ true)
+            × IsAtRest B.state B.machine self.now) }
     {
-        !self.plan.contested
-            && self.is_covered()
+        self.plan.may_rest() && self.is_at_rest()
+    }
+
+    /// Whether the guest idles with all keys taken and no more to come, nothing is outstanding, in flight or due, and all is
+    /// acknowledged.
+    pub(crate) fn is_at_rest(&self) -> bool
+        ensures { IsTrue result ↔ IsAtRest B.state B.machine self.now }
+    {
+        self.is_covered()
             && self.guest.given.is_empty()
             && !self.asked
             && self.answer.is_none()

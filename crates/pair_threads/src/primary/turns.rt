@@ -334,8 +334,7 @@ fn fruitless_after(moved: bool, fruitless: u8) -> u8
 
 impl<B: Lockstep> Worker for PrimaryWorker<B> {
     ghost use Rattle.std.specs.Prelude.{◌≡◌, ◌&&◌, false};
-    ghost use Rattle.pair_threads.specs.Ending.{HasAsked};
-    ghost use Rattle.pair_threads.specs.Turns.{AsksAt};
+    ghost use Rattle.pair_threads.specs.Asking.{AsksAt, HasAsked};
     ghost use Rattle.pair_threads.specs.Patience.{is_held_up};
     ghost use Rattle.pair_threads.specs.Primary.{HasHadTurn, IsAtRest, WorkerKeeps, WorkerLeads};
     ghost use Rattle.pair_threads.specs.Typing.{HasHeard};
@@ -345,27 +344,27 @@ impl<B: Lockstep> Worker for PrimaryWorker<B> {
     ghost ready = { λ w. w.seat.core.known.primary.winner ≡ 0 };
 
     ghost came = { λ first w. (w.plan ≡ first.plan) × HasHeard first.port0 w.port0
-        × HasHeard first.port1 w.port1 × HasAsked w.plan.contests_at w.seat.core.known.primary.winner
+        × HasHeard first.port1 w.port1 × HasAsked w.plan.asking w.seat.core.known.primary.winner
         × ((boot : B.State) → WorkerLeads B.state B.machine boot first → WorkerLeads B.state B.machine boot w)
         × ((boot : B.State) → WorkerLeads B.state B.machine boot first → WorkerKeeps B.machine boot first
         → WorkerKeeps B.machine boot w) };
 
     ghost ended = { λ w. w.plan.contested ≡ false → IsAtRest B.state B.machine w };
 
-    ghost asks = { λ old number new.
-        AsksAt old.plan.contests_at number old.seat.core.known.primary.winner new.seat.core.known.primary.winner };
+    ghost asks = { λ old number told new.
+        AsksAt old.plan.asking number told old.seat.core.known.primary.winner new.seat.core.known.primary.winner };
 
-    ghost turned = { λ old number new turn. HasHadTurn B.state B.machine old number new turn };
+    ghost turned = { λ old number told new turn. HasHadTurn B.state B.machine old number told new turn };
 
     ghost ends_by = { λ w told. w.plan.contested && told.backup_ended };
 
     ghost needs_others = { λ w. is_held_up w };
 
-    fn turn(&mut self, fabric: &Fabric, number: u64) -> R<Turn> {
+    fn turn(&mut self, fabric: &Fabric, number: u64, told: bool) -> R<Turn> {
         if !self.seat.has_swaps_left() {
             return Err(Fault::Stalled);
         }
-        if self.plan.asks_at(number) {
+        if self.plan.asks_at(number, told) {
             let _ = self.seat.contest(fabric);
             return Ok(Turn::Ends);
         }

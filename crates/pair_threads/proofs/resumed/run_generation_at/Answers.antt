@@ -5,6 +5,7 @@ use Rattle.pair_rule.specs.declared.view.Core.{Core}
 use Rattle.pair_threads.specs.declared.plan.Plan.{Plan}
 use Rattle.pair_threads.specs.Repeating.{Repeats}
 use Rattle.pair_threads.specs.Stores.{IsStore, bytes_in}
+use Rattle.pair_threads.specs.Asking.{asking_of}
 use Rattle.pair_threads.specs.Typing.{IsTyped, typed_with}
 use Rattle.pair_threads.proofs.Ending.{on_ok}
 use Rattle.pair_threads.proofs.Showing.{shows_began}
@@ -34,14 +35,15 @@ pub finish-requires-clause-primary : goal.finish-requires-clause-primary
 finish-requires-clause-primary g c = let served = c.work-served in (
   served.ensures.primary.0,
   on_ok served.result.primary.1
-      (λ end quiet. end.1 (ap (λ (p : Plan). p.contested) (end.0.0 ∙ c.resume.ensures.plan.0) ∙ c.new-lead.ensures.asks.1
+      (λ end quiet. end.1 (ap (λ (p : Plan). p.contested) (end.0.0 ∙ c.resume.ensures.plan.0) ∙ refl
       ∙ quiet)) served.ensures.primary.1,
 )
 
 pub finish-requires-clause-primary_asked : goal.finish-requires-clause-primary_asked
 finish-requires-clause-primary_asked g c = let served = c.work-served in
     on_ok served.result.primary.1 (λ end. (
-      ap (λ (p : Plan). p.contested) (end.0.0 ∙ c.resume.ensures.plan.0) ∙ c.new-lead.ensures.asks.1,
+      ap (λ (p : Plan). p.contested) (end.0.0 ∙ c.resume.ensures.plan.0),
+      ap (λ (p : Plan). p.watched) (end.0.0 ∙ c.resume.ensures.plan.0) ∙ c.plans_of.ensures.primary.1,
       end.0.3,
     )) served.ensures.primary.1
 
@@ -51,7 +53,7 @@ finish-requires-clause-backup g c = let served = c.work-served in (
   on_ok served.result.backup.1
       (λ end either. end.1 (elim either [
         | inl quiet ↦ inl (ap (λ (p : Plan). p.contested) (end.0.0 ∙ c.resume-2.ensures.plan.0)
-            ∙ c.new-follow.ensures.asks.1 ∙ quiet)
+            ∙ c.plans_of.ensures.contested ∙ quiet)
         | inr won ↦ inr won
       ])) served.ensures.backup.1,
 )
@@ -59,7 +61,8 @@ finish-requires-clause-backup g c = let served = c.work-served in (
 pub finish-requires-clause-backup_asked : goal.finish-requires-clause-backup_asked
 finish-requires-clause-backup_asked g c = let served = c.work-served in
     on_ok served.result.backup.1 (λ end. (
-      ap (λ (p : Plan). p.contested) (end.0.0 ∙ c.resume-2.ensures.plan.0) ∙ c.new-follow.ensures.asks.1,
+      ap (λ (p : Plan). p.contested) (end.0.0 ∙ c.resume-2.ensures.plan.0) ∙ c.plans_of.ensures.contested,
+      ap (λ (p : Plan). p.watched) (end.0.0 ∙ c.resume-2.ensures.plan.0) ∙ c.plans_of.ensures.backup.1,
       end.0.1,
     )) served.ensures.backup.1
 
@@ -67,11 +70,11 @@ pub returns-clause-decided : goal.returns-clause-decided
 returns-clause-decided g c =
     let served = c.work-served in
     let workers = c.args.resumed.workers in
-    c.finish.ensures.decided workers.primary_contests workers.backup_contests
-    (on_ok served.result.primary.1 (λ end. ap (λ (p : Plan). p.contests_at) (end.0.0 ∙ c.resume.ensures.plan.0)
-    ∙ c.new-lead.ensures.asks.0) served.ensures.primary.1)
-    (on_ok served.result.backup.1 (λ end. ap (λ (p : Plan). p.contests_at) (end.0.0 ∙ c.resume-2.ensures.plan.0)
-    ∙ c.new-follow.ensures.asks.0) served.ensures.backup.1)
+    c.finish.ensures.decided (asking_of workers.primary_contests c.args.watched) (asking_of workers.backup_contests c.args.watched)
+    (on_ok served.result.primary.1 (λ end. ap (λ (p : Plan). p.asking) (end.0.0 ∙ c.resume.ensures.plan.0)
+    ∙ c.plans_of.ensures.primary.0) served.ensures.primary.1)
+    (on_ok served.result.backup.1 (λ end. ap (λ (p : Plan). p.asking) (end.0.0 ∙ c.resume-2.ensures.plan.0)
+    ∙ c.plans_of.ensures.backup.0) served.ensures.backup.1)
 
 pub returns-clause-ends : goal.returns-clause-ends
 returns-clause-ends g c = λ boot first exact lawful begins.

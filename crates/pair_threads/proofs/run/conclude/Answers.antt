@@ -15,7 +15,7 @@ use Rattle.pair_threads.specs.Typing.{IsTyped}
 use Rattle.pair_threads.proofs.Ending.{all_came, ends, ends_so, left, settled_so}
 use Rattle.pair_threads.proofs.Shown.{all_so, of_run}
 use Rattle.pair_threads.proofs.run.conclude.Goals as goal
-use Rattle.pair_threads.proofs.run.conclude.Goals.{else-contested-via-then-contested+else-is_none, else-contested-via-else-contested}
+use Rattle.pair_threads.proofs.run.conclude.Goals.{else-undecided-via-then-undecided+else-is_none, else-undecided-via-else-undecided}
 
 pub returns-clause-ends : goal.returns-clause-ends
 returns-clause-ends g c = λ boot first exact lawful leads at store.
@@ -38,12 +38,12 @@ returns-clause-ends g c = λ boot first exact lawful leads at store.
     (ap g.B.Lockstep.state parts.boards.1)
     (ends g.B.Lockstep.state g.B.Lockstep.machine g.met.B.Lockstep.counts g.met.B.Lockstep.operations exact boot first lawful p b
     c.args.terminal.seat.core.known.terminal c.args.disk.seat.core.known.disk closed.tail closed.held closed.winner settled
-    (g.D.SectorStore.records c.args.disk.disk) leads at store c.args.contested c.requires.rests c.requires.repeated
+    (g.D.SectorStore.records c.args.disk.disk) leads at store c.args.undecided c.requires.rests c.requires.repeated
     goes c.winner_of-winner.ensures
-    (λ none. elim c.else-contested.branch [
-      | else-contested-via-then-contested+else-is_none w ↦
+    (λ none. elim c.else-undecided.branch [
+      | else-undecided-via-then-undecided+else-is_none w ↦
           absurd (false≢true (sym (ap is_some none) ∙ w.is_none.ensures ∙ ap not w.if-is_none.false))
-      | else-contested-via-else-contested w ↦ w.if-contested.false
+      | else-undecided-via-else-undecided w ↦ w.if-undecided.false
     ]))
 
 pub returns-clause-left : goal.returns-clause-left
@@ -69,12 +69,12 @@ returns-clause-left g c = λ boot first exact lawful leads at store.
     (ap g.B.Lockstep.state parts.boards.1)
     (left g.B.Lockstep.state g.B.Lockstep.machine g.met.B.Lockstep.counts g.met.B.Lockstep.operations exact boot first lawful p b
     c.args.terminal.seat.core.known.terminal c.args.disk.seat.core.known.disk closed.tail closed.held closed.winner settled
-    (g.D.SectorStore.records c.args.disk.disk) leads at store c.args.contested c.requires.rests c.requires.repeated
+    (g.D.SectorStore.records c.args.disk.disk) leads at store c.args.undecided c.requires.rests c.requires.repeated
     goes c.winner_of-winner.ensures
-    (λ none. elim c.else-contested.branch [
-      | else-contested-via-then-contested+else-is_none w ↦
+    (λ none. elim c.else-undecided.branch [
+      | else-undecided-via-then-undecided+else-is_none w ↦
           absurd (false≢true (sym (ap is_some none) ∙ w.is_none.ensures ∙ ap not w.if-is_none.false))
-      | else-contested-via-else-contested w ↦ w.if-contested.false
+      | else-undecided-via-else-undecided w ↦ w.if-undecided.false
     ]) c.take_apart-parts.result.waiting parts.waiting)
 
 pub returns-clause-ran : goal.returns-clause-ran
@@ -100,10 +100,10 @@ returns-clause-ran g c = λ boot first exact lawful leads kept at store.
     (of_run g.B.Lockstep.state g.B.Lockstep.machine exact boot first lawful p b c.args.terminal.seat.core.known.terminal
     c.args.disk.seat.core.known.disk closed.tail closed.held closed.winner settled (g.D.SectorStore.records c.args.disk.disk)
     leads kept at store goes c.winner_of-winner.ensures
-    (λ none. all_came p (c.requires.rests (elim c.else-contested.branch [
-      | else-contested-via-then-contested+else-is_none w ↦
+    (λ none. all_came p (c.requires.rests (elim c.else-undecided.branch [
+      | else-undecided-via-then-undecided+else-is_none w ↦
           absurd (false≢true (sym (ap is_some none) ∙ w.is_none.ensures ∙ ap not w.if-is_none.false))
-      | else-contested-via-else-contested w ↦ w.if-contested.false
+      | else-undecided-via-else-undecided w ↦ w.if-undecided.false
     ])).asks_nothing)
     (let few = c.args.disk.requests in omega (arith, few)))
 

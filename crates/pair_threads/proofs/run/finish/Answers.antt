@@ -1,7 +1,7 @@
 -- All workers are at their ends.
 use Rattle.std.proofs.Common.{subst}
 use Rattle.std.specs.Prelude.{IfOk}
-use Rattle.pair_threads.specs.Ending.{WonBy}
+use Rattle.pair_threads.specs.Asking.{WonAs}
 use Rattle.pair_threads.proofs.Ending.{came}
 use Rattle.pair_threads.proofs.run.finish.Goals as goal
 
@@ -37,8 +37,8 @@ pub returns-clause-decided : goal.returns-clause-decided
 returns-clause-decided g c = λ first second p b.
     let all = c.in_ok-failure_of.ensures.both in
     let guests = came c.failure_of.result all.0 c.failure_of.ensures.both in
-    subst (λ x. IfOk c.conclude.result (λ e. WonBy x second e.winner)) (came c.args.five.primary.1 guests.0 p)
-    (subst (λ x. IfOk c.conclude.result (λ e. WonBy c.args.five.primary.0.plan.contests_at x e.winner))
+    subst (λ x. IfOk c.conclude.result (λ e. WonAs x second e.winner)) (came c.args.five.primary.1 guests.0 p)
+    (subst (λ x. IfOk c.conclude.result (λ e. WonAs c.args.five.primary.0.plan.asking x e.winner))
     (came c.args.five.backup.1 guests.1 b) c.conclude.ensures.decided)
 
 pub returns-clause-ran : goal.returns-clause-ran

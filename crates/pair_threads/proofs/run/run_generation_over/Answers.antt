@@ -1,11 +1,12 @@
 -- The disk's worker begins with what was booted; and the workers' ends are of what was given to them.
-use Rattle.std.proofs.Common.{ap, sym, subst, true, ◌∙◌, [], ◌∷◌}
+use Rattle.std.proofs.Common.{inl, inr, ap, sym, subst, true, ◌∙◌, [], ◌∷◌}
 use Rattle.pair_rule.specs.Seats.{Seat}
 use Rattle.pair_threads.specs.declared.plan.Plan.{Plan}
 use Rattle.pair_rule.specs.declared.view.Core.{Core}
 use Rattle.pair_threads.specs.Repeating.{IsAt}
 use Rattle.pair_threads.specs.Stores.{IsStore, bytes_in}
 use Rattle.shared_disk.specs.Records.{IsUnwritten}
+use Rattle.pair_threads.specs.Asking.{asking_of}
 use Rattle.pair_threads.specs.Typing.{IsTyped, typed_with}
 use Rattle.pair_threads.proofs.Ending.{on_ok}
 use Rattle.pair_threads.proofs.Showing.{shows_began}
@@ -25,6 +26,17 @@ work-served-requires-clause-disk g c κs within =
       (bytes_in (g.D.SectorStore.records c.new-7.result.disk), store),
       λ boots same. same,
     )
+
+pub finish-requires-clause-backup : goal.finish-requires-clause-backup
+finish-requires-clause-backup g c = let served = c.work-served in (
+  served.ensures.backup.0,
+  on_ok served.result.backup.1
+      (λ end either. end.1 (elim either [
+        | inl quiet ↦ inl (ap (λ (p : Plan). p.contested) (end.0.0 ∙ c.new-5.ensures.plan.0)
+            ∙ c.plans_of.ensures.contested ∙ quiet)
+        | inr won ↦ inr won
+      ])) served.ensures.backup.1,
+)
 
 pub returns-clause-ends : goal.returns-clause-ends
 returns-clause-ends g c =
@@ -90,11 +102,12 @@ returns-clause-over g c =
 pub returns-clause-decided : goal.returns-clause-decided
 returns-clause-decided g c =
     let served = c.work-served in
-    c.finish.ensures.decided c.args.workers.primary_contests c.args.workers.backup_contests
-    (on_ok served.result.primary.1 (λ end. ap (λ (p : Plan). p.contests_at) (end.0.0 ∙ c.new-3.ensures.plan.0)
-    ∙ c.new-lead.ensures.asks.0) served.ensures.primary.1)
-    (on_ok served.result.backup.1 (λ end. ap (λ (p : Plan). p.contests_at) (end.0.0 ∙ c.new-5.ensures.plan.0)
-    ∙ c.new-follow.ensures.asks.0) served.ensures.backup.1)
+    c.finish.ensures.decided (asking_of c.args.workers.primary_contests c.args.watched)
+    (asking_of c.args.workers.backup_contests c.args.watched)
+    (on_ok served.result.primary.1 (λ end. ap (λ (p : Plan). p.asking) (end.0.0 ∙ c.new-3.ensures.plan.0)
+    ∙ c.plans_of.ensures.primary.0) served.ensures.primary.1)
+    (on_ok served.result.backup.1 (λ end. ap (λ (p : Plan). p.asking) (end.0.0 ∙ c.new-5.ensures.plan.0)
+    ∙ c.plans_of.ensures.backup.0) served.ensures.backup.1)
 
 pub returns-clause-ran : goal.returns-clause-ran
 returns-clause-ran g c =

@@ -5,7 +5,8 @@ use Rattle.pair_rule.specs.declared.view.Core.{Core}
 use Rattle.pair_threads.specs.Primary.{DoesNext}
 use Rattle.pair_threads.proofs.Ending.{if_ok, on_ok}
 use Rattle.pair_threads.proofs.Typing.{listened_same}
-use Rattle.pair_threads.proofs.Views.{came_heard, came_on, keeps_alone, leads_alone, some_at}
+use Rattle.pair_threads.proofs.Views.{came_heard, came_on, keeps_alone, leads_alone}
+use Rattle.pair_threads.proofs.Asking.{asks_so}
 use Rattle.pair_threads.proofs.primary.turns.PrimaryWorkerWorker.turn.Goals as goal
 
 pub returns-in-Some-clause-came : goal.returns-in-Some-clause-came
@@ -26,11 +27,11 @@ pub returns-then-asks_at-clause-came : goal.returns-then-asks_at-clause-came
 returns-then-asks_at-clause-came g c = λ first came.
     let old = c.args.self.now in
     let is = ap (λ (k : Core). k.known.primary) c.contest.ensures.view.3 in
-    let some = some_at old.plan.contests_at c.args.number (c.asks_at.ensures.0 c.if-asks_at.true) in (
+    let may = asks_so old.plan.asking c.args.number c.args.told (c.asks_at.ensures.0 c.if-asks_at.true) in (
       came.0,
       came.1,
       came.2,
-      inr some,
+      inr may,
       λ boot leads. leads_alone g.B.Lockstep.state g.B.Lockstep.machine g.met.B.Lockstep.counts
           g.met.B.Lockstep.operations old c.contest.new.self _ boot is (came.4 boot leads),
       λ boot leads kept. keeps_alone g.B.Lockstep.state g.B.Lockstep.machine g.met.B.Lockstep.counts
