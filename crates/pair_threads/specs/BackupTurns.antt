@@ -26,12 +26,17 @@ turn_of_take found all = if found || not all then Moved else Waits
 abbrev pub turn_of_others : Bool → Turn
 turn_of_others all = if all then Looks else Moved
 
--- a turn by its chore, by what was found in the box, and by whether it has then repeated all
-abbrev pub IsTurnOf : Chore → Core → Core → Bool → Turn → Type 0
-IsTurnOf Take old new all turn =
+-- a look into its box, unless its guest is too far behind: then it goes on to repeat
+abbrev pub IsLook : Bool → Core → Core → Bool → Turn → Type 0
+IsLook true old new all turn = (new ≡ old) × (turn ≡ Looks)
+IsLook false old new all turn =
     (found : Option Packet) × Empties Inbox (option_map Log found) old new × (turn ≡ turn_of_take (is_some found) all)
-IsTurnOf Hold old new all turn = turn ≡ turn_of_others all
-IsTurnOf Replay old new all turn = turn ≡ turn_of_others all
+
+-- a turn by its chore, by whether its guest was too far behind, by what was found in the box, and by whether it has then repeated all
+abbrev pub IsTurnOf : Chore → Bool → Core → Core → Bool → Turn → Type 0
+IsTurnOf Take far old new all turn = IsLook far old new all turn
+IsTurnOf Hold far old new all turn = turn ≡ turn_of_others all
+IsTurnOf Replay far old new all turn = turn ≡ turn_of_others all
 
 -- a turn in which it asks to go on alone: it moves if it has won, and is at its end if it has lost
 abbrev pub turn_of_asking : Bool → Turn

@@ -1,8 +1,8 @@
 -- How far the guest of a backup's worker is.
-use Rattle.std.specs.Prelude.{◌≡◌, ◌⊎◌, ℕ, ◌==◌, Bool, true, false, List, take, vec_len, slice_get, Some, IsSome, Ok}
+use Rattle.std.specs.Prelude.{◌≡◌, ◌⊎◌, ℕ, ◌-◌, ◌==◌, nat_lt, Bool, true, false, List, length, take, vec_len, slice_get, Option, Some, None, IsSome, Ok}
 use Rattle.guest_lockstep.specs.Lockstep.{step_refusal}
 use Rattle.guest_lockstep.specs.Machine.{Machine}
-use Rattle.log_entry.specs.Entries.{last_count}
+use Rattle.log_entry.specs.Entries.{count_of, last_count}
 use Rattle.log_entry.specs.declared.entry.Entry.{Entry}
 use Rattle.pair_threads.specs.declared.repeater.Repeater.{Repeater}
 use Rattle.replayer.specs.Following.{Follows, Ran, Reaches}
@@ -26,6 +26,14 @@ GoesOn {B} {S} state M old new = (exact : Bool) (boot : S) → IsAt state M exac
 -- it has repeated its whole list
 abbrev pub has_all : {B : Type 0} → Repeater B → Bool
 has_all r = r.replayed == vec_len r.list
+
+-- its guest has to make more than so many steps up to the last entry of its list
+abbrev pub is_far_from : Option Entry → ℕ → Bool
+is_far_from None count = false
+is_far_from (Some e) count = nat_lt 10_000_000 (count_of e - count)
+
+abbrev pub is_far_behind : {B S : Type 0} → (B → S) → Machine S → Repeater B → Bool
+is_far_behind state M r = is_far_from (slice_get r.list.items (length r.list.items - 1)) (M.count (state r.board))
 
 -- it follows its next entry, with as many steps as it may make; without one it stays as it was
 abbrev pub FollowsFor : {B S : Type 0} → (B → S) → Machine S → ℕ → Repeater B → Repeater B → Type 0

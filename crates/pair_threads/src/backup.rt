@@ -7,7 +7,7 @@ ghost use Rattle.pair_rule.specs.declared.view.Core.{Core};
 ghost use Rattle.pair_rule.specs.Seats.{Empties};
 ghost use Rattle.pair_threads.specs.BackupTurns.{IsTurnOf, next_chore, turn_of_asking, turn_of_draining, turn_of_take};
 ghost use Rattle.pair_threads.specs.Ending.{IsEnding};
-ghost use Rattle.pair_threads.specs.Repeating.{FollowsFor, GoesOn, IsAt, Repeats, has_all};
+ghost use Rattle.pair_threads.specs.Repeating.{FollowsFor, GoesOn, IsAt, Repeats, has_all, is_far_behind};
 ghost use Rattle.pair_threads.specs.Turns.{Leaves};
 ghost use Rattle.pair_threads.specs.declared.backup.Chore.TheVariants as task;
 ghost use Rattle.pair_threads.specs.declared.worker.Turn.TheVariants as turn;
@@ -216,7 +216,8 @@ impl<B: Lockstep> BackupWorker<B> {
         ensures leaves { Leaves result (Unit {0}) ⊥ }
         ensures next { OnOk result (self.new.chore ≡ next_chore self.old.chore) }
         ensures turn { IfOk result
-            (IsTurnOf self.old.chore self.old.seat.core self.new.seat.core (has_all self.new.guest)) }
+            (IsTurnOf self.old.chore (is_far_behind B.state B.machine self.old.guest) self.old.seat.core self.new.seat.core
+            (has_all self.new.guest)) }
         ensures steps { self.old.chore ≡ task.Replay → OnOk result (FollowsFor B.state B.machine
             (min self.old.plan.steps self.old.stride) self.old.guest self.new.guest) }
         ensures refused { IfErr result IsEnding }
@@ -224,6 +225,7 @@ impl<B: Lockstep> BackupWorker<B> {
         let chore = self.chore;
         self.chore = chore.next();
         match chore {
+            Chore::Take if self.guest.is_far_behind() => Ok(Turn::Looks),
             Chore::Take => self.take(fabric),
             Chore::Hold => {
                 self.hold(fabric);
@@ -240,7 +242,7 @@ impl<B: Lockstep> BackupWorker<B> {
 impl<B: Lockstep> Worker for BackupWorker<B> {
     ghost use Rattle.std.specs.Prelude.{◌≡◌, ◌⊎◌, ◌&&◌, ◌||◌, not, cond, false, vec_len};
     ghost use Rattle.pair_threads.specs.Asking.{AsksAt, HasAsked};
-    ghost use Rattle.pair_threads.specs.Repeating.{GoesOn, has_all};
+    ghost use Rattle.pair_threads.specs.Repeating.{GoesOn, has_all, is_far_behind};
     ghost use Rattle.pair_threads.specs.BackupTurns.{IsTurn, IsTurnOf};
 
     ghost table = { λ w. w.seat.table };
@@ -257,7 +259,8 @@ impl<B: Lockstep> Worker for BackupWorker<B> {
         AsksAt old.plan.asking number told old.seat.core.known.backup.winner new.seat.core.known.backup.winner };
 
     ghost turned = { λ old number told new turn. IsTurn old.won old.plan.asking number told (has_all old.guest) new.won
-        (IsTurnOf old.chore old.seat.core new.seat.core (has_all new.guest) turn) turn };
+        (IsTurnOf old.chore (is_far_behind B.state B.machine old.guest) old.seat.core new.seat.core (has_all new.guest) turn)
+        turn };
 
     ghost ends_by = { λ w told. not w.won && told.primary_ended
         && (not (not w.plan.contested || w.plan.watched) || has_all w.guest) };

@@ -1,7 +1,7 @@
 //! How a backup's guest repeats the entries of its list.
 ghost use Rattle.std.specs.Prelude.{◌≡◌, ◌⊎◌, Bool, ◌<◌, ◌↔◌, ◌++◌, [], ◌∷◌, false, vec_len, vec_capacity, IfErr, IsTrue, OnOk};
 ghost use Rattle.i8080_words.specs.declared.refusal.Fault.TheVariants.{OutOfMemory, Stalled};
-ghost use Rattle.pair_threads.specs.Repeating.{FollowsFor, GoesOn, IsAt, IsStuck, Repeats, has_all};
+ghost use Rattle.pair_threads.specs.Repeating.{FollowsFor, GoesOn, IsAt, IsStuck, Repeats, has_all, is_far_behind};
 
 use super::Repeater;
 use guest_lockstep::Lockstep;
@@ -9,6 +9,10 @@ use i8080_words::{Fault, R};
 use log_entry::Entry;
 use replayer::{Followed, follow};
 use std::alloc::Global;
+
+/// How many steps a backup may be behind the last entry that it holds and still take another: about those of a twentieth of a second. The
+/// primary's log fills up meanwhile, and its output waits, so it slows down (VMware FT, section 3.2.2).
+const MOST_BEHIND: u64 = 10_000_000;
 
 impl<B: Lockstep> Repeater<B> {
     /// A guest at boot, with an empty list.
@@ -47,6 +51,16 @@ impl<B: Lockstep> Repeater<B> {
         ensures is { result ≡ has_all self.now }
     {
         self.replayed == self.list.len()
+    }
+
+    /// Whether its guest has to make so many steps up to the last entry that it takes no further one.
+    pub(crate) fn is_far_behind(&self) -> bool
+        ensures { result ≡ is_far_behind B.state B.machine self.now }
+    {
+        match self.list.last() {
+            Some(entry) => entry.count().saturating_sub(self.board.count()) > MOST_BEHIND,
+            None => false,
+        }
     }
 
     /// An entry arrives.
