@@ -1,8 +1,5 @@
--- What passes along the lines of a pair that runs: keys to its guest, accepted bytes to its terminals, and word that a peer
--- has failed.
-use Rattle.std.specs.Prelude.{◌≡◌, ◌==◌, ◌++◌, ◌<◌, ◌↔◌, ℕ, Bool, true, false, if◌then◌else◌, List, [], ◌∷◌, Option, None, Some}
-use Rattle.pair_lines.specs.declared.detector.Detector.{Detector}
-use Rattle.pair_lines.specs.declared.detector.Suspicion.{Suspicion}
+-- What passes along the lines of a pair that runs: keys to its guest, and accepted bytes to its terminals.
+use Rattle.std.specs.Prelude.{◌≡◌, ◌==◌, ◌++◌, ◌<◌, ◌&&◌, not, ℕ, Bool, true, false, if◌then◌else◌, List, [], ◌∷◌, Option, None, Some}
 use Rattle.pair_lines.specs.declared.keyboard.Keyboard.{Keyboard}
 use Rattle.pair_lines.specs.declared.keyboard.Stroke.{Stroke}
 use Rattle.pair_lines.specs.declared.keyboard.Stroke.TheVariants.{Key, End}
@@ -71,9 +68,19 @@ key_in None = None
 abbrev pub heard : Keyboard → List ℕ
 heard k = keys_in (came_by k.ring)
 
--- a keyboard gave a key, or none; one that is closed stays as it was
+abbrev pub is_end : Option Stroke → Bool
+is_end (Some End) = true
+is_end (Some (Key byte)) = false
+is_end None = false
+
+-- a stroke came from a keyboard, or none: it gave the key that it was, and is closed after the end; one that is closed stays as it
+-- was
 pub record Hears (old new : Keyboard) (key : Option ℕ) : Type 0 where
+  pub stroke : Option Stroke
   pub same : IsSameEnd old.ring new.ring
+  pub came : came_by new.ring ≡ came_by old.ring ++ found stroke
+  pub key_is_its : key ≡ key_in stroke
+  pub ended : new.open ≡ (old.open && not (is_end stroke))
   pub key_is : heard new ≡ heard old ++ found key
   pub closed : old.open ≡ false → (new ≡ old) × (key ≡ None)
 
@@ -95,12 +102,3 @@ HasShown s port bytes = HasGone s.ring port bytes
 -- the bytes of one port with a byte of another, or of the same
 abbrev pub with_byte : ℕ → ℕ → ℕ → List ℕ → List ℕ
 with_byte at port byte bytes = if port == at then bytes ++ byte ∷ [] else bytes
-
--- ---- failures
-
--- word came, or none; it is heeded if it names this generation
-pub record Detects (generation : ℕ) (old new : Detector) (detected : Bool) : Type 0 where
-  pub word : Option Suspicion
-  pub same : IsSameEnd old.ring new.ring
-  pub came : came_by new.ring ≡ came_by old.ring ++ found word
-  pub heeded : (detected ≡ true) ↔ (word ≡ Some (record { generation = generation }))

@@ -1,6 +1,6 @@
 //! The keys of a port that come while a pair runs.
 ghost use Rattle.std.specs.Prelude.{◌≡◌, false, None};
-ghost use Rattle.pair_lines.specs.Lines.{Hears, heard, key_in, keys_in};
+ghost use Rattle.pair_lines.specs.Lines.{Hears, heard, is_end, key_in, keys_in};
 ghost use Rattle.rtrb.specs.Ring.{received};
 
 use crate::ring::pop;
@@ -74,8 +74,13 @@ impl Keyboard {
 }
 
 // Whether a keyboard has said that no key comes after this.
-fn is_end(stroke: Option<Stroke>) -> bool {
-    matches!(stroke, Some(Stroke::End))
+fn is_end(stroke: Option<Stroke>) -> bool
+    ensures { result ≡ is_end stroke }
+{
+    match stroke {
+        Some(Stroke::End) => true,
+        Some(Stroke::Key(_)) | None => false,
+    }
 }
 
 // The key that came, if one did.
