@@ -27,7 +27,7 @@ use Rattle.shared_disk.specs.declared.store.Record.{Record}
 
 -- ---- one thing after another
 
-starts_after : (a b c : List Entry) → StartsWith b a → StartsWith c b → StartsWith c a
+pub starts_after : (a b c : List Entry) → StartsWith b a → StartsWith c b → StartsWith c a
 starts_after a b c (more, is) (some, same) =
     (more ++ some, same ∙ ap (λ l. l ++ some) is ∙ append_assoc a more some)
 

@@ -5,3 +5,8 @@ pub mod Altair
 pub mod Following
 pub mod Arriving
 pub mod Copied
+pub mod Moving
+pub mod GoingAlone
+pub mod Screens
+pub mod LeftStanding
+pub mod Seeing

@@ -154,3 +154,14 @@ stands_so M typed0 typed1 list all screen0 shown0 screen1 shown1 records kept ta
     (subst (λ x. Stands M typed0 typed1 list (screen0 ∷ x ∷ []) kept taken0 taken1 u) (sym is1)
     (subst (λ x. Stands M typed0 typed1 list (screen0 ∷ screen1 ∷ []) x taken0 taken1 u) (sym k)
     (subst (λ x. Stands M typed0 typed1 list (screen0 ∷ screen1 ∷ []) records taken0 taken1 x) (sym is) stands))))
+
+pub stands_as : {S : Type 0} (M : Machine S) (typed0 now0 typed1 now1 : List ℕ) (list all : List Entry)
+    (screen0 shown0 screen1 shown1 : List ℕ) (records kept : List Record) (taken0 taken1 : ℕ) (s u : S) → now0 ≡ typed0
+    → now1 ≡ typed1 → all ≡ list → shown0 ≡ screen0 → shown1 ≡ screen1 → kept ≡ records → u ≡ s
+    → Stands M typed0 typed1 list (screen0 ∷ screen1 ∷ []) records taken0 taken1 s
+    → Stands M now0 now1 all (shown0 ∷ shown1 ∷ []) kept taken0 taken1 u
+stands_as M typed0 now0 typed1 now1 list all screen0 shown0 screen1 shown1 records kept taken0 taken1 s u t0 t1 l is0 is1 k
+    is stands =
+    subst (λ x. Stands M x now1 all (shown0 ∷ shown1 ∷ []) kept taken0 taken1 u) (sym t0)
+    (subst (λ x. Stands M typed0 x all (shown0 ∷ shown1 ∷ []) kept taken0 taken1 u) (sym t1)
+    (stands_so M typed0 typed1 list all screen0 shown0 screen1 shown1 records kept taken0 taken1 s u l is0 is1 k is stands))

@@ -1,6 +1,6 @@
 -- What is outstanding is taken. A byte is given to its terminal, and its acceptance is taken; a write is put on the disk, and
 -- its completion is taken. What is left to the winner's guest stays so.
-use Rattle.std.proofs.Common.{◌≡◌, ℕ, ◌+◌, ◌≤◌, inl, inr, Bool, true, false, cond, List, [], ◌∷◌, ◌++◌, length, Some, refl, sym, ap, subst, ◌∙◌, arith, append-nil, length-append, eqb-true}
+use Rattle.std.proofs.Common.{◌≡◌, ℕ, ◌+◌, ◌<◌, ◌≤◌, inl, inr, Bool, true, false, cond, List, [], ◌∷◌, ◌++◌, length, Some, refl, sym, ap, subst, ◌∙◌, arith, append-nil, length-append, eqb-true}
 use Rattle.std.specs.Prelude.{◌==◌, nat_lt, slice_get}
 use Rattle.std.proofs.lemmas.Bool.{ltb-true, ltb-false}
 use Rattle.disk_dcdd.specs.Address.{address_of}
@@ -41,7 +41,7 @@ module _ {S : Type 0} (M : Machine S) (lawful : Lawful M) (typed0 typed1 : List 
   runs = recorded-runs M M.boot s left.moves left.recorded
 
   module _ (i : Input) (taken : Accepts M s i u) where
-    abbrev after : List Move
+    abbrev pub after : List Move
     after = left.moves ++ Take i ∷ []
 
     at_count : 0 + steps left.moves ≡ M.count s
@@ -52,39 +52,48 @@ module _ {S : Type 0} (M : Machine S) (lawful : Lawful M) (typed0 typed1 : List 
         ∙ ap (λ c. entries Logged 0 left.moves ++ entry_of Logged c i ∷ []) at_count
         ∙ ap (λ l. l ++ entry_of Logged (M.count s) i ∷ []) left.entries_are
 
-    same_operations : operations left.moves ≡ operations after
+    pub same_operations : operations left.moves ≡ operations after
     same_operations = sym (operations-append left.moves (Take i ∷ []) ∙ append-nil (operations left.moves))
 
-    same_output : (port : ℕ) → output port left.moves ≡ output port after
+    pub same_output : (port : ℕ) → output port left.moves ≡ output port after
     same_output port = sym (output-append port left.moves (Take i ∷ []) ∙ append-nil (output port left.moves))
 
-    accepted_more : (port n : ℕ) → accepted_at port (bare i) ≡ n
+    pub accepted_more : (port n : ℕ) → accepted_at port (bare i) ≡ n
         → acceptances port (inputs 0 after) ≡ acceptances port (inputs 0 left.moves) + n
     accepted_more port n is =
         let a = acceptances_of-append port 0 left.moves (Take i ∷ []) in omega (arith, a, is)
 
-    given_still : (puts : List SectorWrite) → AllAre puts (λ w. Among (Write w) (operations left.moves))
+    pub given_still : (puts : List SectorWrite) → AllAre puts (λ w. Among (Write w) (operations left.moves))
         → AllAre puts (λ w. Among (Write w) (operations after))
     given_still puts given =
         all_map puts (λ w. Among (Write w) (operations left.moves)) (λ w. Among (Write w) (operations after))
         (λ w at. subst (Among (Write w)) same_operations at) given
 
-    -- one more input, which is no key and carries no sector
-    leaves_after : Own M left.moves s i → ((port : ℕ) → key_at port (bare i) ≡ []) → (shown0 shown1 : List ℕ)
-        → IsScreenOf after 0 shown0 → IsScreenOf after 1 shown1 → (new : List Record) → IsStoreOf M after new
+    -- one more input
+    pub leaves_with : Own M left.moves s i
+        → ((port : ℕ) → port < 2 → IsPrefix (keys port (inputs 0 after)) (typed_at port typed0 typed1))
+        → (shown0 shown1 : List ℕ) → IsScreenOf after 0 shown0 → IsScreenOf after 1 shown1 → (new : List Record)
+        → IsStoreOf M after new
         → Leaves M typed0 typed1 (list ++ entry_of Logged (M.count s) i ∷ []) (shown0 ∷ shown1 ∷ []) new u
-    leaves_after own no_key shown0 shown1 is0 is1 new store = record {
+    leaves_with own kept shown0 shown1 is0 is1 new store = record {
       moves = after;
       recorded = recorded-takes M M.boot s u left.moves i left.recorded taken;
       owns = owns-append M [] M.boot s left.moves (Take i ∷ []) runs left.owns (own, λ v e. tt);
       entries_are = list_after;
-      keys_kept = λ port few. subst (λ l. IsPrefix l (typed_at port typed0 typed1))
-          (sym (keys_of-append port 0 left.moves (Take i ∷ [])
-          ∙ ap (λ l. keys port (inputs 0 left.moves) ++ (l ++ [])) (no_key port)
-          ∙ append-nil (keys port (inputs 0 left.moves)))) (left.keys_kept port few);
+      keys_kept = kept;
       screens_are = (is0, (is1, tt));
       store = store;
     }
+
+    -- which is no key
+    pub leaves_after : Own M left.moves s i → ((port : ℕ) → key_at port (bare i) ≡ []) → (shown0 shown1 : List ℕ)
+        → IsScreenOf after 0 shown0 → IsScreenOf after 1 shown1 → (new : List Record) → IsStoreOf M after new
+        → Leaves M typed0 typed1 (list ++ entry_of Logged (M.count s) i ∷ []) (shown0 ∷ shown1 ∷ []) new u
+    leaves_after own no_key = leaves_with own
+        (λ port few. subst (λ l. IsPrefix l (typed_at port typed0 typed1))
+        (sym (keys_of-append port 0 left.moves (Take i ∷ [])
+        ∙ ap (λ l. keys port (inputs 0 left.moves) ++ (l ++ [])) (no_key port)
+        ∙ append-nil (keys port (inputs 0 left.moves)))) (left.keys_kept port few))
 
   -- ---- a byte
 

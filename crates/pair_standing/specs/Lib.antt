@@ -2,3 +2,4 @@ pub mod Standing
 pub mod Finishing
 pub mod Following
 pub mod Copying
+pub mod Alone

@@ -37,13 +37,14 @@ impl<B: Lockstep + Drop, D: SectorStore> Winner<B, D> {
         Err(Fault::Stalled)
     }
 
-    // Puts each outstanding write on the disk, oldest first: none has a number past the length of the list.
-    fn write_all(&mut self, tries: u64) -> R<()>
+    /// Puts each outstanding write on the disk, oldest first: none has a number past the length of the list.
+    pub(crate) fn write_all(&mut self, tries: u64) -> R<()>
         ensures goes_on { OnOk result (GoesOn B.machine (held self.old.list.items self.old.accepted0.items
             self.old.accepted1.items (D.records self.old.disk) (B.state self.old.board)) (held self.new.list.items
             self.new.accepted0.items self.new.accepted1.items (D.records self.new.disk) (B.state self.new.board))) }
         ensures gone { OnOk result ((number : ℕ) → number ≤ vec_len self.old.list
             → B.machine.find (B.state self.new.board) (id.Write number) ≡ None) }
+        ensures screens { (self.new.accepted0 ≡ self.old.accepted0) × (self.new.accepted1 ≡ self.old.accepted1) }
         ensures refused { IfErr result IsEnding }
     {
         let last = self.list.len() as u64;
@@ -53,8 +54,8 @@ impl<B: Lockstep + Drop, D: SectorStore> Winner<B, D> {
         self.write(last, tries)
     }
 
-    // Whether no byte is due, and the list may be that of a table.
-    fn is_done(&self) -> bool
+    /// Whether no byte is due, and the list may be that of a table.
+    pub(crate) fn is_done(&self) -> bool
         ensures due { result ≡ true → (B.machine.due_byte (B.state self.now.board) 0 ≡ None)
             × (B.machine.due_byte (B.state self.now.board) 1 ≡ None) }
         ensures few { result ≡ true → vec_len self.now.list ≤ GREATEST_NUMBER }
@@ -159,8 +160,8 @@ fn winner_of<B: Lockstep + Drop, D: SectorStore>(
     Ok((winner, (typed0, typed1)))
 }
 
-// A winner that has nothing outstanding.
-fn stand<B: Lockstep + Drop, D: SectorStore>(
+/// A winner that has nothing outstanding.
+pub(crate) fn stand<B: Lockstep + Drop, D: SectorStore>(
     winner: Winner<B, D>,
     typed: (Vec<u8>, Vec<u8>),
 ) -> Standing<B, D>

@@ -1,5 +1,5 @@
 //! The guest of a winner, which takes what is outstanding and makes no steps.
-ghost use Rattle.std.specs.Prelude.{◌≡◌, ◌<◌, ◌++◌, ◌∷◌, [], Some, None, IfErr, IfSome, OnOk};
+ghost use Rattle.std.specs.Prelude.{◌≡◌, ◌<◌, ◌++◌, ◌∷◌, [], Some, None, IfErr, IfOk, IfSome, OnOk};
 ghost use Rattle.disk_dcdd.specs.Address.{address_of};
 ghost use Rattle.event_callbacks.specs.declared.devices.TheConstants.{PORTS};
 ghost use Rattle.event_callbacks.specs.declared.operations.OpId.TheVariants as id;
@@ -31,8 +31,8 @@ pub(crate) struct Winner<B: Drop, D: SectorStore> {
 }
 
 impl<B: Lockstep + Drop, D: SectorStore> Winner<B, D> {
-    // Takes an input, and appends its entry.
-    fn take(&mut self, input: Input) -> R<()>
+    /// Takes an input, and appends its entry.
+    pub(crate) fn take(&mut self, input: Input) -> R<()>
         requires input { IsInput input }
         requires room { HasRoom B.machine (B.state self.old.board) input }
         ensures taken { OnOk result (Accepts B.machine (B.state self.old.board) input (B.state self.new.board)) }
@@ -90,6 +90,39 @@ impl<B: Lockstep + Drop, D: SectorStore> Winner<B, D> {
         }
     }
 
+    /// The byte of a port that is due, with its number, if one is. `Stalled` if it is not outstanding.
+    pub(crate) fn next_byte(&self, port: u8) -> R<Option<(u64, u8)>>
+        requires { port < PORTS }
+        ensures due { IfOk result (λ next. IfSome next (λ b. B.machine.due_byte (B.state self.now.board) port ≡ Some b.0)) }
+        ensures there { IfOk result (λ next. IfSome next (λ b. B.machine.find (B.state self.now.board) (id.Byte port b.0)
+            ≡ Some (operation.Byte port b.0 b.1))) }
+        ensures refused { IfErr result IsEnding }
+    {
+        let Some(number) = self.board.due_byte(port) else {
+            return Ok(None);
+        };
+        match self.byte(port, number) {
+            Some(byte) => Ok(Some((number, byte))),
+            None => Err(Fault::Stalled),
+        }
+    }
+
+    /// Gives the terminal of a port this byte, which is due there, and takes its acceptance.
+    pub(crate) fn accept(&mut self, port: u8, number: u64, byte: u8) -> R<()>
+        requires port { port < PORTS }
+        requires due { B.machine.due_byte (B.state self.old.board) port ≡ Some number }
+        requires there { B.machine.find (B.state self.old.board) (id.Byte port number) ≡ Some (operation.Byte port number byte) }
+        ensures goes_on { OnOk result (GoesOn B.machine (held self.old.list.items self.old.accepted0.items
+            self.old.accepted1.items (D.records self.old.disk) (B.state self.old.board)) (held self.new.list.items
+            self.new.accepted0.items self.new.accepted1.items (D.records self.new.disk) (B.state self.new.board))) }
+        ensures screen0 { OnOk result (self.new.accepted0.items ≡ after_byte 0 port number byte self.old.accepted0.items) }
+        ensures screen1 { OnOk result (self.new.accepted1.items ≡ after_byte 1 port number byte self.old.accepted1.items) }
+        ensures refused { IfErr result IsEnding }
+    {
+        self.show(port, number, byte)?;
+        self.take(Input::Sent(port))
+    }
+
     /// Gives the terminal of a port the byte that is due there, and takes its acceptance. Returns whether there was one.
     pub(crate) fn give(&mut self, port: u8) -> R<bool>
         requires { port < PORTS }
@@ -98,14 +131,10 @@ impl<B: Lockstep + Drop, D: SectorStore> Winner<B, D> {
             self.new.accepted0.items self.new.accepted1.items (D.records self.new.disk) (B.state self.new.board))) }
         ensures refused { IfErr result IsEnding }
     {
-        let Some(number) = self.board.due_byte(port) else {
+        let Some((number, byte)) = self.next_byte(port)? else {
             return Ok(false);
         };
-        let Some(byte) = self.byte(port, number) else {
-            return Err(Fault::Stalled);
-        };
-        self.show(port, number, byte)?;
-        self.take(Input::Sent(port))?;
+        self.accept(port, number, byte)?;
         Ok(true)
     }
 
@@ -115,6 +144,7 @@ impl<B: Lockstep + Drop, D: SectorStore> Winner<B, D> {
             self.old.accepted1.items (D.records self.old.disk) (B.state self.old.board)) (held self.new.list.items
             self.new.accepted0.items self.new.accepted1.items (D.records self.new.disk) (B.state self.new.board))) }
         ensures gone { OnOk result (B.machine.find (B.state self.new.board) (id.Write number) ≡ None) }
+        ensures screens { (self.new.accepted0 ≡ self.old.accepted0) × (self.new.accepted1 ≡ self.old.accepted1) }
         ensures refused { IfErr result IsEnding }
     {
         let Some(write) = self.outstanding_write(number) else {

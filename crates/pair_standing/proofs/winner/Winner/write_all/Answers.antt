@@ -1,5 +1,5 @@
 -- One write after another.
-use Rattle.std.proofs.Common.{arith}
+use Rattle.std.proofs.Common.{arith, ◌∙◌}
 use Rattle.pair_threads.proofs.Ending.{on_ok}
 use Rattle.pair_standing.proofs.Going.{and_then, both_ok, gone_below}
 use Rattle.pair_standing.proofs.winner.Winner.write_all.Goals as goal
@@ -11,6 +11,8 @@ loop-number-preserved g c =
       and_then N _ _ _ c.loop-number.invariant.0 goes,
       gone_below N (g.B.Lockstep.state c.loop-number.self.board) (g.B.Lockstep.state c.write.new.self.board)
           c.loop-number.number goes.fewer c.loop-number.invariant.1 c.in_ok-write.ensures.gone,
+      c.in_ok-write.ensures.screens.0 ∙ c.loop-number.invariant.2,
+      c.in_ok-write.ensures.screens.1 ∙ c.loop-number.invariant.3,
     )
 
 pub returns-clause-goes_on : goal.returns-clause-goes_on

@@ -1,4 +1,4 @@
--- So far it went on, and no write below this number is outstanding.
+-- So far it went on, no write below this number is outstanding, and the terminals have what they had.
 use Rattle.std.proofs.Common.{◌≡◌, ℕ, ◌<◌, None}
 use Rattle.event_callbacks.specs.declared.operations.OpId.TheVariants as id
 use Rattle.pair_standing.specs.Finishing.{GoesOn, held}
@@ -12,3 +12,4 @@ invariant-loop-number g l =
     (held l.self.list.items l.self.accepted0.items l.self.accepted1.items (g.D.SectorStore.records l.self.disk)
     (g.B.Lockstep.state l.self.board))
     × ((k : ℕ) → k < l.number → g.B.Lockstep.machine.find (g.B.Lockstep.state l.self.board) (id.Write k) ≡ None)
+    × (l.self.accepted0 ≡ l.fn.self.accepted0) × (l.self.accepted1 ≡ l.fn.self.accepted1)

@@ -1,12 +1,12 @@
 -- A byte is given, and its acceptance is taken.
-use Rattle.std.proofs.Common.{◌∷◌, [], ◌++◌, ap, subst, sym, ◌∙◌, Vec, Global, ℕ}
+use Rattle.std.proofs.Common.{◌∷◌, [], ◌++◌, ap, subst, ◌∙◌, Vec, Global, ℕ}
 use Rattle.guest_lockstep.specs.Recorded.{Accepts}
 use Rattle.guest_lockstep.specs.declared.input.Input.TheVariants as input
 use Rattle.guest_lockstep.specs.declared.reads.Reads.TheVariants.{Logged}
 use Rattle.log_entry.specs.Entries.{entry_of}
 use Rattle.log_entry.specs.declared.entry.Entry.{Entry}
-use Rattle.pair_standing.proofs.Going.{byte_goes}
-use Rattle.pair_standing.proofs.winner.Winner.give.Goals as goal
+use Rattle.pair_standing.proofs.Going.{both_ok, byte_goes}
+use Rattle.pair_standing.proofs.winner.Winner.accept.Goals as goal
 
 pub returns-clause-goes_on : goal.returns-clause-goes_on
 returns-clause-goes_on g c =
@@ -18,14 +18,15 @@ returns-clause-goes_on g c =
     let port = c.args.port in
     let shown = c.show.ensures.same in
     let took = c.take.ensures.same in
-    byte_goes N g.met.B.Lockstep.operations old.list.items old.accepted0.items old.accepted1.items (records old.disk)
-    (state old.board) (state new.board) port c.in-Some.number c.in-Some-byte.byte (sym c.due_byte.ensures ∙ c.in-Some.is)
-    c.in-Some-byte.ensures.there
-    (subst (λ b. Accepts N (state b) (input.Sent port) (state new.board)) shown.0 c.in_ok-take.ensures.taken)
+    both_ok c.take.result
+    (λ taken list. byte_goes N g.met.B.Lockstep.operations old.list.items old.accepted0.items old.accepted1.items
+    (records old.disk) (state old.board) (state new.board) port c.args.number c.args.byte c.requires.due c.requires.there
+    (subst (λ b. Accepts N (state b) (input.Sent port) (state new.board)) shown.0 taken)
     new.list.items new.accepted0.items new.accepted1.items (records new.disk)
-    (c.in_ok-take.ensures.list
+    (list
     ∙ ap (λ (v : Vec Entry Global). v.items ++ entry_of Logged (N.count (state c.show.new.self.board)) (input.Sent port) ∷ [])
     shown.1
     ∙ ap (λ b. old.list.items ++ entry_of Logged (N.count (state b)) (input.Sent port) ∷ []) shown.0)
     (ap (λ (v : Vec ℕ Global). v.items) took.0 ∙ c.in_ok-show.ensures.screen0)
-    (ap (λ (v : Vec ℕ Global). v.items) took.1 ∙ c.in_ok-show.ensures.screen1) (ap records (took.2 ∙ shown.2))
+    (ap (λ (v : Vec ℕ Global). v.items) took.1 ∙ c.in_ok-show.ensures.screen1) (ap records (took.2 ∙ shown.2)))
+    c.take.ensures.taken c.take.ensures.list
