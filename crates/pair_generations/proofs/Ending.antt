@@ -1,6 +1,5 @@
--- The end of a generation is that of the machine that booted first, whether its copy is exact or not; and it is said with what the
--- end itself has as typed.
-use Rattle.std.proofs.Common.{◌≡◌, ℕ, ◌+◌, ◌<◌, inl, inr, true, false, List, [], ◌∷◌, ◌++◌, length, map, take, drop, Option, Some, None, sym, ap, subst, ◌∙◌, arith}
+-- The end of a generation is that of the machine that booted first, whether its copy is exact or not.
+use Rattle.std.proofs.Common.{◌≡◌, ℕ, ◌+◌, ◌<◌, inl, inr, true, false, List, [], ◌∷◌, ◌++◌, length, take, drop, Option, Some, None, sym, ap, subst, ◌∙◌, arith}
 use Rattle.std.specs.Prelude.{slice_index_or}
 use Rattle.guest_lockstep.specs.Machine.{Machine, Move}
 use Rattle.log_entry.specs.Entries.{last_count}
@@ -9,7 +8,6 @@ use Rattle.pair_protocol.specs.Lawful.{Among, Lawful}
 use Rattle.pair_generations.specs.Generations.{HasEnded, machine_at}
 use Rattle.pair_generations.specs.declared.origin.Origin.{Origin}
 use Rattle.pair_threads.specs.Ending.{EndsBy, IsTraceOf}
-use Rattle.pair_threads.specs.Left.{LeavesBy}
 use Rattle.pair_threads.specs.declared.workers.GenerationEnd.{GenerationEnd}
 use Rattle.pair_threads.specs.declared.gate.Who.{Who}
 use Rattle.pair_threads.specs.declared.gate.Who.TheVariants as who
@@ -49,24 +47,6 @@ module _ {S : Type 0} (M : Machine S) (lawful : Lawful M) where
   looser typed0 typed1 (Some who.Link) primary backup held screens records s t ends = ends
   looser typed0 typed1 (Some who.Terminal) primary backup held screens records s t ends = ends
   looser typed0 typed1 (Some who.Disk) primary backup held screens records s t ends = ends
-
--- what was typed is as it was
-pub has_ended : {B D S : Type 0} (state : B → S) (records : D → List Record) (M : Machine S) (e : GenerationEnd B D)
-    (typed0 typed1 : List ℕ) → e.typed0.items ≡ typed0 → e.typed1.items ≡ typed1
-    → EndsBy M false typed0 typed1 e.winner e.primary.items e.backup.items e.held (map (λ v. v.items) e.accepted)
-    (records e.disk) (state e.primary_board) (state e.backup_board)
-    → LeavesBy M typed0 typed1 e.winner e.primary.items e.backup.items e.waiting (map (λ v. v.items) e.accepted)
-    (records e.disk) (state e.primary_board) (state e.backup_board) → HasEnded state records M e
-has_ended state records M e typed0 typed1 is0 is1 ends left = record {
-  ends = subst (λ a. EndsBy M false a e.typed1.items e.winner e.primary.items e.backup.items e.held
-      (map (λ v. v.items) e.accepted) (records e.disk) (state e.primary_board) (state e.backup_board)) (sym is0)
-      (subst (λ b. EndsBy M false typed0 b e.winner e.primary.items e.backup.items e.held (map (λ v. v.items) e.accepted)
-      (records e.disk) (state e.primary_board) (state e.backup_board)) (sym is1) ends);
-  left = subst (λ a. LeavesBy M a e.typed1.items e.winner e.primary.items e.backup.items e.waiting
-      (map (λ v. v.items) e.accepted) (records e.disk) (state e.primary_board) (state e.backup_board)) (sym is0)
-      (subst (λ b. LeavesBy M typed0 b e.winner e.primary.items e.backup.items e.waiting (map (λ v. v.items) e.accepted)
-      (records e.disk) (state e.primary_board) (state e.backup_board)) (sym is1) left);
-}
 
 -- where workers may begin, their end is that of the machine that booted first
 pub resumed_ends : {B D S : Type 0} (state : B → S) (records : D → List Record) (N : Machine S) (here there : Origin B)

@@ -4,6 +4,7 @@ use Rattle.std.proofs.Common.{◌≡◌, ℕ, ◌≤◌, false, length, take, Li
 use Rattle.guest_lockstep.specs.Machine.{Machine}
 use Rattle.log_entry.specs.declared.entry.Entry.{Entry}
 use Rattle.pair_generations.specs.Generations.{MayBeKnownAt, MayResume}
+use Rattle.pair_lines.specs.declared.lines.Lines.{Lines}
 use Rattle.pair_rule.specs.Rules.{IsStart}
 use Rattle.pair_rule.specs.declared.known.Known.{Known}
 use Rattle.pair_standing.specs.declared.standing.Standing.{Standing}
@@ -39,7 +40,7 @@ module _ {B D S : Type 0} (state : B → S) (records : D → List Record) (N : M
       (records st.disk)) (λ i. by_port (how_long st.accepted.0 i) (how_long st.accepted.1 i) 0) may.begins)
 
   pub resumes : (list : Vec Entry Global) → list.items ≡ st.list.items → (fates : Vec Fate Global)
-      (primary backup : Option ℕ) (steps : ℕ) → MayResume state records N boot first (record {
+      (primary backup : Option ℕ) (steps : ℕ) (lines : Lines) → MayResume state records N boot first (record {
         workers = record {
           primary = st.board;
           backup = copy;
@@ -62,8 +63,9 @@ module _ {B D S : Type 0} (state : B → S) (records : D → List Record) (N : M
         backup_list = list;
         taken = st.taken;
         accepted = st.accepted;
+        lines = lines;
       })
-  resumes list same fates primary backup steps = record {
+  resumes list same fates primary backup steps lines = record {
     start = starts;
     lists = (may.primary_list, same ∙ may.backup_list, sym (how_long st.list) ∙ may.seen);
     counted = (sym (how_long st.accepted.0) ∙ may.counted0, sym (how_long st.accepted.1) ∙ may.counted1);

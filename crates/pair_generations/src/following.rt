@@ -1,6 +1,6 @@
 //! What a generation begins with that follows another.
 ghost use Rattle.std.specs.Prelude.{◌≡◌, ◌<◌, IfErr, IfOk, List, vec_len};
-ghost use Rattle.pair_generations.specs.Generations.{IsSettled, MayBeKnownAt, MayResume, machine_at};
+ghost use Rattle.pair_generations.specs.Generations.{HasNoLines, IsSettled, MayBeKnownAt, MayResume, machine_at};
 ghost use Rattle.pair_generations.specs.Guests.{IsGuest};
 ghost use Rattle.pair_rule.specs.declared.view.Knowledge.{Knowledge};
 ghost use Rattle.pair_threads.specs.Ending.{IsEnding};
@@ -12,6 +12,7 @@ use clone_state::Copies;
 use guest_lockstep::Lockstep;
 use i8080_words::R;
 use log_entry::Entry;
+use pair_lines::Lines;
 use pair_rule::{Known, Recalls, Start, known_by};
 use pair_standing::{Standing, copy_to};
 use pair_threads::{Fate, Resumed, Workers};
@@ -72,6 +73,7 @@ pub(crate) fn follow<B: Copies<H> + Drop, H: Drop, D: SectorStore>(
         ready.origin.records r.0) }
     ensures typed { IfOk result (λ r. (r.0.workers.typed0 ≡ ready.standing.typed.0)
         × (r.0.workers.typed1 ≡ ready.standing.typed.1)) }
+    ensures lines { IfOk result (λ r. HasNoLines r.0.lines) }
     ensures asks { IfOk result (λ r. (r.0.workers.primary_contests ≡ next.primary_contests)
         × (r.0.workers.backup_contests ≡ next.backup_contests)) }
     ensures refused { IfErr result IsEnding }
@@ -120,6 +122,7 @@ fn resumed_at<B: Lockstep + Drop, D: SectorStore>(
         → MayBeKnownAt B.state D.records B.machine (B.state boot) first standing generation known.known
         → IfOk result (MayResume B.state D.records B.machine (B.state boot) first) }
     ensures typed { IfOk result (λ r. (r.workers.typed0 ≡ standing.typed.0) × (r.workers.typed1 ≡ standing.typed.1)) }
+    ensures lines { IfOk result (λ r. HasNoLines r.lines) }
     ensures orders { IfOk result (λ r. (r.workers.primary_contests ≡ orders.primary_contests)
         × (r.workers.backup_contests ≡ orders.backup_contests)) }
     ensures refused { IfErr result IsEnding }
@@ -143,6 +146,7 @@ fn resumed_at<B: Lockstep + Drop, D: SectorStore>(
         backup_list,
         taken: (taken.0 as usize, taken.1 as usize),
         accepted,
+        lines: Lines::none(),
     })
 }
 

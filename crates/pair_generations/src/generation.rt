@@ -113,7 +113,7 @@ pub(crate) fn advance<
     let ready = settle(going, limits.tries)?;
     let generation = ready.generation;
     let (resumed, origin) = follow(alloc, ready, next, limits)?;
-    let end = run_generation_at(rt, alloc, resumed, gate, limits.turns)?;
+    let end = run_generation_at(rt, alloc, resumed, false, gate, limits.turns)?;
     Ok(Going {
         end,
         origin,

@@ -9,6 +9,7 @@ use guest_board::Setup;
 use guest_lockstep::Lockstep;
 use i8080_words::R;
 use log_entry::Entry;
+use pair_lines::Lines;
 use pair_standing::finish_alone;
 use pair_threads::{GenerationEnd, Who};
 use std::alloc::Global;
@@ -46,6 +47,7 @@ fn end_of<B: Lockstep + Drop>(
         winner: Some(Who::Primary),
         accepted: [Vec::new(alloc), Vec::new(alloc)],
         disk,
+        lines: Lines::none(),
     })
 }
 
