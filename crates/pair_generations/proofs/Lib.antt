@@ -2,3 +2,4 @@ pub mod Settled
 pub mod Resuming
 pub mod Ending
 pub mod Altair
+pub mod Over

@@ -1,8 +1,7 @@
 -- How a generation of a pair ends, and how the next one begins.
-use Rattle.std.specs.Prelude.{◌≡◌, ◌≤◌, ℕ, false, map, take, vec_len, List, [], ◌∷◌, Option, None}
+use Rattle.std.specs.Prelude.{◌≡◌, ◌≤◌, ℕ, Bool, true, false, map, take, vec_len, List, [], ◌∷◌, Option, None}
 use Rattle.guest_lockstep.specs.Machine.{Machine, booted_from}
 use Rattle.pair_generations.specs.declared.generation.Next.{Next}
-use Rattle.pair_lines.specs.declared.lines.Lines.{Lines}
 use Rattle.pair_protocol.specs.Lawful.{Among}
 use Rattle.pair_rule.specs.Rules.{IsStart}
 use Rattle.pair_rule.specs.Threads.{bytes_accepted}
@@ -37,9 +36,10 @@ abbrev pub WonLater : {H : Type 0} → List (Next H) → Option Who → Type 0
 WonLater {H} later winner =
     (n : Next H) × Among n later × WonBy n.primary_contests n.backup_contests winner
 
--- no key comes over these lines
-abbrev pub HasNoLines : Lines → Type 0
-HasNoLines lines = (lines.keyboard0.ring ≡ None) × (lines.keyboard1.ring ≡ None)
+-- at which turn a host is to ask: at none if hosts fail when the gate says so
+abbrev pub planned : Bool → Option ℕ → Option ℕ
+planned true turn = None
+planned false turn = turn
 
 -- a run of it is settled
 abbrev pub IsSettled : {B D S : Type 0} → (B → S) → (D → List Record) → Machine S → Standing B D → Type 0

@@ -1,6 +1,6 @@
 //! What a generation begins with that follows another.
 ghost use Rattle.std.specs.Prelude.{◌≡◌, ◌<◌, IfErr, IfOk, List, vec_len};
-ghost use Rattle.pair_generations.specs.Generations.{HasNoLines, IsSettled, MayBeKnownAt, MayResume, machine_at};
+ghost use Rattle.pair_generations.specs.Generations.{IsSettled, MayBeKnownAt, MayResume, machine_at, planned};
 ghost use Rattle.pair_generations.specs.Guests.{IsGuest};
 ghost use Rattle.pair_rule.specs.declared.view.Knowledge.{Knowledge};
 ghost use Rattle.pair_threads.specs.Ending.{IsEnding};
@@ -23,6 +23,7 @@ use std::alloc::Global;
 #[derive(Drop)]
 pub(crate) struct Ready<B: Drop, D: SectorStore> {
     pub(crate) standing: Standing<B, D>,
+    pub(crate) lines: Lines,
     pub(crate) origin: Origin<B>,
     pub(crate) generation: u32,
 }
@@ -62,6 +63,7 @@ pub(crate) fn follow<B: Copies<H> + Drop, H: Drop, D: SectorStore>(
     alloc: Global,
     mut ready: Ready<B, D>,
     next: Next<H>,
+    watched: bool,
     limits: Limits,
 ) -> R<(Resumed<B, D>, Origin<B>)>
     requires first { 0 < ready.generation }
@@ -73,9 +75,9 @@ pub(crate) fn follow<B: Copies<H> + Drop, H: Drop, D: SectorStore>(
         ready.origin.records r.0) }
     ensures typed { IfOk result (λ r. (r.0.workers.typed0 ≡ ready.standing.typed.0)
         × (r.0.workers.typed1 ≡ ready.standing.typed.1)) }
-    ensures lines { IfOk result (λ r. HasNoLines r.0.lines) }
-    ensures asks { IfOk result (λ r. (r.0.workers.primary_contests ≡ next.primary_contests)
-        × (r.0.workers.backup_contests ≡ next.backup_contests)) }
+    ensures lines { IfOk result (λ r. (r.0.lines ≡ ready.lines) × (r.0.accepted ≡ ready.standing.accepted)) }
+    ensures asks { IfOk result (λ r. (r.0.workers.primary_contests ≡ planned watched next.primary_contests)
+        × (r.0.workers.backup_contests ≡ planned watched next.backup_contests)) }
     ensures refused { IfErr result IsEnding }
 {
     let Next {
@@ -96,23 +98,35 @@ pub(crate) fn follow<B: Copies<H> + Drop, H: Drop, D: SectorStore>(
     let known = known_at(&ready);
     let orders = Orders {
         fates,
-        primary_contests,
-        backup_contests,
+        primary_contests: planned(watched, primary_contests),
+        backup_contests: planned(watched, backup_contests),
         steps: limits.steps,
     };
     let Ready {
         standing,
+        lines,
         origin,
         generation,
     } = ready;
-    let resumed = resumed_at(alloc, standing, known, copy, generation, orders)?;
+    let resumed = resumed_at(alloc, standing, lines, known, copy, generation, orders)?;
     Ok((resumed, origin))
+}
+
+/// At which turn a host is to ask: at none in a pair whose hosts fail when the gate says so.
+pub(crate) fn planned(watched: bool, turn: Option<u64>) -> Option<u64>
+    ensures { result ≡ planned watched turn }
+{
+    if watched {
+        return None;
+    }
+    turn
 }
 
 // The workers that begin there: the guest that stands is the primary's, its copy the backup's, and both have the whole list.
 fn resumed_at<B: Lockstep + Drop, D: SectorStore>(
     alloc: Global,
     standing: Standing<B, D>,
+    lines: Lines,
     known: Known,
     copy: B,
     generation: u32,
@@ -122,7 +136,7 @@ fn resumed_at<B: Lockstep + Drop, D: SectorStore>(
         → MayBeKnownAt B.state D.records B.machine (B.state boot) first standing generation known.known
         → IfOk result (MayResume B.state D.records B.machine (B.state boot) first) }
     ensures typed { IfOk result (λ r. (r.workers.typed0 ≡ standing.typed.0) × (r.workers.typed1 ≡ standing.typed.1)) }
-    ensures lines { IfOk result (λ r. HasNoLines r.lines) }
+    ensures lines { IfOk result (λ r. (r.lines ≡ lines) × (r.accepted ≡ standing.accepted)) }
     ensures orders { IfOk result (λ r. (r.workers.primary_contests ≡ orders.primary_contests)
         × (r.workers.backup_contests ≡ orders.backup_contests)) }
     ensures refused { IfErr result IsEnding }
@@ -146,7 +160,7 @@ fn resumed_at<B: Lockstep + Drop, D: SectorStore>(
         backup_list,
         taken: (taken.0 as usize, taken.1 as usize),
         accepted,
-        lines: Lines::none(),
+        lines,
     })
 }
 

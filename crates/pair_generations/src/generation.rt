@@ -1,14 +1,17 @@
 //! One generation of a pair after another.
-ghost use Rattle.std.specs.Prelude.{◌≡◌, ◌+◌, IfErr, IfOk};
+ghost use Rattle.std.specs.Prelude.{◌≡◌, ◌+◌, ◌∷◌, [], ℕ, List, false, map, IfErr, IfOk};
 ghost use Rattle.pair_generations.specs.Generations.{HasEnded, IsSettled, machine_at};
 ghost use Rattle.pair_generations.specs.Guests.{IsGuest};
+ghost use Rattle.pair_lines.specs.declared.lines.Lines.{Lines};
+ghost use Rattle.pair_standing.specs.Alone.{ShowsOver};
 ghost use Rattle.pair_threads.specs.Ending.{IsEnding, WonBy};
+ghost use Rattle.pair_threads.specs.Typing.{IsOver};
 
 use crate::following::{Orders, Ready, follow};
 use crate::origin::Origin;
 use clone_state::Copies;
 use i8080_words::{Fault, R};
-use pair_standing::finish_alone;
+use pair_standing::finish_over;
 use pair_threads::{Fate, Gate, GenerationEnd, run_generation_at};
 use shared_disk::SectorStore;
 use std::alloc::Global;
@@ -51,7 +54,8 @@ pub(crate) struct Going<B: Drop, D: SectorStore> {
 }
 
 // Whoever goes on finishes what is outstanding.
-fn settle<B: Copies<H> + Drop, H: Drop, D: SectorStore>(
+fn settle<B: Copies<H> + Drop, H: Drop, D: SectorStore, C: Clock>(
+    clock: &C,
     going: Going<B, D>,
     tries: u64,
 ) -> R<Ready<B, D>>
@@ -62,6 +66,10 @@ fn settle<B: Copies<H> + Drop, H: Drop, D: SectorStore>(
     ensures next { IfOk result (λ ready. ready.generation ≡ going.generation + 1) }
     ensures typed { IfOk result (λ ready. (ready.standing.typed.0 ≡ going.end.typed0)
         × (ready.standing.typed.1 ≡ going.end.typed1)) }
+    ensures keyboards { IfOk result (λ ready. (ready.lines.keyboard0 ≡ going.end.lines.keyboard0)
+        × (ready.lines.keyboard1 ≡ going.end.lines.keyboard1)) }
+    ensures shown { IfOk result (λ ready. ShowsOver going.end.lines.screen (map (λ v. v.items) going.end.accepted)
+        ready.lines.screen (ready.standing.accepted.0.items ∷ ready.standing.accepted.1.items ∷ [])) }
     ensures settled { IfOk result (λ ready. IsSettled B.state D.records
         (machine_at B.machine (B.state going.origin.boot) going.origin.records) ready.standing) }
     ensures refused { IfErr result IsEnding }
@@ -74,9 +82,10 @@ fn settle<B: Copies<H> + Drop, H: Drop, D: SectorStore>(
     let Some(generation) = generation.checked_add(1) else {
         return Err(Fault::Stalled);
     };
-    let standing = finish_alone(end, tries)?;
+    let (standing, lines) = finish_over(clock, end, tries)?;
     Ok(Ready {
         standing,
+        lines,
         origin,
         generation,
     })
@@ -95,6 +104,7 @@ pub(crate) fn advance<
     alloc: Global,
     going: Going<B, D>,
     next: Next<H>,
+    watched: bool,
     gate: &G,
     limits: Limits,
 ) -> R<Going<B, D>>
@@ -105,15 +115,16 @@ pub(crate) fn advance<
     ensures next { IfOk result (λ new. new.generation ≡ going.generation + 1) }
     ensures ended { IfOk result (λ new. HasEnded B.state D.records
         (machine_at B.machine (B.state going.origin.boot) going.origin.records) new.end) }
-    ensures typed { IfOk result (λ new. (new.end.typed0.items ≡ going.end.typed0.items)
-        × (new.end.typed1.items ≡ going.end.typed1.items)) }
-    ensures won { IfOk result (λ new. WonBy next.primary_contests next.backup_contests new.end.winner) }
+    ensures over { (typed0 typed1 : List ℕ) (lines : Lines) (screens : List (List ℕ))
+        → IsOver typed0 typed1 lines screens going.end → IfOk result (λ new. IsOver typed0 typed1 lines screens new.end) }
+    ensures won { watched ≡ false
+        → IfOk result (λ new. WonBy next.primary_contests next.backup_contests new.end.winner) }
     ensures refused { IfErr result IsEnding }
 {
-    let ready = settle(going, limits.tries)?;
+    let ready = settle(rt, going, limits.tries)?;
     let generation = ready.generation;
-    let (resumed, origin) = follow(alloc, ready, next, limits)?;
-    let end = run_generation_at(rt, alloc, resumed, false, gate, limits.turns)?;
+    let (resumed, origin) = follow(alloc, ready, next, watched, limits)?;
+    let end = run_generation_at(rt, alloc, resumed, watched, gate, limits.turns)?;
     Ok(Going {
         end,
         origin,

@@ -10,4 +10,4 @@ mod run;
 pub use generation::{Limits, Next};
 pub use laws::altairs_may_go_on;
 pub use origin::Origin;
-pub use run::{PairEnd, run_pair};
+pub use run::{PairEnd, run_pair, run_pair_over};

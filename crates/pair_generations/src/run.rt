@@ -1,15 +1,19 @@
 //! A pair on threads over all its generations.
-ghost use Rattle.std.specs.Prelude.{◌≡◌, ◌⊎◌, ◌+◌, None, length, IfErr, IfOk};
+ghost use Rattle.std.specs.Prelude.{◌≡◌, ◌⊎◌, ◌+◌, ◌∷◌, [], ℕ, List, None, false, length, IfErr, IfOk};
 ghost use Rattle.pair_generations.specs.Generations.{HasEnded, WonLater, machine_at};
 ghost use Rattle.pair_generations.specs.Guests.{IsGuest};
+ghost use Rattle.pair_lines.specs.declared.lines.Lines.{Lines};
 ghost use Rattle.pair_threads.specs.Ending.{IsEnding, WonBy};
+ghost use Rattle.pair_threads.specs.Typing.{IsOver};
 ghost use Rattle.shared_disk.specs.Records.{IsUnwritten};
 
+use crate::following::planned;
 use crate::generation::{Going, Limits, Next, advance};
 use crate::origin::origin_of;
 use clone_state::Copies;
 use i8080_words::R;
-use pair_threads::{Gate, GenerationEnd, Workers, run_generation};
+use pair_lines::Lines;
+use pair_threads::{Gate, GenerationEnd, Workers, run_generation_over};
 use shared_disk::SectorStore;
 use std::alloc::Global;
 use std::thread::Threads;
@@ -35,6 +39,7 @@ fn go_on<
     alloc: Global,
     first: Going<B, D>,
     mut later: Vec<Next<H>>,
+    watched: bool,
     gate: &G,
     limits: Limits,
 ) -> R<Going<B, D>>
@@ -43,9 +48,10 @@ fn go_on<
         first.end }
     ensures ended { IfOk result (λ new. HasEnded B.state D.records
         (machine_at B.machine (B.state first.origin.boot) first.origin.records) new.end) }
-    ensures typed { IfOk result (λ new. (new.end.typed0.items ≡ first.end.typed0.items)
-        × (new.end.typed1.items ≡ first.end.typed1.items)) }
-    ensures won { IfOk result (λ new. (new.end.winner ≡ first.end.winner) ⊎ WonLater later.items new.end.winner) }
+    ensures over { (typed0 typed1 : List ℕ) (lines : Lines) (screens : List (List ℕ))
+        → IsOver typed0 typed1 lines screens first.end → IfOk result (λ new. IsOver typed0 typed1 lines screens new.end) }
+    ensures won { watched ≡ false
+        → IfOk result (λ new. (new.end.winner ≡ first.end.winner) ⊎ WonLater later.items new.end.winner) }
     ensures last { IfOk result (λ new. (new.end.winner ≡ None)
         ⊎ (new.generation ≡ first.generation + length later.items)) }
     ensures refused { IfErr result IsEnding }
@@ -53,16 +59,62 @@ fn go_on<
     let mut going = first;
     while going.end.winner.is_some() && !later.is_empty() {
         let next = later.remove(0);
-        going = advance(rt, alloc, going, next, gate, limits)?;
+        going = advance(rt, alloc, going, next, watched, gate, limits)?;
     }
     Ok(going)
 }
 
-/// Runs a pair over generations: the first as `run_generation` does, and whenever a node goes on alone it takes what is
-/// outstanding, its machine is copied to the next spare host of `later`, and both begin the next generation where the run was
-/// settled. It ends with the first generation in which nobody goes on alone, or with the last for which there is a host. Its end
-/// is that of one machine, the one that booted first, on one list, over all generations. `Stalled` if a generation ends in no such way, a
-/// disk fails too often or a copy does not arrive; `OutOfMemory` if memory or a thread is refused.
+/// Runs a pair over generations and over these lines: the first generation as `run_generation_over` does, and whenever a node goes on
+/// alone it takes what is outstanding, its machine is copied to the next spare host of `later`, and both begin the next generation where the
+/// run was settled, over the same lines. If the pair is watched, its hosts fail when the gate says so, and at no turn. It ends with the first
+/// generation in which nobody goes on alone, or with the last for which there is a host. Its end is that of one machine, the one that
+/// booted first, on one list, over all generations. `Stalled` if a generation ends in no such way, a disk fails too often or a copy
+/// does not arrive; `OutOfMemory` if memory or a thread is refused.
+pub fn run_pair_over<
+    B: Copies<H> + Send + Drop,
+    H: Drop,
+    D: SectorStore + Send,
+    G: Gate + Sync,
+    T: Threads + Clock + Sync,
+>(
+    rt: &T,
+    alloc: Global,
+    mut workers: Workers<B, D>,
+    lines: Lines,
+    watched: bool,
+    later: Vec<Next<H>>,
+    gate: &G,
+    limits: Limits,
+) -> R<PairEnd<B, D>>
+    requires guest { IsGuest B.state B.copied (machine_at B.machine (B.state workers.primary) (D.records workers.disk)) }
+    requires alike { B.state workers.backup ≡ B.state workers.primary }
+    requires unwritten { IsUnwritten (D.records workers.disk) }
+    ensures ended { IfOk result (λ e. HasEnded B.state D.records
+        (machine_at B.machine (B.state workers.primary) (D.records workers.disk)) e.end) }
+    ensures over { IfOk result (λ e. IsOver workers.typed0.items workers.typed1.items lines ([] ∷ [] ∷ []) e.end) }
+    ensures won { watched ≡ false → IfOk result (λ e. WonBy workers.primary_contests workers.backup_contests e.end.winner
+        ⊎ WonLater later.items e.end.winner) }
+    ensures last { IfOk result (λ e. (e.end.winner ≡ None) ⊎ (e.generations ≡ 1 + length later.items)) }
+    ensures refused { IfErr result IsEnding }
+{
+    let origin = origin_of(&workers);
+    workers.primary_contests = planned(watched, workers.primary_contests);
+    workers.backup_contests = planned(watched, workers.backup_contests);
+    let end = run_generation_over(rt, alloc, workers, lines, watched, gate, limits.turns)?;
+    let first = Going {
+        end,
+        origin,
+        generation: 1,
+    };
+    let last = go_on(rt, alloc, first, later, watched, gate, limits)?;
+    Ok(PairEnd {
+        end: last.end,
+        generations: last.generation,
+    })
+}
+
+/// Runs a pair over generations, in which hosts ask at the turns that are planned, without lines: its keys are those that were
+/// typed before.
 pub fn run_pair<
     B: Copies<H> + Send + Drop,
     H: Drop,
@@ -89,16 +141,14 @@ pub fn run_pair<
     ensures last { IfOk result (λ e. (e.end.winner ≡ None) ⊎ (e.generations ≡ 1 + length later.items)) }
     ensures refused { IfErr result IsEnding }
 {
-    let origin = origin_of(&workers);
-    let end = run_generation(rt, alloc, workers, gate, limits.turns)?;
-    let first = Going {
-        end,
-        origin,
-        generation: 1,
-    };
-    let last = go_on(rt, alloc, first, later, gate, limits)?;
-    Ok(PairEnd {
-        end: last.end,
-        generations: last.generation,
-    })
+    run_pair_over(
+        rt,
+        alloc,
+        workers,
+        Lines::none(),
+        false,
+        later,
+        gate,
+        limits,
+    )
 }

@@ -4,8 +4,9 @@ use Rattle.std.specs.Prelude.{◌==◌, nat_lt, if◌then◌else◌}
 use Rattle.pair_lines.specs.Lines.{HasShown, IsSameEnd, IsSameStart, heard, with_byte}
 use Rattle.pair_lines.specs.declared.keyboard.Keyboard.{Keyboard}
 use Rattle.pair_lines.specs.declared.screen.Screen.{Screen}
-use Rattle.pair_standing.specs.Alone.{Shows, Types}
+use Rattle.pair_standing.specs.Alone.{Shows, ShowsOver, Types}
 use Rattle.pair_standing.specs.Finishing.{after_byte}
+use Rattle.pair_threads.specs.Ending.{EachScreen}
 use Rattle.rtrb.specs.declared.consumer.Consumer.{Consumer}
 use Rattle.rtrb.specs.declared.producer.Producer.{Producer}
 
@@ -98,3 +99,14 @@ shows_byte old new (suc zero) number byte old0 old1 new0 new1 accepted two many 
     as_it_was false bytes = refl
 shows_byte old new (suc (suc port)) number byte old0 old1 new0 new1 accepted two many same shown is0 is1 =
     absurd (omega (arith, two))
+
+-- what the terminals of an end have accepted, and what they have in the end
+pub shows_over : (old new : Screen) (screens : List (List ℕ)) (old0 old1 new0 new1 : List ℕ) → screens ≡ old0 ∷ old1 ∷ []
+    → Shows old new old0 old1 new0 new1 → ShowsOver old screens new (new0 ∷ new1 ∷ [])
+shows_over old new screens old0 old1 new0 new1 is shows = record {
+  same = shows.same;
+  shown = λ all.
+      let both = subst (EachScreen (HasShown old) 0) is all in
+      let now = shows.shown both.0 both.1.0 in
+      (now.0, (now.1, tt));
+}

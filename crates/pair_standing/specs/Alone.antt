@@ -12,6 +12,7 @@ use Rattle.pair_rule.specs.Knowledge.{StartsWith}
 use Rattle.pair_rule.specs.Law.{typed_at}
 use Rattle.pair_standing.specs.Finishing.{Held, IsLeft}
 use Rattle.pair_standing.specs.declared.typing.Typing.{Typing}
+use Rattle.pair_threads.specs.Ending.{EachScreen}
 
 -- ---- the guest
 
@@ -62,6 +63,11 @@ pub record Types (old : Keyboard) (typed : List ℕ) (new : Keyboard) (after : L
 pub record Shows (old new : Screen) (old0 old1 new0 new1 : List ℕ) : Type 0 where
   pub same : IsSameStart old.ring new.ring
   pub shown : HasShown old 0 old0 → HasShown old 1 old1 → HasShown new 0 new0 × HasShown new 1 new1
+
+-- the same of all terminals
+pub record ShowsOver (old : Screen) (before : List (List ℕ)) (new : Screen) (after : List (List ℕ)) : Type 0 where
+  pub same : IsSameStart old.ring new.ring
+  pub shown : EachScreen (HasShown old) 0 before → EachScreen (HasShown new) 0 after
 
 -- ---- all of it
 

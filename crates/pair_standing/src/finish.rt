@@ -95,8 +95,8 @@ fn each(accepted: &[Vec<u8>; 2]) -> (&Vec<u8>, &Vec<u8>)
     (first, second)
 }
 
-// Copies of both.
-fn both(accepted: &[Vec<u8>; 2]) -> R<(Vec<u8>, Vec<u8>)>
+/// Copies of both.
+pub(crate) fn both(accepted: &[Vec<u8>; 2]) -> R<(Vec<u8>, Vec<u8>)>
     ensures same { IfOk result (λ both. map (λ v. v.items) accepted.now ≡ both.0.items ∷ both.1.items ∷ []) }
     ensures refused { IfErr result IsEnding }
 {
@@ -104,8 +104,8 @@ fn both(accepted: &[Vec<u8>; 2]) -> R<(Vec<u8>, Vec<u8>)>
     Ok((first.clone()?, second.clone()?))
 }
 
-// What the end of a generation leaves to the guest that goes on, and what was typed.
-fn winner_of<B: Lockstep + Drop, D: SectorStore>(
+/// What the end of a generation leaves to the guest that goes on, and what was typed.
+pub(crate) fn winner_of<B: Lockstep + Drop, D: SectorStore>(
     end: GenerationEnd<B, D>,
     accepted: (Vec<u8>, Vec<u8>),
 ) -> R<(Winner<B, D>, (Vec<u8>, Vec<u8>))>

@@ -20,7 +20,7 @@ returns-clause-begins g c = λ boot first copied may.
       backup_list = list;
       taken = st.taken;
       accepted = st.accepted;
-      lines = c.none.result;
+      lines = c.args.lines;
     })) (sym c.workers_at-workers.ensures)
     (subst (λ start. MayResume state records N (state boot) first (record {
       workers = record {
@@ -39,7 +39,7 @@ returns-clause-begins g c = λ boot first copied may.
       backup_list = list;
       taken = st.taken;
       accepted = st.accepted;
-      lines = c.none.result;
+      lines = c.args.lines;
     })) (sym c.start_at-start.ensures)
     (resumes state records N (state boot) first st c.args.known c.args.generation c.args.copy copied may list same
-    orders.fates orders.primary_contests orders.backup_contests orders.steps c.none.result))
+    orders.fates orders.primary_contests orders.backup_contests orders.steps c.args.lines))

@@ -19,10 +19,9 @@ loop-later-preserved g c =
       new.origin ∙ inv.0,
       subst (λ (o : Origin _). HasEnded state records (machine_at N (state o.boot) o.records) c.in_ok-going.going.end) inv.0
           new.ended,
-      new.typed.0 ∙ inv.2,
-      new.typed.1 ∙ inv.3,
-      inr (c.remove-next.result, inv.5 c.remove-next.result first.0, new.won),
-      λ n at. inv.5 n (first.1 n at),
+      λ typed0 typed1 lines screens over. new.over typed0 typed1 lines screens (inv.2 typed0 typed1 lines screens over),
+      λ closed. inr (c.remove-next.result, inv.4 c.remove-next.result first.0, new.won closed),
+      λ n at. inv.4 n (first.1 n at),
       one_less later.items c.remove-next.new.self.items c.loop-later.going.generation _ _ c.remove-next.ensures.by_index.2 some
-          new.next inv.6,
+          new.next inv.5,
     )

@@ -1,5 +1,7 @@
 -- Whatever has run so far has ended as one generation of the machine that booted first.
-use Rattle.std.proofs.Common.{◌≡◌, ◌⊎◌, ◌+◌, length}
+use Rattle.std.proofs.Common.{◌≡◌, ◌⊎◌, ◌+◌, ℕ, List, false, length}
+use Rattle.pair_lines.specs.declared.lines.Lines.{Lines}
+use Rattle.pair_threads.specs.Typing.{IsOver}
 use Rattle.pair_generations.specs.Generations.{HasEnded, WonLater, machine_at}
 use Rattle.pair_protocol.specs.Lawful.{Among}
 use Rattle.pair_generations.proofs.run.go_on.Given as goal
@@ -9,8 +11,9 @@ invariant-loop-later g l =
     (l.going.origin ≡ l.fn.first.origin)
     × HasEnded g.B.Lockstep.state g.D.SectorStore.records (machine_at g.B.Lockstep.machine
     (g.B.Lockstep.state l.fn.first.origin.boot) l.fn.first.origin.records) l.going.end
-    × (l.going.end.typed0.items ≡ l.fn.first.end.typed0.items) × (l.going.end.typed1.items ≡ l.fn.first.end.typed1.items)
-    × ((l.going.end.winner ≡ l.fn.first.end.winner) ⊎ WonLater l.fn.later.items l.going.end.winner)
+    × ((typed0 typed1 : List ℕ) (lines : Lines) (screens : List (List ℕ)) → IsOver typed0 typed1 lines screens l.fn.first.end
+    → IsOver typed0 typed1 lines screens l.going.end)
+    × (l.watched ≡ false → (l.going.end.winner ≡ l.fn.first.end.winner) ⊎ WonLater l.fn.later.items l.going.end.winner)
     × ((n : _) → Among n l.later.items → Among n l.fn.later.items)
     × (l.going.generation + length l.later.items ≡ l.fn.first.generation + length l.fn.later.items)
 
