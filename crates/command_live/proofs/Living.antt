@@ -10,7 +10,7 @@ use Rattle.disk_dcdd.specs.declared.sector.TheConstants.{SECTOR_BYTES}
 use Rattle.guest_parts.specs.Guest.{Guest}
 use Rattle.guest_board.specs.Guest.{guest_at_boot}
 use Rattle.guest_board.specs.Inputs.{some_altair}
-use Rattle.guest_lockstep.specs.Machine.{booted_from}
+use Rattle.guest_lockstep.specs.Machine.{Machine, booted_from}
 use Rattle.log_entry.specs.declared.entry.Entry.{Entry}
 use Rattle.command_live.specs.Living.{AreBooted, AreTyped, BeginsAs, EndsOf, HasEnded, PrintsLive, PrintsNone, PrintsScreens, Tells, TellsEnd, TellsScreens, WonIn, end_text, typed_by, typed_in, with_byte}
 use Rattle.command_live.specs.Saving.{images_of}
@@ -187,6 +187,20 @@ has_ended setup given lines boot backup_boot booted typed0 typed1 winner primary
 pub if_ok : {A E : Type 0} (result : Result A E) (P Q : A → Type 0) → ((a : A) → P a → Q a) → IfOk result P → IfOk result Q
 if_ok (Ok a) P Q more h = more a h
 if_ok (Err e) P Q more h = tt
+
+pub if_both : {A E : Type 0} (result : Result A E) (P Q R : A → Type 0) → ((a : A) → P a → Q a → R a) → IfOk result P
+    → IfOk result Q → IfOk result R
+if_both (Ok a) P Q R more h i = more a h i
+if_both (Err e) P Q R more h i = tt
+
+-- what was typed in the end was typed before
+pub typed_so : {S : Type 0} (M : Machine S) (exact : Bool) (typed0 typed1 first second : List ℕ) (winner : Option Who)
+    (primary backup : List Entry) (held : ℕ) (screens : List (List ℕ)) (records : List Record) (s t : S) → typed0 ≡ first
+    → typed1 ≡ second → EndsBy M exact typed0 typed1 winner primary backup held screens records s t
+    → EndsBy M exact first second winner primary backup held screens records s t
+typed_so M exact typed0 typed1 first second winner primary backup held screens records s t is0 is1 ends =
+    subst (λ a. EndsBy M exact a second winner primary backup held screens records s t) is0
+    (subst (λ b. EndsBy M exact typed0 b winner primary backup held screens records s t) is1 ends)
 
 -- and the images of its disk
 pub ends_of : (setup : ScriptSetup) (given : List SectorWrite) (lines : List Line) (saved drives : List ℕ) (winner : Option Who)
