@@ -1,0 +1,14 @@
+//! The terminal of a console: keys and commands that are typed, and what appears on the screen.
+#![tactic(auto)]
+
+mod command;
+mod desk;
+mod keys;
+mod port;
+mod signs;
+
+pub use command::{Command, HELP, Keyword, Mistake, Order, order_of};
+pub use desk::{Act, Desk};
+pub use keys::{Heard, KeySource, TerminalKeys};
+pub use port::Port;
+pub use signs::Signs;
