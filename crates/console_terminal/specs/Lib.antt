@@ -1,3 +1,4 @@
 pub mod Commands
 pub mod Keys
+pub mod Listening
 pub mod Typing

@@ -1,7 +1,8 @@
 //! What each byte does that is typed.
 ghost use Rattle.std.specs.Prelude.{◌≡◌, ◌<◌, [], None};
-ghost use Rattle.console_terminal.specs.Typing.{act_of, edited, line_after, line_of, most_bytes};
+ghost use Rattle.console_terminal.specs.Typing.{act_of, edited, after, line_after, line_of, most_bytes, order_by, place_of, port_after};
 
+use crate::command::{Command, Order, order_of};
 use crate::port::Port;
 use arrayvec::ArrayVec;
 
@@ -75,6 +76,30 @@ impl Desk {
         }
     }
 
+    /// Takes a byte that is typed, and says what it does and which order it gives.
+    pub fn take(&mut self, byte: u8) -> (Act, Order)
+        ensures act { result.0 ≡ act_of self.old byte }
+        ensures order { result.1 ≡ order_by result.0 (line_of self.old) }
+        ensures after { place_of self.new ≡ after self.old.escape (place_of self.old) byte }
+        ensures escape { self.new.escape ≡ self.old.escape }
+    {
+        let act = self.act_of(byte);
+        let order = self.order_by(act);
+        self.change(act);
+        self.port = port_after(self.port, order);
+        (act, order)
+    }
+
+    // The order that is given by a byte that does this.
+    fn order_by(&self, act: Act) -> Order
+        ensures { result ≡ order_by act (line_of self.now) }
+    {
+        match act {
+            Act::HandsOn if self.is_open => order_of(self.line.as_slice()),
+            _ => Order::Nothing,
+        }
+    }
+
     /// Whether a command line is open.
     pub fn is_open(&self) -> bool
         ensures { result ≡ self.now.is_open }
@@ -108,6 +133,16 @@ impl Desk {
             }
             Act::Nothing => {}
         }
+    }
+}
+
+// The terminal that one is at after an order.
+fn port_after(port: Port, order: Order) -> Port
+    ensures { result ≡ port_after port order }
+{
+    match order {
+        Order::Command(Command::Terminal(at)) => at,
+        _ => port,
     }
 }
 

@@ -4,11 +4,15 @@
 mod command;
 mod desk;
 mod keys;
+mod listen;
+mod note;
 mod port;
 mod signs;
 
 pub use command::{Command, HELP, Keyword, Mistake, Order, order_of};
 pub use desk::{Act, Desk};
 pub use keys::{Heard, KeySource, TerminalKeys};
+pub use listen::{Ending, Interpreter, Listener};
+pub use note::Note;
 pub use port::Port;
 pub use signs::Signs;
