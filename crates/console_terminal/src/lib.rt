@@ -4,7 +4,7 @@
 mod command;
 mod desk;
 mod keys;
-mod listen;
+mod listener;
 mod note;
 mod port;
 mod signs;
@@ -12,7 +12,7 @@ mod signs;
 pub use command::{Command, HELP, Keyword, Mistake, Order, order_of};
 pub use desk::{Act, Desk};
 pub use keys::{Heard, KeySource, TerminalKeys};
-pub use listen::{Ending, Interpreter, Listener};
+pub use listener::{Ending, Interpreter, Listener, listen};
 pub use note::Note;
 pub use port::Port;
 pub use signs::Signs;
