@@ -3,6 +3,8 @@
 
 mod command;
 mod desk;
+mod display;
+mod echo;
 mod keys;
 mod listener;
 mod note;
@@ -11,6 +13,8 @@ mod signs;
 
 pub use command::{Command, HELP, Keyword, Mistake, Order, order_of};
 pub use desk::{Act, Desk};
+pub use display::Display;
+pub use echo::show_all;
 pub use keys::{Heard, KeySource, TerminalKeys};
 pub use listener::{Ending, Interpreter, Listener, listen};
 pub use note::Note;
