@@ -1,0 +1,3 @@
+pub mod Bytes
+pub mod Hearing
+pub mod Pieces

@@ -1,0 +1,109 @@
+-- The commands of a console, and how a line spells them.
+use Rattle.std.specs.Prelude.{ℕ, ◌+◌, ◌*◌, ◌-◌, ◌==◌, ◌&&◌, nat_le, Bool, true, false, if◌then◌else◌, List, [], ◌∷◌, take, drop, length, map, Option, None, Some, bytes_eq, codes}
+use Rattle.std.specs.List.{position_or_len, prefix_len}
+use Rattle.std.specs.Option.{option_map}
+use Rattle.std.specs.Char.{to_ascii_lowercase}
+use Rattle.console_terminal.specs.declared.command.Command.{Command}
+use Rattle.console_terminal.specs.declared.command.Keyword.{Keyword}
+use Rattle.console_terminal.specs.declared.command.Mistake.{Mistake}
+use Rattle.console_terminal.specs.declared.command.Order.{Order}
+use Rattle.console_terminal.specs.declared.port.Port.{Port}
+
+abbrev pub number_of_port : Port → ℕ
+number_of_port Port.Zero = 0
+number_of_port Port.One = 1
+
+-- ---- words
+
+abbrev is_empty : List ℕ → Bool
+is_empty word = length word == 0
+
+-- how many spaces a line begins with
+abbrev pub spaces_before : List ℕ → ℕ
+spaces_before line = prefix_len (λ byte. byte == 32) line
+
+-- how many bytes come before the first space
+abbrev pub bytes_before_space : List ℕ → ℕ
+bytes_before_space line = position_or_len (λ byte. byte == 32) line
+
+abbrev without_spaces : List ℕ → List ℕ
+without_spaces line = drop (spaces_before line) line
+
+-- the next word of a line, which is empty if there is none, and what is after it
+abbrev pub first_word : List ℕ → List ℕ
+first_word line = take (bytes_before_space (without_spaces line)) (without_spaces line)
+
+abbrev pub after_word : List ℕ → List ℕ
+after_word line = drop (bytes_before_space (without_spaces line)) (without_spaces line)
+
+-- ---- commands
+
+-- each command's word
+abbrev pub keywords : List (List ℕ × Keyword)
+keywords =
+    (codes "stop", Keyword.Stop) ∷ (codes "status", Keyword.Status) ∷ (codes "terminal", Keyword.Terminal)
+    ∷ (codes "help", Keyword.Help) ∷ (codes "quit", Keyword.Quit) ∷ []
+
+-- the two are the same but for the case of letters
+abbrev pub is_same_word : List ℕ → List ℕ → Bool
+is_same_word a b = bytes_eq (map to_ascii_lowercase a) (map to_ascii_lowercase b)
+
+-- the keyword of the first of these rows that has the word
+abbrev pub keyword_among : List (List ℕ × Keyword) → List ℕ → Option Keyword
+keyword_among [] word = None
+keyword_among (row ∷ rows) word =
+    if is_same_word word row.0 then Some row.1 else keyword_among rows word
+
+abbrev pub keyword_of : List ℕ → Option Keyword
+keyword_of word = keyword_among keywords word
+
+-- a decimal digit
+abbrev pub digit_of : ℕ → Option ℕ
+digit_of byte = if nat_le 48 byte && nat_le byte 57 then Some (byte - 48) else None
+
+abbrev two_digits : Option ℕ → Option ℕ → Option ℕ
+two_digits (Some tens) (Some units) = Some (tens * 10 + units)
+two_digits _ _ = None
+
+-- the number of a host: one or two digits
+abbrev pub host_of : List ℕ → Option ℕ
+host_of (units ∷ []) = digit_of units
+host_of (tens ∷ units ∷ []) = two_digits (digit_of tens) (digit_of units)
+host_of _ = None
+
+-- the number of a port: 0 or 1
+abbrev pub port_of : List ℕ → Option Port
+port_of (digit ∷ []) = if digit == 48 then Some Port.Zero else (if digit == 49 then Some Port.One else None)
+port_of _ = None
+
+abbrev alone : Command → List ℕ → Option Command
+alone command value = if is_empty value then Some command else None
+
+-- the command of a keyword with the word after it
+abbrev pub command_by : Keyword → List ℕ → Option Command
+command_by Keyword.Stop value = option_map (λ (host : ℕ). Command.Stop host) (host_of value)
+command_by Keyword.Status value = alone Command.Status value
+command_by Keyword.Terminal value = option_map (λ port. Command.Terminal port) (port_of value)
+command_by Keyword.Help value = alone Command.Help value
+command_by Keyword.Quit value = alone Command.Quit value
+
+-- a command with nothing after it, or what is wrong
+abbrev judged : Keyword → Option Command → List ℕ → Order
+judged keyword None more = Order.Mistake (Mistake.Unfit keyword)
+judged keyword (Some command) more =
+    if is_empty more then Order.Command command else Order.Mistake (Mistake.Unfit keyword)
+
+abbrev ordered : Option Keyword → List ℕ → Order
+ordered None rest = Order.Mistake Mistake.Unknown
+ordered (Some keyword) rest = judged keyword (command_by keyword (first_word rest)) (first_word (after_word rest))
+
+-- what a line asks for
+abbrev pub order_of : List ℕ → Order
+order_of line = if is_empty (first_word line) then Order.Nothing else ordered (keyword_of (first_word line)) (after_word line)
+
+-- what is said of a mistake
+abbrev pub mistake_text : Mistake → List ℕ
+mistake_text Mistake.Unknown = codes "no such command; `help` lists them"
+mistake_text (Mistake.Unfit Keyword.Stop) = codes "`stop` is followed by the number of a host"
+mistake_text (Mistake.Unfit Keyword.Terminal) = codes "`terminal` is followed by 0 or 1"
+mistake_text (Mistake.Unfit _) = codes "nothing comes after that word"

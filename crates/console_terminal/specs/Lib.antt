@@ -1,0 +1,5 @@
+pub mod Commands
+pub mod Keys
+pub mod Listening
+pub mod Screen
+pub mod Typing

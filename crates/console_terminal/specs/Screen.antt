@@ -1,0 +1,143 @@
+-- What appears on the screen: the guest's bytes, of the terminal that one looks at, and what is said beside them.
+use Rattle.std.specs.Prelude.{◌≡◌, ℕ, ◌==◌, Bool, true, false, if◌then◌else◌, filter, not, List, [], ◌∷◌, ◌++◌, Option, None, Some, codes, string_bytes}
+use Rattle.std.specs.Io.KnownBytes.{Appends}
+use Rattle.std.specs.Global.{Global}
+use Rattle.std.specs.declared.string.String.{String}
+use Rattle.pair_lines.specs.Lines.{shown_at}
+use Rattle.pair_lines.specs.declared.screen.Shown.{Shown}
+use Rattle.rtrb.specs.Ring.{SameConsumer, received}
+use Rattle.console_terminal.specs.Commands.{mistake_text, number_of_port}
+use Rattle.console_terminal.specs.declared.note.Note.{Note}
+use Rattle.console_terminal.specs.declared.port.Port.{Port}
+use Rattle.console_terminal.specs.declared.display.Display.{Display}
+
+-- CR LF and a text
+abbrev pub on_a_line : List ℕ → List ℕ
+on_a_line text = 13 ∷ 10 ∷ text
+
+-- what is written of a note: BS, a space and BS rub out a byte
+abbrev pub text_of : Note → List ℕ
+text_of Note.Opened = on_a_line (codes "pair> ")
+text_of (Note.Typed byte) = byte ∷ []
+text_of Note.TakenBack = 8 ∷ 32 ∷ 8 ∷ []
+text_of (Note.Mistaken mistake) = on_a_line (mistake_text mistake)
+text_of (Note.Answered text) = on_a_line (string_bytes text)
+text_of (Note.Closed port) = on_a_line []
+
+-- what is written, piece by piece
+pub data Piece : Type 0 where
+  -- a byte of the guest
+  Guest : Shown → Piece
+  -- what becomes of the command line
+  Said : Note → Piece
+  -- a line about the pair
+  Told : String Global → Piece
+
+-- the guest's bytes among the pieces
+abbrev pub guest_in : List Piece → List Shown
+guest_in [] = []
+guest_in (Piece.Guest s ∷ pieces) = s ∷ guest_in pieces
+guest_in (Piece.Said n ∷ pieces) = guest_in pieces
+guest_in (Piece.Told t ∷ pieces) = guest_in pieces
+
+abbrev pub said_in : List Piece → List Note
+said_in [] = []
+said_in (Piece.Guest s ∷ pieces) = said_in pieces
+said_in (Piece.Said n ∷ pieces) = n ∷ said_in pieces
+said_in (Piece.Told t ∷ pieces) = said_in pieces
+
+abbrev pub told_in : List Piece → List (String Global)
+told_in [] = []
+told_in (Piece.Guest s ∷ pieces) = told_in pieces
+told_in (Piece.Said n ∷ pieces) = told_in pieces
+told_in (Piece.Told t ∷ pieces) = t ∷ told_in pieces
+
+-- what goes to the screen
+abbrev pub bytes_of : List Piece → List ℕ
+bytes_of [] = []
+bytes_of (Piece.Guest s ∷ pieces) = s.byte ∷ bytes_of pieces
+bytes_of (Piece.Said n ∷ pieces) = bytes_of pieces
+bytes_of (Piece.Told t ∷ pieces) = bytes_of pieces
+
+-- what goes beside it
+abbrev pub texts_of : List Piece → List ℕ
+texts_of [] = []
+texts_of (Piece.Guest s ∷ pieces) = texts_of pieces
+texts_of (Piece.Said n ∷ pieces) = text_of n ++ texts_of pieces
+texts_of (Piece.Told t ∷ pieces) = string_bytes t ++ texts_of pieces
+
+-- which terminal one looks at after a note
+abbrev pub look_after : Option Port → Note → Option Port
+look_after look Note.Opened = None
+look_after look (Note.Closed port) = Some port
+look_after look _ = look
+
+-- which terminal one looks at after some pieces
+abbrev pub look_at_end : Option Port → List Piece → Option Port
+look_at_end look [] = look
+look_at_end look (Piece.Said n ∷ pieces) = look_at_end (look_after look n) pieces
+look_at_end look (Piece.Guest s ∷ pieces) = look_at_end look pieces
+look_at_end look (Piece.Told t ∷ pieces) = look_at_end look pieces
+
+-- one looks at the terminal of this port
+abbrev pub is_looked_at : Option Port → ℕ → Bool
+is_looked_at None port = false
+is_looked_at (Some at) port = number_of_port at == port
+
+-- no command line is open
+abbrev pub is_looking : Option Port → Bool
+is_looking None = false
+is_looking (Some at) = true
+
+-- each byte of the guest is seen at its terminal, and no line about the pair while a command line is open
+abbrev pub AreSeen : Option Port → List Piece → Type 0
+AreSeen look [] = Unit {0}
+AreSeen look (Piece.Guest s ∷ pieces) = (is_looked_at look s.port ≡ true) × AreSeen look pieces
+AreSeen look (Piece.Said n ∷ pieces) = AreSeen (look_after look n) pieces
+AreSeen look (Piece.Told t ∷ pieces) = (is_looking look ≡ true) × AreSeen look pieces
+
+-- ---- what is kept
+
+-- what is kept of all terminals but this one
+abbrev pub but_at : ℕ → List Shown → List Shown
+but_at port shown = filter (λ s. not (s.port == port)) shown
+
+-- the bytes of the terminal that one looks at, and what is not seen then
+abbrev pub bytes_seen : Option Port → List Shown → List ℕ
+bytes_seen None shown = []
+bytes_seen (Some at) shown = shown_at (number_of_port at) shown
+
+abbrev pub unseen : Option Port → List Shown → List Shown
+unseen None shown = shown
+unseen (Some at) shown = but_at (number_of_port at) shown
+
+-- the same of one byte more
+abbrev pub byte_seen : Option Port → Shown → List ℕ
+byte_seen look s = if is_looked_at look s.port then s.byte ∷ [] else []
+
+abbrev pub kept_with : Option Port → Shown → List Shown → List Shown
+kept_with look s kept = if is_looked_at look s.port then kept else kept ++ s ∷ []
+
+-- ---- a display
+
+module _ {W N : Type 0} where
+  -- nothing is kept of the terminal that one looks at
+  abbrev pub IsClear : Display W N → Type 0
+  IsClear d = (port : ℕ) → is_looked_at d.look port ≡ true → shown_at port d.kept.items ≡ []
+
+  -- What a display has written: what it was given, in order and once, but for what it keeps; contents are the bytes of its two writers.
+  pub record Wrote (screen : W → Option (List ℕ)) (notes : N → Option (List ℕ)) (old new : Display W N) : Type 0 where
+    pub pieces : List Piece
+    pub accepted : List Shown
+    pub bytes : Appends (screen old.screen) (screen new.screen) (bytes_of pieces)
+    pub texts : Appends (notes old.notes) (notes new.notes) (texts_of pieces)
+    pub came : received new.shown ≡ received old.shown ++ accepted
+    pub guest : (port : ℕ) → shown_at port (guest_in pieces) ++ shown_at port new.kept.items ≡ shown_at port old.kept.items ++ shown_at port accepted
+    pub said : received new.said ≡ received old.said ++ said_in pieces
+    pub told : received new.told ≡ received old.told ++ told_in pieces
+    pub seen : AreSeen old.look pieces
+    pub look : new.look ≡ look_at_end old.look pieces
+    pub clear : IsClear new
+    pub same_shown : SameConsumer old.shown new.shown
+    pub same_said : SameConsumer old.said new.said
+    pub same_told : SameConsumer old.told new.told

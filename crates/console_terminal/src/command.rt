@@ -1,0 +1,198 @@
+//! The commands of a console, and how a line spells them.
+ghost use Rattle.std.specs.Prelude.{◌≡◌, ◌≤◌, length, map};
+ghost use Rattle.console_terminal.specs.Commands.{after_word, bytes_before_space, command_by, digit_of, first_word, host_of, is_same_word, keyword_among, keyword_of, mistake_text, order_of, port_of, spaces_before};
+
+use crate::port::Port;
+
+/// What a command line asks for.
+#[derive(Debug, Clone, Copy, PartialEq, Eq)]
+pub enum Command {
+    /// The host of this number fails, and its peer is told so.
+    Stop(u8),
+    /// How the pair is.
+    Status,
+    /// One turns to the terminal of this port.
+    Terminal(Port),
+    /// Which commands there are.
+    Help,
+    /// The console ends.
+    Quit,
+}
+
+/// What a command line is by its first word.
+#[derive(Debug, Clone, Copy, PartialEq, Eq)]
+pub enum Keyword {
+    Stop,
+    Status,
+    Terminal,
+    Help,
+    Quit,
+}
+
+/// What is wrong with a line.
+#[derive(Debug, Clone, Copy, PartialEq, Eq)]
+pub enum Mistake {
+    /// Its first word is no command.
+    Unknown,
+    /// What comes after the first word does not fit it.
+    Unfit(Keyword),
+}
+
+/// What a line asks for.
+#[derive(Debug, Clone, Copy, PartialEq, Eq)]
+pub enum Order {
+    /// Nothing: it has no word.
+    Nothing,
+    Command(Command),
+    Mistake(Mistake),
+}
+
+/// The commands, a line each.
+pub const HELP: &str = "\
+stop N       host N fails, and its peer is told\r\n\
+status       how the pair is\r\n\
+terminal P   turns to the terminal of port 0 or 1\r\n\
+help         these lines\r\n\
+quit         ends the console\r\n\
+The escape key once more types that key itself; ESC or Ctrl-C leaves the line.";
+
+// Each keyword with its word.
+static KEYWORDS: [(&[u8], Keyword); 5] = [
+    (b"stop", Keyword::Stop),
+    (b"status", Keyword::Status),
+    (b"terminal", Keyword::Terminal),
+    (b"help", Keyword::Help),
+    (b"quit", Keyword::Quit),
+];
+
+/// What a line asks for. Its words have spaces between them, and letters of either case.
+pub fn order_of(line: &[u8]) -> Order
+    ensures { result ≡ order_of line.now }
+{
+    let (word, after) = next_word(line);
+    if word.is_empty() {
+        return Order::Nothing;
+    }
+    let Some(keyword) = keyword_of(word) else {
+        return Order::Mistake(Mistake::Unknown);
+    };
+    let (value, after) = next_word(after);
+    let (more, _) = next_word(after);
+    match command_by(keyword, value) {
+        Some(command) if more.is_empty() => Order::Command(command),
+        _ => Order::Mistake(Mistake::Unfit(keyword)),
+    }
+}
+
+// The next word of a line, which is empty if there is none, and what is after it.
+fn next_word(line: &[u8]) -> (&[u8], &[u8])
+    ensures word { result.0.now ≡ first_word line.now }
+    ensures after { result.1.now ≡ after_word line.now }
+{
+    let (_, rest) = line.split_at(spaces_before(line));
+    rest.split_at(bytes_before_space(rest))
+}
+
+// How many spaces a line begins with.
+fn spaces_before(line: &[u8]) -> usize
+    ensures within { result ≤ length line.now }
+    ensures exact { result ≡ spaces_before line.now }
+{
+    line.iter().take_while(|byte| **byte == b' ').count()
+}
+
+// How many bytes come before the first space.
+fn bytes_before_space(line: &[u8]) -> usize
+    ensures within { result ≤ length line.now }
+    ensures exact { result ≡ bytes_before_space line.now }
+{
+    line.iter().take_while(|byte| **byte != b' ').count()
+}
+
+// The keyword that a word is.
+fn keyword_of(word: &[u8]) -> Option<Keyword>
+    ensures { result ≡ keyword_of word.now }
+{
+    keyword_among(&KEYWORDS, word)
+}
+
+// The keyword of the first of these rows that has the word.
+fn keyword_among(rows: &[(&[u8], Keyword)], word: &[u8]) -> Option<Keyword>
+    ensures { result ≡ keyword_among (map (λ row. (row.0.now, row.1)) rows.now) word.now }
+{
+    let mut rest = rows;
+    'rows: while let [(text, keyword), after @ ..] = rest {
+        if is_same_word(word, text) {
+            return Some(*keyword);
+        }
+        rest = after;
+    }
+    None
+}
+
+// Whether two words are the same but for the case of letters.
+fn is_same_word(a: &[u8], b: &[u8]) -> bool
+    ensures { result ≡ is_same_word a.now b.now }
+{
+    a.eq_ignore_ascii_case(b)
+}
+
+// The command of a keyword with the word after it, which is empty if there is none.
+fn command_by(keyword: Keyword, value: &[u8]) -> Option<Command>
+    ensures { result ≡ command_by keyword value.now }
+{
+    match keyword {
+        Keyword::Stop => Some(Command::Stop(host_of(value)?)),
+        Keyword::Terminal => Some(Command::Terminal(port_of(value)?)),
+        Keyword::Status if value.is_empty() => Some(Command::Status),
+        Keyword::Help if value.is_empty() => Some(Command::Help),
+        Keyword::Quit if value.is_empty() => Some(Command::Quit),
+        _ => None,
+    }
+}
+
+// The port whose number a word is.
+fn port_of(word: &[u8]) -> Option<Port>
+    ensures { result ≡ port_of word.now }
+{
+    match word {
+        [b'0'] => Some(Port::Zero),
+        [b'1'] => Some(Port::One),
+        _ => None,
+    }
+}
+
+// The number of a host, which one or two decimal digits spell.
+fn host_of(word: &[u8]) -> Option<u8>
+    ensures { result ≡ host_of word.now }
+{
+    match word {
+        [units] => digit_of(*units),
+        [tens, units] => Some(digit_of(*tens)? * 10 + digit_of(*units)?),
+        _ => None,
+    }
+}
+
+// The number that a decimal digit is.
+fn digit_of(byte: u8) -> Option<u8>
+    ensures { result ≡ digit_of byte }
+{
+    match byte {
+        b'0'..=b'9' => Some(byte - b'0'),
+        _ => None,
+    }
+}
+
+impl Mistake {
+    /// What is said of it.
+    pub fn text(self) -> &'static str
+        ensures { result.now ≡ mistake_text self }
+    {
+        match self {
+            Mistake::Unknown => "no such command; `help` lists them",
+            Mistake::Unfit(Keyword::Stop) => "`stop` is followed by the number of a host",
+            Mistake::Unfit(Keyword::Terminal) => "`terminal` is followed by 0 or 1",
+            Mistake::Unfit(_) => "nothing comes after that word",
+        }
+    }
+}

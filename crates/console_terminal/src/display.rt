@@ -1,0 +1,211 @@
+//! The display, on which one looks at one terminal at a time.
+ghost use Rattle.std.specs.Prelude.{◌≡◌, ◌==◌, ◌∷◌, [], OnOk, None, Some, filter};
+ghost use Rattle.std.specs.Io.KnownBytes.{Appends};
+ghost use Rattle.pair_lines.specs.Lines.{shown_at};
+ghost use Rattle.console_terminal.specs.Screen.{IsClear, Wrote, but_at, byte_seen, bytes_seen, is_looked_at, is_looking, kept_with, look_after, unseen};
+
+use crate::note::{Note, write_note};
+use crate::port::Port;
+use pair_lines::Shown;
+use rtrb::Consumer;
+use std::alloc::Global;
+use std::io::{self, Write};
+
+/// Two terminals, of which one looks at one, or at none while a command line is open: the guest's bytes go to a writer, and what is
+/// said beside them to another one. What the guest writes at a terminal at which nobody looks is kept until somebody does, as a
+/// line of a computer keeps it for a terminal that is not connected; so what it writes at one terminal is never seen on the other,
+/// and a command line that is open is not written over.
+#[derive(Drop)]
+pub struct Display<W, N> {
+    screen: W,
+    notes: N,
+    // What was accepted, and not looked at yet.
+    kept: Vec<Shown>,
+    look: Option<Port>,
+    shown: Consumer<Shown>,
+    said: Consumer<Note>,
+    told: Consumer<String>,
+}
+
+impl<W, N> Display<W, N> {
+    /// One looks at the terminal of this port. The bytes that the terminals accept come through the first ring, what becomes of the
+    /// command line through the second, and lines about the pair, which end in CR LF, through the third.
+    pub fn new(
+        alloc: Global,
+        screen: W,
+        notes: N,
+        port: Port,
+        shown: Consumer<Shown>,
+        said: Consumer<Note>,
+        told: Consumer<String>,
+    ) -> Display<W, N>
+        ensures writers { (result.screen ≡ screen) × (result.notes ≡ notes) }
+        ensures rings { (result.shown ≡ shown) × (result.said ≡ said) × (result.told ≡ told) }
+        ensures look { result.look ≡ Some port }
+        ensures kept { result.kept.items ≡ [] }
+    {
+        Display {
+            screen,
+            notes,
+            kept: Vec::new(alloc),
+            look: Some(port),
+            shown,
+            said,
+            told,
+        }
+    }
+}
+
+impl<W: Write, N: Write> Display<W, N> {
+    /// Writes or keeps what comes next, if something has come.
+    #[tactic(auto, using(crate::proofs::Pieces::and_then))]
+    pub(crate) fn turn(&mut self) -> io::Result<bool>
+        requires { IsClear self.old }
+        ensures { OnOk result (Wrote W.contents N.contents self.old self.new) }
+    {
+        if self.say()? {
+            return Ok(true);
+        }
+        if self.tell()? {
+            return Ok(true);
+        }
+        self.show()
+    }
+
+    // What becomes of the command line.
+    #[tactic(auto, using(crate::proofs::Pieces::of_nothing, crate::proofs::Pieces::of_a_note))]
+    fn say(&mut self) -> io::Result<bool>
+        requires { IsClear self.old }
+        ensures { OnOk result (Wrote W.contents N.contents self.old self.new) }
+    {
+        let Ok(note) = self.said.pop() else {
+            return Ok(false);
+        };
+        write_note(&mut self.notes, &note)?;
+        self.look = look_after(self.look, &note);
+        catch_up(&mut self.screen, &mut self.kept, self.look)?;
+        Ok(true)
+    }
+
+    // A line about the pair, which waits while a command line is open.
+    #[tactic(auto, using(crate::proofs::Pieces::of_nothing, crate::proofs::Pieces::of_a_line))]
+    fn tell(&mut self) -> io::Result<bool>
+        requires { IsClear self.old }
+        ensures { OnOk result (Wrote W.contents N.contents self.old self.new) }
+    {
+        if !is_looking(self.look) {
+            return Ok(false);
+        }
+        let Ok(line) = self.told.pop() else {
+            return Ok(false);
+        };
+        self.notes.write_all(line.as_bytes())?;
+        Ok(true)
+    }
+
+    // A byte that was accepted.
+    #[tactic(auto, using(crate::proofs::Pieces::of_nothing, crate::proofs::Pieces::of_a_byte))]
+    fn show(&mut self) -> io::Result<bool>
+        requires { IsClear self.old }
+        ensures { OnOk result (Wrote W.contents N.contents self.old self.new) }
+    {
+        let Ok(shown) = self.shown.pop() else {
+            return Ok(false);
+        };
+        place(&mut self.screen, &mut self.kept, self.look, shown)?;
+        Ok(true)
+    }
+}
+
+// Which terminal one looks at after a note.
+fn look_after(look: Option<Port>, note: &Note) -> Option<Port>
+    ensures { result ≡ look_after look note.now }
+{
+    match note {
+        Note::Opened => None,
+        Note::Closed(port) => Some(*port),
+        _ => look,
+    }
+}
+
+// Whether no command line is open.
+fn is_looking(look: Option<Port>) -> bool
+    ensures { result ≡ is_looking look }
+{
+    match look {
+        Some(_) => true,
+        None => false,
+    }
+}
+
+// Whether one looks at the terminal of this port.
+fn is_looked_at(look: Option<Port>, port: u8) -> bool
+    ensures { result ≡ is_looked_at look port }
+{
+    match look {
+        Some(at) => at.number() == port,
+        None => false,
+    }
+}
+
+// Writes a byte, or keeps it.
+#[tactic(auto, using(crate::proofs::Bytes::appends_none))]
+fn place<W: Write>(
+    screen: &mut W,
+    kept: &mut Vec<Shown>,
+    look: Option<Port>,
+    shown: Shown,
+) -> io::Result<()>
+    ensures bytes { OnOk result (Appends (W.contents screen.old) (W.contents screen.new) (byte_seen look shown)) }
+    ensures kept { OnOk result (kept.new.items ≡ kept_with look shown kept.old.items) }
+{
+    if is_looked_at(look, shown.port) {
+        return screen.write_all(&[shown.byte]);
+    }
+    kept.push(shown)?;
+    Ok(())
+}
+
+// Writes what was kept of the terminal that one looks at.
+#[tactic(auto, using(crate::proofs::Bytes::appends_none))]
+fn catch_up<W: Write>(screen: &mut W, kept: &mut Vec<Shown>, look: Option<Port>) -> io::Result<()>
+    ensures bytes { OnOk result (Appends (W.contents screen.old) (W.contents screen.new) (bytes_seen look kept.old.items)) }
+    ensures kept { OnOk result (kept.new.items ≡ unseen look kept.old.items) }
+{
+    let Some(port) = look else {
+        return Ok(());
+    };
+    write_seen(screen, kept.as_slice(), port.number())?;
+    forget_seen(kept, port.number());
+    Ok(())
+}
+
+// Writes the bytes of a port.
+fn write_seen<W: Write>(screen: &mut W, kept: &[Shown], port: u8) -> io::Result<()>
+    ensures { OnOk result (Appends (W.contents screen.old) (W.contents screen.new) (shown_at port kept.now)) }
+{
+    let mut rest = kept;
+    'kept: while let [shown, after @ ..] = rest {
+        write_if_seen(screen, *shown, port)?;
+        rest = after;
+    }
+    Ok(())
+}
+
+// Writes a byte if it is of this port.
+#[tactic(auto, using(crate::proofs::Bytes::appends_none))]
+fn write_if_seen<W: Write>(screen: &mut W, shown: Shown, port: u8) -> io::Result<()>
+    ensures { OnOk result (Appends (W.contents screen.old) (W.contents screen.new) (shown_at port (shown ∷ []))) }
+{
+    if shown.port == port {
+        screen.write_all(&[shown.byte])?;
+    }
+    Ok(())
+}
+
+// Leaves out the bytes of a port.
+fn forget_seen(kept: &mut Vec<Shown>, port: u8)
+    ensures { kept.new.items ≡ but_at port kept.old.items }
+{
+    kept.retain(|shown| shown.port != port);
+}

@@ -1,0 +1,47 @@
+//! What is said at a console beside what the guest writes.
+ghost use Rattle.std.specs.Prelude.{OnOk};
+ghost use Rattle.std.specs.Io.KnownBytes.{Appends};
+ghost use Rattle.console_terminal.specs.Screen.{on_a_line, text_of};
+
+use crate::command::Mistake;
+use crate::port::Port;
+use std::io::{self, Write};
+
+/// What becomes of the command line, and what is said to it.
+#[derive(Drop)]
+pub enum Note {
+    /// It is opened: from then on the screen holds still.
+    Opened,
+    /// One more byte is in it.
+    Typed(u8),
+    /// Its last byte is taken back.
+    TakenBack,
+    Mistaken(Mistake),
+    /// What a command answers; lines in it have CR LF between them, and none after the last.
+    Answered(String),
+    /// It is closed, and one looks at the terminal of this port.
+    Closed(Port),
+}
+
+// Writes what is said.
+pub(crate) fn write_note<W: Write>(writer: &mut W, note: &Note) -> io::Result<()>
+    ensures { OnOk result (Appends (W.contents writer.old) (W.contents writer.new) (text_of note.now)) }
+{
+    match note {
+        Note::Opened => writer.write_all(b"\r\npair> "),
+        Note::Typed(byte) => writer.write_all(&[*byte]),
+        Note::TakenBack => writer.write_all(b"\x08 \x08"),
+        Note::Mistaken(mistake) => write_line(writer, mistake.text()),
+        Note::Answered(text) => write_line(writer, text.as_str()),
+        Note::Closed(_) => writer.write_all(b"\r\n"),
+    }
+}
+
+// Writes a text at the begin of a line.
+#[tactic(auto, using(crate::proofs::Bytes::appends_both))]
+fn write_line<W: Write>(writer: &mut W, text: &str) -> io::Result<()>
+    ensures { OnOk result (Appends (W.contents writer.old) (W.contents writer.new) (on_a_line text.now)) }
+{
+    writer.write_all(b"\r\n")?;
+    writer.write_all(text.as_bytes())
+}

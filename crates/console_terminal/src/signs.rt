@@ -1,0 +1,47 @@
+//! What the threads of a console tell each other.
+
+use std::sync::atomic::{AtomicBool, Ordering};
+
+/// Signs that are given once, and seen by all threads from then on.
+#[derive(Drop)]
+pub struct Signs {
+    stopped: AtomicBool,
+    heard_all: AtomicBool,
+    shown_all: AtomicBool,
+}
+
+impl Signs {
+    /// No sign is given yet.
+    pub fn new() -> Signs {
+        Signs {
+            stopped: AtomicBool::new(false),
+            heard_all: AtomicBool::new(false),
+            shown_all: AtomicBool::new(false),
+        }
+    }
+
+    /// No more keys are wanted.
+    pub fn stop(&self) {
+        self.stopped.store(true, Ordering::SeqCst);
+    }
+
+    /// Whether no more keys are wanted.
+    pub fn is_stopped(&self) -> bool {
+        self.stopped.load(Ordering::SeqCst)
+    }
+
+    /// No more keys are heard.
+    pub fn hear_all(&self) {
+        self.heard_all.store(true, Ordering::SeqCst);
+    }
+
+    /// The pair shows no more bytes, and tells of no more events.
+    pub fn show_all(&self) {
+        self.shown_all.store(true, Ordering::SeqCst);
+    }
+
+    /// Whether nothing more can come to the screen.
+    pub fn is_over(&self) -> bool {
+        self.heard_all.load(Ordering::SeqCst) && self.shown_all.load(Ordering::SeqCst)
+    }
+}
