@@ -4,7 +4,7 @@
 usage: tools/given.py PROGRAM COMMAND [WORD ..]
 
 Of the words after the command these are taken, each as often as it is given; all others are the program's own:
-  --load FILE           a program in Intel HEX, as lines `mem` before the input
+  --load FILE           a program in Intel HEX, in memory at boot, as lines `mem` before the input
   --disk D=FILE         for `script`, `check`, `picture`, `live` and `shell`: the image of a disk in drive D, before the input
   --save-disk D=FILE    for `live` and `shell`: at the end the disk of drive D is written to a file
   --type P=TEXT         for `live`: keys typed at port P, as lines `type` after the input; \\r, \\n, \\t, \\\\ and \\xHH are one key each
@@ -40,9 +40,19 @@ OPTIONS = {
     "--spares": ("live",),
     "--generations": ("live",),
 }
+# The lines above that say what these options are, each with its option.
+SAID = {line.split()[0]: line for line in __doc__.splitlines() if line.startswith("  --")}
 ESCAPES = {"r": b"\r", "n": b"\n", "t": b"\t", "\\": b"\\"}
 # No line of the shell begins with this word; what it answers to it comes between the session and the saved disks.
 MARK = f"end-{secrets.token_hex(8)}"
+
+
+def tell_options(command=None):
+    """Prints which of these options a command takes; without one, all of them."""
+    told = [said for option, said in SAID.items() if command in (None, *OPTIONS[option])]
+    if told:
+        print("\nOptions of ./pair, which reads and writes the files:")
+        print("\n".join(told))
 
 
 def complain(why, status=2):
@@ -348,6 +358,9 @@ def main(path, command, *words):
 
 
 if __name__ == "__main__":
+    if sys.argv[1:2] == ["--options"]:
+        tell_options(*sys.argv[2:3])
+        sys.exit(0)
     if sys.argv[1:2] in (["--help"], ["-h"]) or len(sys.argv) < 3:
         print(__doc__.strip())
         sys.exit(0 if len(sys.argv) > 1 else 2)

@@ -2,7 +2,7 @@
 
 import os
 import re
-import readline  # noqa: F401 (input() edits and recalls lines by it)
+import readline  # input() edits and recalls lines by it
 import signal
 import sys
 
@@ -10,6 +10,9 @@ import disks
 
 GREETING = "A pair of Altairs. `help` lists the lines; `save D FILE` writes the disk of drive D; `quit`, or Ctrl-D, ends the session."
 PROMPT = "> "
+# What a key sends that no command is bound to, as F5, is dropped; and so is a byte that no line has.
+DROPS_KEYS = r'"\e[": skip-csi-sequence'
+NO_CHARACTER = re.compile(r"[\x00-\x1f\x7f]")
 BUSY = b"\nstill at this line; Ctrl-C once more ends the session, and what it has is lost\n"
 
 
@@ -27,10 +30,11 @@ class Sitting:
     def lines(self):
         """The lines that are typed, up to `quit` or the end of the input. Ctrl-C drops what is typed so far."""
         print(GREETING)
+        readline.parse_and_bind(DROPS_KEYS)
         while True:
             try:
                 self.is_asking = True
-                line = input(PROMPT)
+                line = NO_CHARACTER.sub("", input(PROMPT))
             except KeyboardInterrupt:
                 print()
                 continue

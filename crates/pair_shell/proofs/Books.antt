@@ -61,14 +61,14 @@ module _ (messages : List protocol.Message) (number : ℕ) where
 pub notes : (messages : List protocol.Message) (happened : Event) (answer : Result Reply Fault) (sent : Option Brings)
     (old mid new : Book) → sent ≡ sent_in messages answer → mid.letters.items ≡ old.letters.items → progress mid ≡ progress old
     → new.letters.items ≡ letters_after happened answer sent mid.letters.items
-    → progress new ≡ noted happened answer (posted happened sent mid.letters.items) (progress mid)
+    → progress new ≡ noted happened answer (posted sent mid.letters.items) (progress mid)
     → IsNoted messages happened answer old new
 notes messages happened answer sent old mid new is letters so_far after noted_so = record {
   letters = after ∙ ap (λ s. letters_after happened answer s mid.letters.items) is
       ∙ ap (λ l. letters_after happened answer (sent_in messages answer) l) letters;
-  progress_is = noted_so ∙ ap (λ s. noted happened answer (posted happened s mid.letters.items) (progress mid)) is
-      ∙ ap (λ l. noted happened answer (posted happened (sent_in messages answer) l) (progress mid)) letters
-      ∙ ap (λ p. noted happened answer (posted happened (sent_in messages answer) old.letters.items) p) so_far;
+  progress_is = noted_so ∙ ap (λ s. noted happened answer (posted s mid.letters.items) (progress mid)) is
+      ∙ ap (λ l. noted happened answer (posted (sent_in messages answer) l) (progress mid)) letters
+      ∙ ap (λ p. noted happened answer (posted (sent_in messages answer) old.letters.items) p) so_far;
 }
 
 module _ {S : Type 0} (M : Machine S) (c : Course S) (old new : Book) where

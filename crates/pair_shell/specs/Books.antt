@@ -59,7 +59,7 @@ pub record IsNoted (messages : List protocol.Message) (happened : Event) (answer
     : Type 0 where
   pub letters : new.letters.items ≡ letters_after happened answer (sent_in messages answer) old.letters.items
   pub progress_is : progress new
-      ≡ noted happened answer (posted happened (sent_in messages answer) old.letters.items) (progress old)
+      ≡ noted happened answer (posted (sent_in messages answer) old.letters.items) (progress old)
 
 module _ {S : Type 0} (M : Machine S) (c : Course S) where
   -- a book begins again, with the same messages: from the inputs that are settled

@@ -5,7 +5,7 @@ ghost use Rattle.ft_world.specs.Standing.{Course};
 ghost use Rattle.shared_disk.specs.Failing.{records_in};
 ghost use Rattle.pair_shell.specs.Backups.{FindsBackup, HasDay, IsFirstBackup};
 ghost use Rattle.pair_shell.specs.Books.{HasBook};
-ghost use Rattle.pair_shell.specs.Days.{ran_rows};
+ghost use Rattle.pair_shell.specs.Days.{is_held, lack_row, lack_rows, lacks_backup, ran_rows};
 ghost use Rattle.pair_shell.specs.Playing.{Plays};
 ghost use Rattle.shell_book.specs.Texts.{AddsSome, Prints};
 ghost use Rattle.shell_book.specs.Tapes.{Begins, trace_text};
@@ -17,7 +17,7 @@ use ft_world::{NodeStatus, World};
 use i8080_words::{Fault, R};
 use pair_events::Role;
 use shared_disk::Disk;
-use shell_book::{Book, Played, Printed};
+use shell_book::{Book, Played, Printed, holds_up, meeting_of};
 use shell_day::{Day, Plan};
 use shell_language::Turns;
 use shell_opening::Opening;
@@ -92,7 +92,7 @@ impl Notes {
         let mut plan = Plan::day(alloc, Day::new(alloc, turns, backup));
         self.play(alloc, world, &mut plan, printed)?;
         let count = count_of(world, turns.node);
-        print_day(&plan, count, &self.tape, &self.book, printed)
+        print_day(&plan, count, backup, &self.tape, &self.book, printed)
     }
 }
 
@@ -109,15 +109,61 @@ fn count_of<B: Copies<H> + Drop, H: Drop>(world: &World<B, Disk, H>, node: u64) 
 fn print_day(
     plan: &Plan,
     count: u64,
+    backup: Option<u64>,
     tape: &[Played],
     book: &Book,
     printed: &mut Printed,
 ) -> Result<(), AllocError>
     ensures some { IfOk result (λ _. AddsSome printed.old printed.new) }
-    ensures told { IfOk result (λ _. Prints (ran_rows plan.now.day count ++ held_rows tape.now book.now) printed.old printed.new) }
+    ensures told { IfOk result (λ _. Prints (ran_rows plan.now.day count ++ (held_rows tape.now book.now ++ lack_rows backup tape.now book.now))
+        printed.old printed.new) }
 {
     print_ran(plan, count, printed)?;
-    print_held_up(tape, book, printed)
+    print_stuck(backup, tape, book, printed)
+}
+
+// What is held up after a day.
+#[tactic(auto, using(shell_book::proofs::Adding::adds_more, shell_book::proofs::Adding::prints_then))]
+fn print_stuck(
+    backup: Option<u64>,
+    tape: &[Played],
+    book: &Book,
+    printed: &mut Printed,
+) -> Result<(), AllocError>
+    ensures some { IfOk result (λ _. AddsSome printed.old printed.new) }
+    ensures told { IfOk result (λ _. Prints (held_rows tape.now book.now ++ lack_rows backup tape.now book.now) printed.old printed.new) }
+{
+    print_held_up(tape, book, printed)?;
+    print_lack(lacks_backup(backup, tape, book), printed)
+}
+
+// Says that there is no backup, if that holds something up.
+#[tactic(auto, using(shell_book::proofs::Adding::adds_none, shell_book::proofs::Adding::prints_none, shell_book::proofs::Adding::prints_text))]
+fn print_lack(lacks: bool, printed: &mut Printed) -> Result<(), AllocError>
+    ensures some { IfOk result (λ _. AddsSome printed.old printed.new) }
+    ensures told { IfOk result (λ _. Prints (lack_row lacks) printed.old printed.new) }
+{
+    if lacks {
+        printed.line(&"  no backup acknowledges: it has stopped, or is not whole yet")?;
+    }
+    Ok(())
+}
+
+// Whether a primary has no backup that acknowledges, and output or its log is held up for that.
+fn lacks_backup(backup: Option<u64>, tape: &[Played], book: &Book) -> bool
+    ensures { result ≡ lacks_backup backup tape.now book.now }
+{
+    match backup {
+        Some(_) => false,
+        None => is_held(Fault::NotCovered, tape, book) || is_held(Fault::LogFull, tape, book),
+    }
+}
+
+// Whether a refusal that the events of a day met holds something up.
+fn is_held(fault: Fault, tape: &[Played], book: &Book) -> bool
+    ensures { result ≡ is_held fault tape.now book.now }
+{
+    holds_up(fault, meeting_of(fault, tape), book.waiting())
 }
 
 // How many steps a day has made, and why it ended.

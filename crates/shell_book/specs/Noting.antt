@@ -18,14 +18,6 @@ use Rattle.shell_book.specs.declared.book.Letter.{Letter}
 
 -- ---- messages
 
--- the node that sends a message in an event; none if it is the disk that does
-abbrev pub sender_of : Event → Option ℕ
-sender_of (event.Send node index) = Some node
-sender_of (event.Acknowledge node) = Some node
-sender_of (event.Release node name) = Some node
-sender_of (event.SendPart node index) = Some node
-sender_of _ = None
-
 -- the message that an event delivers
 abbrev pub delivered_by : Event → Option ℕ
 delivered_by (event.DeliverLog message node) = Some message
@@ -39,10 +31,9 @@ delivered_by (event.PartComes message node) = Some message
 delivered_by _ = None
 
 -- a message was sent; one has reached someone
-abbrev pub posted : Event → Option Brings → List Letter → List Letter
-posted happened None letters = letters
-posted happened (Some what) letters =
-    letters ++ record { brings = what; sender = sender_of happened; has_arrived = false } ∷ []
+abbrev pub posted : Option Brings → List Letter → List Letter
+posted None letters = letters
+posted (Some what) letters = letters ++ record { brings = what; has_arrived = false } ∷ []
 
 abbrev pub arrived : Option ℕ → List Letter → List Letter
 arrived None letters = letters
@@ -52,7 +43,7 @@ arrived (Some message) letters =
 
 -- the messages after an event; a refused one leaves them
 abbrev pub letters_after : Event → Result Reply Fault → Option Brings → List Letter → List Letter
-letters_after happened (Ok answer) what letters = arrived (delivered_by happened) (posted happened what letters)
+letters_after happened (Ok answer) what letters = arrived (delivered_by happened) (posted what letters)
 letters_after happened (Err fault) what letters = letters
 
 -- what the message of a number brings

@@ -19,11 +19,10 @@ pub enum Brings {
     Sector,
 }
 
-/// A message that was sent, the node that sent it, if the disk did not, and whether it has reached anyone.
+/// A message that was sent, and whether it has reached anyone.
 #[derive(Clone, Copy)]
 pub struct Letter {
     pub brings: Brings,
-    pub sender: Option<u64>,
     pub has_arrived: bool,
 }
 

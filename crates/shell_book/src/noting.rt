@@ -1,7 +1,7 @@
 //! How a book notes what has happened.
 ghost use Rattle.std.specs.Prelude.{◌≡◌, ◌<◌, vec_capacity, vec_len};
 ghost use Rattle.shell_book.specs.Notes.{progress};
-ghost use Rattle.shell_book.specs.Noting.{arrived, brought, delivered_by, given, heard_written, letters_after, noted, noted_accepted, noted_held, noted_part, noted_sent, noted_steps, noted_taken, noted_told, noted_typed, posted, replied, sender_of, taken_by, ungiven};
+ghost use Rattle.shell_book.specs.Noting.{arrived, brought, delivered_by, given, heard_written, letters_after, noted, noted_accepted, noted_held, noted_part, noted_sent, noted_steps, noted_taken, noted_told, noted_typed, posted, replied, taken_by, ungiven};
 
 use crate::book::{Book, Brings, Letter, PortNotes, forget_write};
 use event_callbacks::OpId;
@@ -15,11 +15,11 @@ impl Book {
         requires letters { vec_len self.old.letters < vec_capacity self.old.letters }
         requires undone { vec_len self.old.undone < vec_capacity self.old.undone }
         ensures letters { self.new.letters.items ≡ letters_after event answer sent self.old.letters.items }
-        ensures progress { progress self.new ≡ noted event answer (posted event sent self.old.letters.items) (progress self.old) }
+        ensures progress { progress self.new ≡ noted event answer (posted sent self.old.letters.items) (progress self.old) }
     {
         match answer {
             Ok(reply) => {
-                self.post(event, sent);
+                self.post(sent);
                 self.note_reply(event, reply);
                 self.note_arrival(event);
             }
@@ -28,17 +28,15 @@ impl Book {
         }
     }
 
-    // A message was sent, if an event has sent one.
-    fn post(&mut self, event: Event, sent: Option<Brings>)
+    // A message was sent, if there is one.
+    fn post(&mut self, sent: Option<Brings>)
         requires room { vec_len self.old.letters < vec_capacity self.old.letters }
-        ensures letters { self.new.letters.items ≡ posted event sent self.old.letters.items }
+        ensures letters { self.new.letters.items ≡ posted sent self.old.letters.items }
         ensures same { self.new ≡ record self.old { letters = self.new.letters } }
     {
         if let Some(brings) = sent {
-            let sender = sender_of(event);
             self.letters.push_reserved(Letter {
                 brings,
-                sender,
                 has_arrived: false,
             });
         }
@@ -259,19 +257,6 @@ impl Book {
         if let Some(letter) = self.letters.get_mut(message as usize) {
             letter.has_arrived = true;
         }
-    }
-}
-
-// The node that sends a message in an event.
-fn sender_of(event: Event) -> Option<u64>
-    ensures { result ≡ sender_of event }
-{
-    match event {
-        Event::Send { node, .. } => Some(node),
-        Event::Acknowledge { node } => Some(node),
-        Event::Release { node, .. } => Some(node),
-        Event::SendPart { node, .. } => Some(node),
-        _ => None,
     }
 }
 
