@@ -386,8 +386,8 @@ impl<B: Lockstep> PrimaryWorker<B> {
     pub(crate) fn is_at_rest(&self) -> bool
         ensures { IsTrue result ↔ IsAtRest B.state B.machine self.now }
     {
-        self.is_covered()
-            && self.guest.given.is_empty()
+        self.guest.given.is_empty()
+            && self.is_covered()
             && !self.asked
             && self.answer.is_none()
             && self.port0.is_taken()
