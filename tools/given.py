@@ -49,6 +49,7 @@ MARK = f"end-{secrets.token_hex(8)}"
 
 def tell_options(command=None):
     """Prints which of these options a command takes; without one, all of them."""
+    signal.signal(signal.SIGPIPE, signal.SIG_DFL)
     told = [said for option, said in SAID.items() if command in (None, *OPTIONS[option])]
     if told:
         print("\nOptions of ./pair, which reads and writes the files:")

@@ -1,5 +1,6 @@
-"""A shell session at a terminal: a greeting, a prompt before each line, lines that can be edited and recalled, and `save`."""
+"""A shell session at a terminal: a greeting, a prompt before each line, lines that can be edited and recalled, `save` and `do`."""
 
+import itertools
 import os
 import re
 import readline  # input() edits and recalls lines by it
@@ -8,7 +9,10 @@ import sys
 
 import disks
 
-GREETING = "A pair of Altairs. `help` lists the lines; `save D FILE` writes the disk of drive D; `quit`, or Ctrl-D, ends the session."
+GREETING = (
+    "A pair of Altairs. `help` lists the lines; `save D FILE` writes the disk of drive D; `do FILE` says the lines of a file;\n"
+    "`quit`, or Ctrl-D, ends the session."
+)
 PROMPT = "> "
 # What a key sends that no command is bound to, as F5, is dropped; and so is a byte that no line has.
 DROPS_KEYS = r'"\e[": skip-csi-sequence'
@@ -61,7 +65,7 @@ class Sitting:
         """Says lines, and gives each line that is answered, as it comes."""
         self.is_warned = False
         try:
-            self.program.stdin.write("".join(f"{line}\n" for line in [*lines, self.mark]).encode())
+            self.program.stdin.write("".join(f"{line}\n" for line in [*lines, self.mark]).encode("latin-1", "replace"))
             self.program.stdin.flush()
             for said in iter(self.program.stdout.readline, b""):
                 if self.mark.encode() in said:
@@ -82,14 +86,31 @@ class Sitting:
             return f"? {path} is not written: {error.strerror}"
         return f"saved {drive} {path}: {len(image)} bytes"
 
+    def show(self, line):
+        """Says a line, and shows what is answered."""
+        for said in self.answers([line]):
+            sys.stdout.buffer.write(said)
+            sys.stdout.buffer.flush()
+
+    def do(self, path):
+        """Says the lines of a file, up to a line `quit`; that one ends the file, and not the session."""
+        try:
+            with open(path, encoding="latin-1") as file:
+                lines = file.read().splitlines()
+        except OSError as error:
+            print(f"? {path} is not read: {error.strerror}", flush=True)
+            return
+        for line in itertools.takewhile(lambda it: it.strip() != "quit", lines):
+            self.show(line)
+
     def sit(self):
         """Asks and answers, until the session ends."""
         signal.signal(signal.SIGINT, self.interrupted)
         for line in self.lines():
-            saving = re.fullmatch(r"\s*save ([0-3]) (\S.*)", line)
+            saving, doing = re.fullmatch(r"\s*save ([0-3]) (\S.*)", line), re.fullmatch(r"\s*do (\S.*)", line)
             if saving:
                 print(self.save(int(saving[1]), saving[2].strip()))
-                continue
-            for said in self.answers([line]):
-                sys.stdout.buffer.write(said)
-                sys.stdout.buffer.flush()
+            elif doing:
+                self.do(doing[1].strip())
+            else:
+                self.show(line)
