@@ -1,4 +1,4 @@
-//! Gates that hold the first turns of the workers, or count them all.
+//! Gates that hold the first turns of the workers, count them all, or tell the backup that the primary has failed.
 
 use pair_threads::{Gate, Who};
 use std::sync::atomic::{AtomicBool, AtomicU64, Ordering};
@@ -98,5 +98,37 @@ impl Gate for Turnstile {
 
     fn leave(&self, _who: Who, _turn: u64) {
         let _ = self.left.fetch_add(1, Ordering::SeqCst);
+    }
+}
+
+/// Holds nobody, and tells the backup that the primary has failed once the backup has had this many turns.
+#[derive(Drop)]
+pub(super) struct Suspicious {
+    turns: u64,
+    had: AtomicU64,
+}
+
+impl Suspicious {
+    pub(super) fn from(turns: u64) -> Suspicious {
+        Suspicious {
+            turns,
+            had: AtomicU64::new(0),
+        }
+    }
+}
+
+impl Gate for Suspicious {
+    fn enter(&self, _who: Who, _turn: u64) -> bool {
+        true
+    }
+
+    fn leave(&self, who: Who, _turn: u64) {
+        if who == Who::Backup {
+            let _ = self.had.fetch_add(1, Ordering::SeqCst);
+        }
+    }
+
+    fn suspects(&self, who: Who) -> bool {
+        who == Who::Backup && self.had.load(Ordering::SeqCst) >= self.turns
     }
 }

@@ -11,7 +11,8 @@ use event_callbacks::{Callbacks, Completes, plain_completions};
 use guest_board::{Board, Setup};
 use guest_lockstep::{Lockstep, Reads};
 use i8080_words::{Fault, R};
-use pair_threads::{Gate, GenerationEnd, Who, Workers, run_generation};
+use pair_lines::Lines;
+use pair_threads::{Gate, GenerationEnd, Who, Workers, run_generation_over};
 use shared_disk::{FailOnce, MemoryStore, SharedDisk};
 use std::alloc::Global;
 use std::thread::Threads;
@@ -122,9 +123,11 @@ pub(super) fn unwritten_disk(alloc: Global, fails: u64) -> R<SharedDisk<Store>>
 fn workers_of<B: Lockstep + Drop>(
     alloc: Global,
     case: &Case,
+    watched: bool,
     primary: B,
     backup: B,
 ) -> R<Workers<B, Store>>
+    ensures unplanned { watched ≡ true → IfOk result (λ workers. (workers.primary_contests ≡ None) × (workers.backup_contests ≡ None)) }
     ensures guests { IfOk result (λ workers. (workers.primary ≡ primary) × (workers.backup ≡ backup)) }
     ensures unwritten { IfOk result (λ workers. IsUnwritten workers.disk.store) }
 {
@@ -137,12 +140,12 @@ fn workers_of<B: Lockstep + Drop>(
         typed1: Vec::new(alloc),
         fates: Vec::new(alloc),
         primary_contests: None,
-        backup_contests: case.backup_contests,
+        backup_contests: if watched { None } else { case.backup_contests },
         steps: 1,
     })
 }
 
-// Runs a pair of Altairs of a setup with these closures as completions.
+// Runs a pair of Altairs of a setup over lines, with these closures as completions.
 fn run_with<
     T: Completes + Drop + Copy + Send,
     S: Completes + Drop + Copy + Send,
@@ -154,6 +157,8 @@ fn run_with<
     alloc: Global,
     setup: &Setup,
     case: &Case,
+    lines: Lines,
+    watched: bool,
     gate: &G,
     sent: T,
     sector: S,
@@ -166,18 +171,30 @@ fn run_with<
     altairs_are_lawful();
     let primary = boot(alloc, setup, Callbacks::of(sent, sector, written))?;
     let backup = boot(alloc, setup, Callbacks::of(sent, sector, written))?;
-    let workers = workers_of(alloc, case, primary, backup)?;
-    match run_generation(rt, alloc, workers, gate, case.turns) {
+    let workers = workers_of(alloc, case, watched, primary, backup)?;
+    match run_generation_over(rt, alloc, workers, lines, watched, gate, case.turns) {
         Ok(end) => outcome_of(end),
         Err(fault) => Err(fault),
     }
 }
 
-/// Runs a case on Altairs with one drive, with the plain completions.
+/// Runs a case without lines, in which hosts ask at the turns that are planned.
 pub(super) fn run_case<G: Gate + Sync, H: Threads + Clock + Sync>(
     rt: &H,
     alloc: Global,
     case: &Case,
+    gate: &G,
+) -> R<Outcome> {
+    run_case_over(rt, alloc, case, Lines::none(), false, gate)
+}
+
+/// Runs a case over lines, watched or not, on Altairs with one drive, with the plain completions.
+pub(super) fn run_case_over<G: Gate + Sync, H: Threads + Clock + Sync>(
+    rt: &H,
+    alloc: Global,
+    case: &Case,
+    lines: Lines,
+    watched: bool,
     gate: &G,
 ) -> R<Outcome> {
     let setup = setup_of(alloc, case.program)?;
@@ -186,6 +203,8 @@ pub(super) fn run_case<G: Gate + Sync, H: Threads + Clock + Sync>(
         alloc,
         &setup,
         case,
+        lines,
+        watched,
         gate,
         plain_completions::sent,
         plain_completions::sector,
