@@ -1,5 +1,5 @@
 //! How a pair of Altairs is run on threads.
-ghost use Rattle.std.specs.Prelude.{◌≡◌, IfOk};
+ghost use Rattle.std.specs.Prelude.{◌≡◌, IfOk, None, true};
 ghost use Rattle.event_callbacks.specs.declared.devices.TheConstants.{SENT, SECTOR, WRITTEN};
 ghost use Rattle.event_callbacks.specs.Keeping.{Keeps};
 ghost use Rattle.guest_board.specs.Guest.{guest_at_boot};
@@ -119,6 +119,16 @@ pub(super) fn unwritten_disk(alloc: Global, fails: u64) -> R<SharedDisk<Store>>
     Ok(SharedDisk::new(FailOnce::new(store, fails)))
 }
 
+// At which turn a host is to ask: at none if the pair is watched.
+fn planned(watched: bool, turn: Option<u64>) -> Option<u64>
+    ensures { watched ≡ true → result ≡ None }
+{
+    if watched {
+        return None;
+    }
+    turn
+}
+
 // The workers of these guests.
 fn workers_of<B: Lockstep + Drop>(
     alloc: Global,
@@ -140,7 +150,7 @@ fn workers_of<B: Lockstep + Drop>(
         typed1: Vec::new(alloc),
         fates: Vec::new(alloc),
         primary_contests: None,
-        backup_contests: if watched { None } else { case.backup_contests },
+        backup_contests: planned(watched, case.backup_contests),
         steps: 1,
     })
 }
