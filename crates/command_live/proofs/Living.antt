@@ -138,7 +138,7 @@ module _ (port : ℕ) (lines : List Line) (i : ℕ) (other : Line) (found : Opti
 -- ---- how it ends
 
 -- a store at boot has in each sector what the setup says
-are_booted : (setup : ScriptSetup) (given : List SectorWrite) (records : List Record)
+pub are_booted : (setup : ScriptSetup) (given : List SectorWrite) (records : List Record)
     → IsAtBoot records setup.guest.drives given → AreBooted setup given (bytes_in records)
 are_booted setup given records at address there =
     ap (λ (r : Option Record). option_map_or (λ (r : Record). r.bytes) r [])

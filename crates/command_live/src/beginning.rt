@@ -17,19 +17,19 @@ use shared_disk::{MemoryStore, SectorStore, SharedDisk};
 use std::alloc::Global;
 
 /// How many instructions a guest executes in one turn, at most.
-pub(crate) const STEPS: u64 = 10_000;
+pub const STEPS: u64 = 10_000;
 
 /// For how many turns a pair runs, and the turn at which each node asks to go on alone.
 #[derive(Clone, Copy)]
-pub(crate) struct Asked {
-    pub(crate) turns: u64,
-    pub(crate) primary: Option<u64>,
-    pub(crate) backup: Option<u64>,
+pub struct Asked {
+    pub turns: u64,
+    pub primary: Option<u64>,
+    pub backup: Option<u64>,
 }
 
 /// What the generation of a script begins with, over a link of these fates.
 #[tactic(auto, using(crate::proofs::Living::begins_as))]
-pub(crate) fn workers_of<
+pub fn workers_of<
     T: Completes + Drop + Copy,
     S: Completes + Drop + Copy,
     W: Completes + Drop + Copy,

@@ -21,8 +21,8 @@ use std::alloc::Global;
 use std::thread::Threads;
 use std::time::Clock;
 
-// How often a write is tried, and all parts of an image are sent.
-const TRIES: u64 = 1_000;
+/// How often a write is tried, and all parts of an image are sent.
+pub const TRIES: u64 = 1_000;
 
 /// What happens in the further generations: each has a spare host and a link of these fates, in which somebody asks at a turn.
 pub(crate) fn later_of<
@@ -71,8 +71,8 @@ fn next_of<H: Drop>(asker: Asker, turn: u64, link: &Vec<Fate>, host: H) -> R<Nex
     })
 }
 
-// The workers of the first generation, whose guests can be copied.
-fn drafted<T: Completes + Drop, S: Completes + Drop, W: Completes + Drop>(
+/// The workers of the first generation, whose guests can be copied.
+pub fn drafted<T: Completes + Drop, S: Completes + Drop, W: Completes + Drop>(
     workers: Workers<Board<T, S, W>, MemoryStore>,
 ) -> Workers<DraftedBoard<T, S, W>, MemoryStore>
     ensures guests { (result.primary.board ≡ workers.primary) × (result.backup.board ≡ workers.backup) }
@@ -105,8 +105,8 @@ fn drafted<T: Completes + Drop, S: Completes + Drop, W: Completes + Drop>(
     }
 }
 
-// The levels and the switches of a setup have the sizes of their types.
-fn sizes(levels: &[u8; 3], sense: u8)
+/// The levels and the switches of a setup have the sizes of their types.
+pub fn sizes(levels: &[u8; 3], sense: u8)
     ensures levels { length levels.now ≡ 3 }
     ensures sense { sense < 2 ^ 8 }
 {}

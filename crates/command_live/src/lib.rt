@@ -7,4 +7,7 @@ mod generations;
 mod live;
 mod saving;
 
+pub use beginning::{Asked, STEPS, workers_of};
 pub use command::run_live;
+pub use generations::{TRIES, drafted, sizes};
+pub use saving::images_of;

@@ -1,5 +1,5 @@
 -- The commands of a console, and how a line spells them.
-use Rattle.std.specs.Prelude.{ℕ, ◌+◌, ◌*◌, ◌-◌, ◌==◌, ◌&&◌, nat_le, Bool, true, false, if◌then◌else◌, List, [], ◌∷◌, take, drop, length, map, Option, None, Some, bytes_eq, codes}
+use Rattle.std.specs.Prelude.{◌≡◌, ◌++◌, ℕ, ◌+◌, ◌*◌, ◌-◌, ◌==◌, ◌&&◌, nat_le, Bool, if◌then◌else◌, List, [], ◌∷◌, take, drop, length, map, Option, None, Some, bytes_eq, codes}
 use Rattle.std.specs.List.{position_or_len, prefix_len}
 use Rattle.std.specs.Option.{option_map}
 use Rattle.std.specs.Char.{to_ascii_lowercase}
@@ -41,8 +41,9 @@ after_word line = drop (bytes_before_space (without_spaces line)) (without_space
 -- each command's word
 abbrev pub keywords : List (List ℕ × Keyword)
 keywords =
-    (codes "stop", Keyword.Stop) ∷ (codes "status", Keyword.Status) ∷ (codes "terminal", Keyword.Terminal)
-    ∷ (codes "help", Keyword.Help) ∷ (codes "quit", Keyword.Quit) ∷ []
+    (codes "stop", Keyword.Stop) ∷ (codes "cut", Keyword.Cut) ∷ (codes "mend", Keyword.Mend) ∷ (codes "drop", Keyword.Drop)
+    ∷ (codes "status", Keyword.Status) ∷ (codes "terminal", Keyword.Terminal) ∷ (codes "help", Keyword.Help)
+    ∷ (codes "quit", Keyword.Quit) ∷ []
 
 -- the two are the same but for the case of letters
 abbrev pub is_same_word : List ℕ → List ℕ → Bool
@@ -65,11 +66,11 @@ abbrev two_digits : Option ℕ → Option ℕ → Option ℕ
 two_digits (Some tens) (Some units) = Some (tens * 10 + units)
 two_digits _ _ = None
 
--- the number of a host: one or two digits
-abbrev pub host_of : List ℕ → Option ℕ
-host_of (units ∷ []) = digit_of units
-host_of (tens ∷ units ∷ []) = two_digits (digit_of tens) (digit_of units)
-host_of _ = None
+-- the number that one or two digits spell
+abbrev pub number_of : List ℕ → Option ℕ
+number_of (units ∷ []) = digit_of units
+number_of (tens ∷ units ∷ []) = two_digits (digit_of tens) (digit_of units)
+number_of _ = None
 
 -- the number of a port: 0 or 1
 abbrev pub port_of : List ℕ → Option Port
@@ -81,7 +82,10 @@ alone command value = if is_empty value then Some command else None
 
 -- the command of a keyword with the word after it
 abbrev pub command_by : Keyword → List ℕ → Option Command
-command_by Keyword.Stop value = option_map (λ (host : ℕ). Command.Stop host) (host_of value)
+command_by Keyword.Stop value = option_map (λ (host : ℕ). Command.Stop host) (number_of value)
+command_by Keyword.Cut value = alone Command.Cut value
+command_by Keyword.Mend value = alone Command.Mend value
+command_by Keyword.Drop value = option_map (λ (percent : ℕ). Command.Drop percent) (number_of value)
 command_by Keyword.Status value = alone Command.Status value
 command_by Keyword.Terminal value = option_map (λ port. Command.Terminal port) (port_of value)
 command_by Keyword.Help value = alone Command.Help value
@@ -101,9 +105,16 @@ ordered (Some keyword) rest = judged keyword (command_by keyword (first_word res
 abbrev pub order_of : List ℕ → Order
 order_of line = if is_empty (first_word line) then Order.Nothing else ordered (keyword_of (first_word line)) (after_word line)
 
+-- the commands that were given, if they are known, and then these
+abbrev pub Grows : Option (List Command) → Option (List Command) → List Command → Type 0
+Grows None now commands = Unit {0}
+Grows (Some before) None commands = ⊥
+Grows (Some before) (Some now) commands = now ≡ before ++ commands
+
 -- what is said of a mistake
 abbrev pub mistake_text : Mistake → List ℕ
 mistake_text Mistake.Unknown = codes "no such command; `help` lists them"
 mistake_text (Mistake.Unfit Keyword.Stop) = codes "`stop` is followed by the number of a host"
+mistake_text (Mistake.Unfit Keyword.Drop) = codes "`drop` is followed by a number from 0 to 99"
 mistake_text (Mistake.Unfit Keyword.Terminal) = codes "`terminal` is followed by 0 or 1"
 mistake_text (Mistake.Unfit _) = codes "nothing comes after that word"

@@ -1,6 +1,6 @@
 //! The commands of a console, and how a line spells them.
 ghost use Rattle.std.specs.Prelude.{◌≡◌, ◌≤◌, length, map};
-ghost use Rattle.console_terminal.specs.Commands.{after_word, bytes_before_space, command_by, digit_of, first_word, host_of, is_same_word, keyword_among, keyword_of, mistake_text, order_of, port_of, spaces_before};
+ghost use Rattle.console_terminal.specs.Commands.{after_word, bytes_before_space, command_by, digit_of, first_word, number_of, is_same_word, keyword_among, keyword_of, mistake_text, order_of, port_of, spaces_before};
 
 use crate::port::Port;
 
@@ -9,6 +9,12 @@ use crate::port::Port;
 pub enum Command {
     /// The host of this number fails, and its peer is told so.
     Stop(u8),
+    /// The link loses every packet.
+    Cut,
+    /// It delivers each.
+    Mend,
+    /// Of 100 packets it loses so many.
+    Drop(u8),
     /// How the pair is.
     Status,
     /// One turns to the terminal of this port.
@@ -23,6 +29,9 @@ pub enum Command {
 #[derive(Debug, Clone, Copy, PartialEq, Eq)]
 pub enum Keyword {
     Stop,
+    Cut,
+    Mend,
+    Drop,
     Status,
     Terminal,
     Help,
@@ -50,6 +59,9 @@ pub enum Order {
 /// The commands, a line each.
 pub const HELP: &str = "\
 stop N       host N fails, and its peer is told\r\n\
+cut          the link loses every packet\r\n\
+mend         the link delivers every packet\r\n\
+drop N       the link loses N of 100 packets\r\n\
 status       how the pair is\r\n\
 terminal P   turns to the terminal of port 0 or 1\r\n\
 help         these lines\r\n\
@@ -57,8 +69,11 @@ quit         ends the console\r\n\
 The escape key once more types that key itself; ESC or Ctrl-C leaves the line.";
 
 // Each keyword with its word.
-static KEYWORDS: [(&[u8], Keyword); 5] = [
+static KEYWORDS: [(&[u8], Keyword); 8] = [
     (b"stop", Keyword::Stop),
+    (b"cut", Keyword::Cut),
+    (b"mend", Keyword::Mend),
+    (b"drop", Keyword::Drop),
     (b"status", Keyword::Status),
     (b"terminal", Keyword::Terminal),
     (b"help", Keyword::Help),
@@ -142,8 +157,11 @@ fn command_by(keyword: Keyword, value: &[u8]) -> Option<Command>
     ensures { result ≡ command_by keyword value.now }
 {
     match keyword {
-        Keyword::Stop => Some(Command::Stop(host_of(value)?)),
+        Keyword::Stop => Some(Command::Stop(number_of(value)?)),
+        Keyword::Drop => Some(Command::Drop(number_of(value)?)),
         Keyword::Terminal => Some(Command::Terminal(port_of(value)?)),
+        Keyword::Cut if value.is_empty() => Some(Command::Cut),
+        Keyword::Mend if value.is_empty() => Some(Command::Mend),
         Keyword::Status if value.is_empty() => Some(Command::Status),
         Keyword::Help if value.is_empty() => Some(Command::Help),
         Keyword::Quit if value.is_empty() => Some(Command::Quit),
@@ -162,9 +180,9 @@ fn port_of(word: &[u8]) -> Option<Port>
     }
 }
 
-// The number of a host, which one or two decimal digits spell.
-fn host_of(word: &[u8]) -> Option<u8>
-    ensures { result ≡ host_of word.now }
+// The number that one or two decimal digits spell.
+fn number_of(word: &[u8]) -> Option<u8>
+    ensures { result ≡ number_of word.now }
 {
     match word {
         [units] => digit_of(*units),
@@ -191,6 +209,7 @@ impl Mistake {
         match self {
             Mistake::Unknown => "no such command; `help` lists them",
             Mistake::Unfit(Keyword::Stop) => "`stop` is followed by the number of a host",
+            Mistake::Unfit(Keyword::Drop) => "`drop` is followed by a number from 0 to 99",
             Mistake::Unfit(Keyword::Terminal) => "`terminal` is followed by 0 or 1",
             Mistake::Unfit(_) => "nothing comes after that word",
         }

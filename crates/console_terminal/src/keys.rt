@@ -40,6 +40,14 @@ impl<R> TerminalKeys<R> {
     {
         TerminalKeys { reader }
     }
+
+    /// The reader that it was made of.
+    pub fn into_reader(self) -> R
+        ensures { result ≡ self.reader }
+    {
+        let TerminalKeys { reader } = self;
+        reader
+    }
 }
 
 impl<R: Read + IsTerminal> KeySource for TerminalKeys<R> {

@@ -1,11 +1,12 @@
 -- What a command prints is what obeying its request leaves.
 use Rattle.std.proofs.Common.{◌≡◌, ℕ, Option, List, true, Result, Ok, Err, String, Global, string_bytes, inl, inr, refl, subst, sym}
 use Rattle.std.specs.Global.{Vec}
+use Rattle.command_console.specs.Console.{IsAtConsole}
 use Rattle.command_lint.specs.Linting.{Lints}
 use Rattle.command_live.specs.Living.{PrintsLive, typed_in}
 use Rattle.command_script.specs.Drawing.{Draws}
 use Rattle.command_script.specs.Printing as script
-use Rattle.pair_main.specs.Runs.{IsObeyed, IsRun, IsScriptOf, Writes, asked_by}
+use Rattle.pair_main.specs.Runs.{IsObeyed, IsRun, IsScriptOf, SitsAt, Writes, asked_by}
 use Rattle.pair_shell.specs.Hearing.{Hears}
 use Rattle.command_ending.specs.Statuses.{is_of_command_line}
 use Rattle.command_ending.specs.declared.failure.Failure.{Failure}
@@ -17,6 +18,7 @@ use Rattle.command_input.specs.declared.input.Input.{Input}
 use Rattle.command_input.specs.declared.input.Language.{Language}
 use Rattle.command_input.specs.declared.input.Language.TheVariants.{Any, Threads}
 use Rattle.command_line.specs.Orders.{IsAsked}
+use Rattle.command_line.specs.declared.console_order.ConsoleOrder.{ConsoleOrder}
 use Rattle.command_line.specs.declared.live_order.LiveOrder.{LiveOrder}
 use Rattle.command_line.specs.declared.options.Request.{Request}
 use Rattle.command_line.specs.declared.options.Request.TheVariants as request
@@ -200,6 +202,23 @@ module _ {R W : Type 0} (remaining : R → Option (List ℕ)) (contents : W → 
       → Hears (remaining reader) result (contents writer) (contents writer')
       → IsObeyed remaining contents reader reader' writer writer' asked result
   obeys_shell asked result is h = named request.Shell asked result is (by_shell result h)
+
+  by_console : (how : ConsoleOrder) (result : Result (Unit {0}) Failure)
+      → SitsAt how (remaining reader) (remaining reader') result (contents writer) (contents writer')
+      → IsObeyed remaining contents reader reader' writer writer' (request.Console how) result
+  by_console how (Ok done) h = h
+  by_console how (Err failure.OutOfMemory) h = inr h
+  by_console how (Err failure.InputOrOutput) h = inr h
+  by_console how (Err failure.Stalled) h = h
+  by_console how (Err failure.Differs) h = h
+  by_console how (Err (failure.BadScript line)) h = inr h
+  by_console how (Err (failure.CommandLine text)) h = elim h.2.2 [ inl is ↦ absurd cc | inr more ↦ elim more [ inl is ↦ absurd cc | inr is ↦ absurd cc ] ]
+
+  pub obeys_console : (notes notes' : Option (List ℕ)) (asked : Request) (how : ConsoleOrder) (result : Result (Unit {0}) Failure)
+      → asked ≡ request.Console how
+      → IsAtConsole how (remaining reader) (remaining reader') (contents writer) (contents writer') notes notes' result
+      → IsObeyed remaining contents reader reader' writer writer' asked result
+  obeys_console notes notes' asked how result is h = named (request.Console how) asked result is (by_console how result (notes, notes', h))
 
   by_help : (text : String Global) (result : Result (Unit {0}) Failure)
       → Writes (string_bytes text) result (contents writer) (contents writer')

@@ -3,6 +3,7 @@
 
 mod program;
 
+use command_console::Streams;
 use program::run_program;
 use std::env;
 use std::io::{self, ErrorKind};
@@ -18,9 +19,12 @@ fn main(rt: HostRuntime) -> ExitCode {
     let Ok(arguments) = arguments.collect::<Vec<String>>(alloc) else {
         return ExitCode::from(4);
     };
-    let mut reader = rt.reader();
-    let mut writer = io::writer(&rt);
-    let (status, text) = run_program(&rt, alloc, &arguments, &mut reader, &mut writer);
+    let streams = Streams {
+        reader: rt.reader(),
+        writer: io::writer(&rt),
+        notes: rt.stderr(),
+    };
+    let (_, (status, text)) = run_program(&rt, alloc, &arguments, streams);
     if !text.is_empty() {
         let _ = eprintln!(rt; "{text}");
     }

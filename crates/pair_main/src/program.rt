@@ -3,6 +3,7 @@ ghost use Rattle.std.specs.Prelude.{map, string_bytes};
 ghost use Rattle.command_line.specs.declared.options.Request.TheVariants as asked;
 ghost use Rattle.pair_main.specs.Runs.{IsEnding, IsObeyed, IsRun, Writes, asked_by};
 
+use command_console::{Streams, run_console};
 use command_ending::Failure;
 use command_input::{Language, read_input};
 use command_line::{LiveOrder, Request, request_of};
@@ -13,71 +14,95 @@ use event_callbacks::plain_completions;
 use pair_shell::run_shell;
 use std::alloc::Global;
 use std::borrow::CowStr;
-use std::io::{Read, Write};
+use std::io::{IsTerminal, Read, Write};
 use std::thread::Threads;
 use std::time::Clock;
 
 /// Runs the program on these words, the first of which is its name, and returns its exit status and its text for
 /// standard error. All images and the whole script are read, and the script is parsed, before anything of it is run.
-pub fn run_program<H: Threads + Clock + Sync, R: Read + Drop, W: Write + Drop>(
+pub fn run_program<
+    H: Threads + Clock + Sync,
+    R: Read + IsTerminal + Drop + Send,
+    W: Write + Drop + Send,
+    N: Write + Drop + Send,
+>(
     rt: &H,
     alloc: Global,
     arguments: &[String],
-    reader: &mut R,
-    writer: &mut W,
-) -> (u8, CowStr<'static>)
-    ensures { IsEnding R.remaining W.contents reader.old reader.new writer.old writer.new
-        (map (λ word. string_bytes word) arguments.now) result }
+    streams: Streams<R, W, N>,
+) -> (Streams<R, W, N>, (u8, CowStr<'static>))
+    ensures { IsEnding R.remaining W.contents streams.reader result.0.reader streams.writer result.0.writer
+        (map (λ word. string_bytes word) arguments.now) result.1 }
 {
-    match run(rt, alloc, arguments, reader, writer) {
-        Ok(()) => (0, CowStr::Borrowed("")),
-        Err(failure) => failure.ending(alloc),
+    let (streams, ended) = run(rt, alloc, arguments, streams);
+    match ended {
+        Ok(()) => (streams, (0, CowStr::Borrowed(""))),
+        Err(failure) => (streams, failure.ending(alloc)),
     }
 }
 
 // Obeys what the words ask for.
 #[tactic(auto, using(crate::proofs::Runs::obeyed, crate::proofs::Runs::refuses_words))]
-fn run<H: Threads + Clock + Sync, R: Read + Drop, W: Write + Drop>(
+fn run<
+    H: Threads + Clock + Sync,
+    R: Read + IsTerminal + Drop + Send,
+    W: Write + Drop + Send,
+    N: Write + Drop + Send,
+>(
     rt: &H,
     alloc: Global,
     arguments: &[String],
-    reader: &mut R,
-    writer: &mut W,
-) -> Result<(), Failure>
-    ensures { IsRun R.remaining W.contents reader.old reader.new writer.old writer.new
-        (map (λ word. string_bytes word) arguments.now) result }
+    streams: Streams<R, W, N>,
+) -> (Streams<R, W, N>, Result<(), Failure>)
+    ensures { IsRun R.remaining W.contents streams.reader result.0.reader streams.writer result.0.writer
+        (map (λ word. string_bytes word) arguments.now) result.1 }
 {
-    let request = request_of(alloc, arguments)?;
-    obey(rt, alloc, request, reader, writer)
+    match request_of(alloc, arguments) {
+        Ok(request) => obey(rt, alloc, request, streams),
+        Err(failure) => (streams, Err(failure)),
+    }
 }
 
 // Does what is asked for.
-#[tactic(auto, using(crate::proofs::Runs::obeys_script, crate::proofs::Runs::obeys_check, crate::proofs::Runs::obeys_picture, crate::proofs::Runs::obeys_lint, crate::proofs::Runs::obeys_live, crate::proofs::Runs::obeys_shell, crate::proofs::Runs::obeys_help))]
-fn obey<H: Threads + Clock + Sync, R: Read + Drop, W: Write + Drop>(
+#[tactic(auto, using(crate::proofs::Runs::obeys_console, crate::proofs::Runs::obeys_script, crate::proofs::Runs::obeys_check, crate::proofs::Runs::obeys_picture, crate::proofs::Runs::obeys_lint, crate::proofs::Runs::obeys_live, crate::proofs::Runs::obeys_shell, crate::proofs::Runs::obeys_help))]
+fn obey<
+    H: Threads + Clock + Sync,
+    R: Read + IsTerminal + Drop + Send,
+    W: Write + Drop + Send,
+    N: Write + Drop + Send,
+>(
     rt: &H,
     alloc: Global,
     request: Request,
-    reader: &mut R,
-    writer: &mut W,
-) -> Result<(), Failure>
-    ensures { IsObeyed R.remaining W.contents reader.old reader.new writer.old writer.new request result }
+    streams: Streams<R, W, N>,
+) -> (Streams<R, W, N>, Result<(), Failure>)
+    ensures { IsObeyed R.remaining W.contents streams.reader result.0.reader streams.writer result.0.writer request result.1 }
 {
-    match request {
-        Request::Script(images) => run_order(alloc, Order::Script, images, reader, writer),
-        Request::Check(images) => run_order(alloc, Order::Check, images, reader, writer),
-        Request::Picture(images) => draw(alloc, images, reader, writer),
-        Request::Lint => run_lint(alloc, reader, writer),
-        Request::Live(order) => run_threads(rt, alloc, order, reader, writer),
+    let mut streams = streams;
+    let ended = match request {
+        Request::Script(images) => {
+            run_order(alloc, Order::Script, images, &mut streams.reader, &mut streams.writer)
+        }
+        Request::Check(images) => {
+            run_order(alloc, Order::Check, images, &mut streams.reader, &mut streams.writer)
+        }
+        Request::Picture(images) => draw(alloc, images, &mut streams.reader, &mut streams.writer),
+        Request::Lint => run_lint(alloc, &mut streams.reader, &mut streams.writer),
+        Request::Live(order) => {
+            run_threads(rt, alloc, order, &mut streams.reader, &mut streams.writer)
+        }
+        Request::Console(order) => return run_console(rt, alloc, &order, streams),
         Request::Shell => run_shell(
             alloc,
-            reader,
-            writer,
+            &mut streams.reader,
+            &mut streams.writer,
             plain_completions::sent,
             plain_completions::sector,
             plain_completions::written,
         ),
-        Request::Help(text) => print_help(&text, writer),
-    }
+        Request::Help(text) => print_help(&text, &mut streams.writer),
+    };
+    (streams, ended)
 }
 
 // Writes what there is to ask for.

@@ -12,6 +12,7 @@ ghost use Rattle.pair_threads.specs.Turns.{Leaves};
 ghost use Rattle.pair_threads.specs.declared.backup.Chore.TheVariants as task;
 ghost use Rattle.pair_threads.specs.declared.worker.Turn.TheVariants as turn;
 
+use crate::gate::Progress;
 use crate::plan::Plan;
 use crate::repeater::Repeater;
 use crate::signals::Told;
@@ -240,7 +241,7 @@ impl<B: Lockstep> BackupWorker<B> {
 }
 
 impl<B: Lockstep> Worker for BackupWorker<B> {
-    ghost use Rattle.std.specs.Prelude.{◌≡◌, ◌⊎◌, ◌&&◌, ◌||◌, not, cond, false, vec_len};
+    ghost use Rattle.std.specs.Prelude.{◌≡◌, ◌⊎◌, ◌&&◌, ◌||◌, not, cond, false, Some, vec_len};
     ghost use Rattle.pair_threads.specs.Asking.{AsksAt, HasAsked};
     ghost use Rattle.pair_threads.specs.Repeating.{GoesOn, has_all, is_far_behind};
     ghost use Rattle.pair_threads.specs.BackupTurns.{IsTurn, IsTurnOf};
@@ -267,6 +268,12 @@ impl<B: Lockstep> Worker for BackupWorker<B> {
 
     ghost needs_others = { λ w. false };
 
+    ghost stands = { λ w. Some (record {
+        entries = vec_len w.guest.list;
+        passed = w.guest.replayed;
+        steps = B.machine.count (B.state w.guest.board);
+    }) };
+
     fn turn(&mut self, fabric: &Fabric, number: u64, told: bool) -> R<Turn> {
         if self.won {
             return self.drain();
@@ -286,5 +293,13 @@ impl<B: Lockstep> Worker for BackupWorker<B> {
 
     fn is_held_up(&self) -> bool {
         false
+    }
+
+    fn progress(&self) -> Option<Progress> {
+        Some(Progress {
+            entries: self.guest.list.len() as u64,
+            passed: self.guest.replayed as u64,
+            steps: self.guest.board.count(),
+        })
     }
 }

@@ -6,6 +6,7 @@ ghost use Rattle.pair_rule.specs.Seats.{HasSwapsLeft};
 ghost use Rattle.pair_threads.specs.Stores.{IsStore, Serves};
 ghost use Rattle.pair_threads.specs.Turns.{disk_turn};
 
+use crate::gate::Progress;
 use crate::signals::Told;
 use crate::worker::{Turn, Worker};
 use i8080_words::{Fault, R};
@@ -131,5 +132,9 @@ impl<D: SectorStore> Worker for DiskWorker<D> {
 
     fn is_held_up(&self) -> bool {
         false
+    }
+
+    fn progress(&self) -> Option<Progress> {
+        None
     }
 }

@@ -23,7 +23,7 @@ mod workers;
 mod yields;
 
 pub use chore::Chore;
-pub use gate::{Gate, OpenGate, Who};
+pub use gate::{Gate, OpenGate, Progress, Who};
 pub use link::{Fate, fate_of};
 pub use rest::Rest;
 pub use resumed::run_generation_at;

@@ -8,6 +8,7 @@ ghost use Rattle.pair_lines.specs.Lines.{HasRoom, HasShown, IsSameStart};
 ghost use Rattle.pair_threads.specs.Screens.{HasInHand, next_byte};
 ghost use Rattle.pair_threads.specs.Turns.{turn_by};
 
+use crate::gate::Progress;
 use crate::signals::Told;
 use crate::worker::{Turn, Worker};
 use i8080_words::{Fault, R};
@@ -205,5 +206,9 @@ impl Worker for TerminalWorker {
 
     fn is_held_up(&self) -> bool {
         false
+    }
+
+    fn progress(&self) -> Option<Progress> {
+        None
     }
 }

@@ -5,7 +5,7 @@ ghost use Rattle.pair_threads.specs.Ending.{IsEnding};
 ghost use Rattle.pair_threads.specs.Served.{HasGoneOn, HasHadTurns, LeavesAs, next_after};
 ghost use Rattle.pair_threads.specs.Turns.{Leaves};
 
-use crate::gate::{Gate, Who};
+use crate::gate::{Gate, Progress, Who};
 use crate::pace::Pace;
 use crate::signals::{Signals, Told};
 use i8080_words::{Fault, R};
@@ -27,8 +27,9 @@ pub(crate) enum Turn {
 
 /// A seat with all that its thread keeps besides it.
 pub(crate) trait Worker {
-    ghost use Rattle.std.specs.Prelude.{ℕ, Bool};
+    ghost use Rattle.std.specs.Prelude.{ℕ, Bool, Option, None};
     ghost use Rattle.atomic_table.specs.Seated.{TableId};
+    ghost use Rattle.pair_threads.specs.declared.gate.Progress.{Progress};
     ghost use Rattle.pair_threads.specs.declared.signals.Told.{Told};
     ghost use Rattle.pair_threads.specs.declared.worker.Turn.{Turn};
 
@@ -77,6 +78,13 @@ pub(crate) trait Worker {
     /// Whether its guest makes progress only if the other workers do.
     fn is_held_up(&self) -> bool
         ensures { result ≡ needs_others self.now };
+
+    // How far it has come, if it is a node.
+    ghost stands: { Self → Option Progress } = { λ _. None };
+
+    /// How far it has come, if it is a node.
+    fn progress(&self) -> Option<Progress>
+        ensures { result ≡ stands self.now };
 }
 
 // Waits until all workers have begun, or one has failed, for ten seconds at most. If no thread can be made for one of them,
@@ -153,6 +161,9 @@ fn take_turn<C: Clock, W: Worker, G: Gate>(
     ensures refused { IfErr result IsEnding }
 {
     let turn = worker.turn(fabric, number, gate.suspects(who));
+    if let Some(progress) = worker.progress() {
+        gate.notes(who, progress);
+    }
     gate.leave(who, number);
     if worker.is_held_up() != *held_up {
         *held_up = !*held_up;

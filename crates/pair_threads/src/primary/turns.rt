@@ -14,6 +14,7 @@ ghost use Rattle.pair_threads.specs.declared.primary.PrimaryWorker.{PrimaryWorke
 
 use super::PrimaryWorker;
 use crate::chore::{Chore, ROTATION};
+use crate::gate::Progress;
 use crate::plan::Plan;
 use crate::port_inputs::PortInputs;
 use crate::recording::Recording;
@@ -333,7 +334,7 @@ fn fruitless_after(moved: bool, fruitless: u8) -> u8
 }
 
 impl<B: Lockstep> Worker for PrimaryWorker<B> {
-    ghost use Rattle.std.specs.Prelude.{◌≡◌, ◌&&◌, false};
+    ghost use Rattle.std.specs.Prelude.{◌≡◌, ◌&&◌, false, Some, vec_len};
     ghost use Rattle.pair_threads.specs.Asking.{AsksAt, HasAsked};
     ghost use Rattle.pair_threads.specs.Patience.{is_held_up};
     ghost use Rattle.pair_threads.specs.Primary.{HasHadTurn, IsAtRest, WorkerKeeps, WorkerLeads};
@@ -360,6 +361,12 @@ impl<B: Lockstep> Worker for PrimaryWorker<B> {
 
     ghost needs_others = { λ w. is_held_up w };
 
+    ghost stands = { λ w. Some (record {
+        entries = vec_len w.list;
+        passed = w.seen;
+        steps = B.machine.count (B.state w.guest.board);
+    }) };
+
     fn turn(&mut self, fabric: &Fabric, number: u64, told: bool) -> R<Turn> {
         if !self.seat.has_swaps_left() {
             return Err(Fault::Stalled);
@@ -380,5 +387,13 @@ impl<B: Lockstep> Worker for PrimaryWorker<B> {
 
     fn is_held_up(&self) -> bool {
         self.held_up || !self.port0.is_taken() || !self.port1.is_taken()
+    }
+
+    fn progress(&self) -> Option<Progress> {
+        Some(Progress {
+            entries: self.list.len() as u64,
+            passed: self.seen,
+            steps: self.guest.board.count(),
+        })
     }
 }

@@ -1,0 +1,6 @@
+pub mod Roles
+pub mod Links
+pub mod Rings
+pub mod Sitting
+pub mod Session
+pub mod Console

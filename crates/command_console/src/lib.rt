@@ -1,0 +1,15 @@
+//! The command `console`: a pair on threads that one sits at, and whose hosts one can fail while it runs.
+#![tactic(auto)]
+
+mod console;
+mod hosts;
+mod link;
+mod operator;
+mod prepared;
+mod rings;
+mod roles;
+mod session;
+mod sitting;
+mod steward;
+
+pub use console::{Streams, run_console};

@@ -1,0 +1,98 @@
+#!/usr/bin/env python3
+"""Records a session at a console: what a terminal shows, with times, as asciinema's files have it (asciicast, version 2).
+
+usage: tools/record.py FILE.cast
+
+A machine boots the monitor, prints memory, and goes on while two of its hosts fail. `asciinema play FILE.cast` shows it again.
+"""
+
+import json
+import os
+import pty
+import select
+import subprocess
+import sys
+import time
+
+TOP = os.path.dirname(os.path.dirname(os.path.realpath(__file__)))
+COLUMNS, ROWS = 80, 24
+ESCAPE = "\x05"
+# What is waited for, and what is typed then.
+SESSION = [
+    ("*", "D0000\r"),
+    ("\r\n*", f"{ESCAPE}status\r"),
+    ("backup; spare", "F2000 200F 55"),
+    ("55", f"{ESCAPE}stop 0\r"),
+    ("generation 2", "D2000\r"),
+    ("55\r\n*", f"{ESCAPE}stop 1\r"),
+    ("generation 3", "D2000\r"),
+    ("55\r\n*", f"{ESCAPE}quit\r"),
+]
+# Between two keys, and before and after a line.
+KEY_SECONDS, PAUSE_SECONDS = 0.08, 0.8
+PATIENCE_SECONDS = 60
+
+
+class Recording:
+    """A program in a terminal of its own, and what it has shown so far."""
+
+    def __init__(self, command):
+        self.began, self.events, self.shown = time.time(), [], ""
+        master, slave = pty.openpty()
+        self.master = master
+        self.program = subprocess.Popen(command, stdin=slave, stdout=slave, stderr=slave, start_new_session=True, cwd=TOP)
+        os.close(slave)
+
+    def look(self, seconds):
+        """Notes what is shown within so many seconds; false once nothing more can come."""
+        until = time.time() + seconds
+        while (left := until - time.time()) > 0:
+            if not select.select([self.master], [], [], left)[0]:
+                break
+            try:
+                some = os.read(self.master, 65536)
+            except OSError:
+                return False
+            if not some:
+                return False
+            text = some.decode("latin-1")
+            self.events.append([round(time.time() - self.began, 3), "o", text])
+            self.shown += text
+        return True
+
+    def wait_for(self, text):
+        """Waits until this has been shown since it was last waited for."""
+        until = time.time() + PATIENCE_SECONDS
+        while text not in self.shown:
+            if time.time() > until or not self.look(0.05):
+                sys.exit(f"record.py: {text!r} was not shown; this was: {self.shown[-400:]!r}")
+        self.shown = self.shown.partition(text)[2]
+
+    def type(self, keys):
+        """Types as a person does."""
+        for key in keys:
+            os.write(self.master, key.encode("latin-1"))
+            self.look(KEY_SECONDS)
+
+
+def main(path):
+    recording = Recording([f"{TOP}/pair", "console", "--spares", "2"])
+    for text, keys in SESSION:
+        recording.wait_for(text)
+        recording.look(PAUSE_SECONDS)
+        recording.type(keys)
+    while recording.look(1):
+        pass
+    if recording.program.wait():
+        sys.exit(f"record.py: the console ended with status {recording.program.returncode}")
+    head = {"version": 2, "width": COLUMNS, "height": ROWS, "title": "pair console: a machine whose hosts fail"}
+    with open(path, "w", encoding="utf-8") as file:
+        for row in [head, *recording.events]:
+            file.write(json.dumps(row) + "\n")
+
+
+if __name__ == "__main__":
+    if len(sys.argv) != 2 or sys.argv[1].startswith("-"):
+        print(__doc__.strip())
+        sys.exit(0 if sys.argv[1:] in (["--help"], ["-h"]) else 2)
+    main(sys.argv[1])
