@@ -8,21 +8,21 @@ use Rattle.clap.specs.declared.parser.matches.Found.{Found}
 use Rattle.command_line.specs.Orders.{AreTurns, Asks, AsksHelp, AsksIn, HasFound, IsAfter, IsAsked, IsGiven, IsGivenOr, IsNumber, command_word}
 use Rattle.command_line.specs.declared.options.Request.{Request}
 
-is_number : {E : Type 0} (gives : List ℕ → Result ℕ E → Type 0) (text : List ℕ) (given : Option ℕ) → ReadsOne gives text given
-    → ((t : List ℕ) (r : Result ℕ E) → gives t r → ParsesUnsigned 64 10 t r) → IsNumber text given
-is_number gives text (Some number) read parses = (parses text (Ok number) read).1
-is_number gives text None read parses = λ numeral. parses text (Err read.0) read.1 numeral
+is_number : {E : Type 0} (bits : ℕ) (gives : List ℕ → Result ℕ E → Type 0) (text : List ℕ) (given : Option ℕ)
+    → ReadsOne gives text given → ((t : List ℕ) (r : Result ℕ E) → gives t r → ParsesUnsigned bits 10 t r) → IsNumber bits text given
+is_number bits gives text (Some number) read parses = (parses text (Ok number) read).1
+is_number bits gives text None read parses = λ numeral. parses text (Err read.0) read.1 numeral
 
-pub is_given : {E : Type 0} (gives : List ℕ → Result ℕ E → Type 0) (text : Option (List ℕ)) (given : Option ℕ)
+pub is_given : {E : Type 0} (bits : ℕ) (gives : List ℕ → Result ℕ E → Type 0) (text : Option (List ℕ)) (given : Option ℕ)
     → (text ≡ None → given ≡ None) → ((t : List ℕ) → text ≡ Some t → ReadsOne gives t given)
-    → ((t : List ℕ) (r : Result ℕ E) → gives t r → ParsesUnsigned 64 10 t r) → IsGiven text given
-is_given gives None given none some parses = none refl
-is_given gives (Some text) given none some parses = is_number gives text given (some text refl) parses
+    → ((t : List ℕ) (r : Result ℕ E) → gives t r → ParsesUnsigned bits 10 t r) → IsGiven bits text given
+is_given bits gives None given none some parses = none refl
+is_given bits gives (Some text) given none some parses = is_number bits gives text given (some text refl) parses
 
 -- a number that counts if none is given
-pub given_or : (default : ℕ) (text : Option (List ℕ)) (given : Option ℕ) (number : ℕ) → IsGiven text given
-    → number ≡ unwrap_or given default → IsGivenOr default text number
-given_or default text given number is same = (given, (is, same))
+pub given_or : (bits default : ℕ) (text : Option (List ℕ)) (given : Option ℕ) (number : ℕ) → IsGiven bits text given
+    → number ≡ unwrap_or given default → IsGivenOr bits default text number
+given_or bits default text given number is same = (given, (is, same))
 
 -- ---- what is asked for
 
@@ -50,7 +50,7 @@ asked_by_found words word asked is h = inl (subst (λ w. HasFound w asked) is h)
 
 -- one more word says one more turn
 pub one_more_turn : {X : Type 0} (text : X → List ℕ) (words : List X) (turns : List ℕ) (i : ℕ) (other : X) (turn : ℕ)
-    → i < length words → AreTurns (map text (take i words)) turns → IsGivenOr 0 (Some (text (get_or words i other))) turn
+    → i < length words → AreTurns (map text (take i words)) turns → IsGivenOr 64 0 (Some (text (get_or words i other))) turn
     → AreTurns (map text (take (suc i) words)) (turns ++ turn ∷ [])
 one_more_turn text [] turns i other turn within are is = absurd (omega (arith, within))
 one_more_turn text (w ∷ words) [] zero other turn within are is = (is, tt)
@@ -61,8 +61,8 @@ one_more_turn text (w ∷ words) (t ∷ turns) (suc i) other turn within are is 
 
 -- a word that is a number, and one that is none
 module _ {E : Type 0} (word : List ℕ) (r : Result ℕ E) (parses : ParsesUnsigned 64 10 word r) where
-  pub turn_read : (turn : ℕ) → r ≡ Ok turn → IsGivenOr 0 (Some word) turn
+  pub turn_read : (turn : ℕ) → r ≡ Ok turn → IsGivenOr 64 0 (Some word) turn
   turn_read turn is = (Some turn, ((subst (ParsesUnsigned 64 10 word) is parses).1, refl))
 
-  pub no_turn : (e : E) → r ≡ Err e → IsGivenOr 0 (Some word) 0
+  pub no_turn : (e : E) → r ≡ Err e → IsGivenOr 64 0 (Some word) 0
   no_turn e is = (None, ((λ numeral. (subst (ParsesUnsigned 64 10 word) is parses) numeral), refl))

@@ -1,10 +1,11 @@
 -- What a command line asks for: the command that its second word names, with the options that clap has found after it.
-use Rattle.std.specs.Prelude.{◌≡◌, ◌≢◌, ◌⊎◌, ℕ, ◌^◌, ◌<◌, if◌then◌else◌, List, [], ◌∷◌, Option, Some, None, bytes_eq, codes, map, unwrap_or}
+use Rattle.std.specs.Prelude.{◌≡◌, ◌≢◌, ◌⊎◌, ℕ, ◌^◌, ◌<◌, if◌then◌else◌, List, [], ◌∷◌, Option, Some, None, bytes_eq, codes, map, string_bytes, unwrap_or}
 use Rattle.std.specs.Option.{option_map, option_map_or}
 use Rattle.std.specs.Str.Parse.{IsNumeral, digits_value, without_leading_plus}
-use Rattle.clap.specs.Words.{found_of, matched_of, one_text, raw_values, rows_of, subcommand_name_of, subcommand_rows_of}
+use Rattle.clap.specs.Words.{first_value, found_of, matched_of, one_text, raw_values, rows_of, subcommand_name_of, subcommand_rows_of}
 use Rattle.clap.specs.declared.parser.matches.ArgMatches.{ArgMatches}
 use Rattle.clap.specs.declared.parser.matches.Found.{Found}
+use Rattle.command_line.specs.declared.console_order.ConsoleOrder.{ConsoleOrder}
 use Rattle.command_line.specs.declared.live_order.Asker.{Asker}
 use Rattle.command_line.specs.declared.live_order.Asker.TheVariants.{Nobody, Primary, Backup}
 use Rattle.command_line.specs.declared.live_order.LiveOrder.{LiveOrder}
@@ -27,24 +28,24 @@ asker_of word =
 abbrev pub values_of : Found → List ℕ → List (List ℕ)
 values_of found option = option_map_or raw_values (matched_of found option) []
 
--- the number that a text is, or none
-abbrev pub IsNumber : List ℕ → Option ℕ → Type 0
-IsNumber text (Some number) = number ≡ digits_value 10 (without_leading_plus text)
-IsNumber text None = IsNumeral 10 (without_leading_plus text) × (digits_value 10 (without_leading_plus text) < 2 ^ 64) → ⊥
+-- the number of this many bits that a text is, or none
+abbrev pub IsNumber : ℕ → List ℕ → Option ℕ → Type 0
+IsNumber bits text (Some number) = number ≡ digits_value 10 (without_leading_plus text)
+IsNumber bits text None = IsNumeral 10 (without_leading_plus text) × (digits_value 10 (without_leading_plus text) < 2 ^ bits) → ⊥
 
 -- the same of the text that an option was given, if it was
-abbrev pub IsGiven : Option (List ℕ) → Option ℕ → Type 0
-IsGiven None given = given ≡ None
-IsGiven (Some text) given = IsNumber text given
+abbrev pub IsGiven : ℕ → Option (List ℕ) → Option ℕ → Type 0
+IsGiven bits None given = given ≡ None
+IsGiven bits (Some text) given = IsNumber bits text given
 
 -- the same if there is a number that counts otherwise
-abbrev pub IsGivenOr : ℕ → Option (List ℕ) → ℕ → Type 0
-IsGivenOr default text number = (given : Option ℕ) × (IsGiven text given × (number ≡ unwrap_or given default))
+abbrev pub IsGivenOr : ℕ → ℕ → Option (List ℕ) → ℕ → Type 0
+IsGivenOr bits default text number = (given : Option ℕ) × (IsGiven bits text given × (number ≡ unwrap_or given default))
 
 -- the turns that words say, 0 for a word that is no number
 abbrev pub AreTurns : List (List ℕ) → List ℕ → Type 0
 AreTurns [] [] = Unit {0}
-AreTurns (word ∷ words) (turn ∷ turns) = IsGivenOr 0 (Some word) turn × AreTurns words turns
+AreTurns (word ∷ words) (turn ∷ turns) = IsGivenOr 64 0 (Some word) turn × AreTurns words turns
 AreTurns _ _ = ⊥
 
 -- a drive, by its name; 0 is the fourth
@@ -59,14 +60,29 @@ drives_in found option = map drive_of (values_of found option)
 -- each option of `live` sets what it says: how many turns, when somebody asks, these fates in this order, who asks in further
 -- generations and when, and the drives whose disks are saved; the drives with images are given
 pub record IsOrdered (found : Found) (images : List ℕ) (order : LiveOrder) : Type 0 where
-  pub turns : IsGivenOr 1000000 (one_text found (codes "turns")) order.turns
-  pub primary_asks : IsGiven (one_text found (codes "primary-asks")) order.primary_asks
-  pub backup_asks : IsGiven (one_text found (codes "backup-asks")) order.backup_asks
+  pub turns : IsGivenOr 64 1000000 (one_text found (codes "turns")) order.turns
+  pub primary_asks : IsGiven 64 (one_text found (codes "primary-asks")) order.primary_asks
+  pub backup_asks : IsGiven 64 (one_text found (codes "backup-asks")) order.backup_asks
   pub link : order.link.items ≡ map fate_of (values_of found (codes "link"))
   pub next : order.next.items ≡ map asker_of (values_of found (codes "next"))
   pub next_at : AreTurns (values_of found (codes "next-at")) order.next_at.items
   pub images_are : order.images.items ≡ images
   pub saved : order.saved.items ≡ drives_in found (codes "saved")
+
+-- the text that an option was given; [] if it was not
+abbrev pub text_given : Found → List ℕ → List ℕ
+text_given found option = unwrap_or (first_value found option) []
+
+-- each option of `console` sets what it says: how many spare hosts there are, the escape key, how much comes before the first key, these
+-- fates in this order, the drives whose disks are saved, and the mark before these; the drives with images are given
+pub record IsConsoleOrdered (found : Found) (images : List ℕ) (order : ConsoleOrder) : Type 0 where
+  pub spares : IsGivenOr 64 2 (one_text found (codes "spares")) order.spares
+  pub escape : IsGivenOr 8 5 (one_text found (codes "escape")) order.escape
+  pub before : IsGivenOr 64 0 (one_text found (codes "before")) order.before
+  pub link : order.link.items ≡ map fate_of (values_of found (codes "link"))
+  pub images_are : order.images.items ≡ images
+  pub saved : order.saved.items ≡ drives_in found (codes "saved")
+  pub mark : string_bytes order.mark ≡ text_given found (codes "mark")
 
 -- the word that names the command: the one after the program's name; [] if there is none
 abbrev pub command_word : List (List ℕ) → List ℕ
@@ -84,6 +100,7 @@ pub record IsOfScript (word : List ℕ) : Type 0 where
   pub lint : word ≢ codes "lint"
   pub shell : word ≢ codes "shell"
   pub live : word ≢ codes "live"
+  pub console : word ≢ codes "console"
 
 -- the command of this word is asked for, with the options that clap has found after it
 abbrev pub Asks : List ℕ → Found → Request → Type 0
@@ -92,6 +109,7 @@ Asks word found (request.Check images) = (word ≡ codes "check") × HasImages f
 Asks word found (request.Picture images) = (word ≡ codes "picture") × HasImages found images.items
 Asks word found request.Lint = word ≡ codes "lint"
 Asks word found (request.Live order) = (word ≡ codes "live") × IsOrdered found (drives_in found (codes "images")) order
+Asks word found (request.Console order) = (word ≡ codes "console") × IsConsoleOrdered found (drives_in found (codes "images")) order
 Asks word found request.Shell = word ≡ codes "shell"
 Asks word found (request.Help text) = ⊥
 

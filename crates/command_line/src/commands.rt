@@ -28,6 +28,9 @@ script; 4 out of memory; 5 input or output failed; 6 a pair on threads stalled; 
 const LIVE_USAGE: &str =
     "pair live [OPTIONS] < FILE (setup and `type` lines come from standard input)";
 
+const CONSOLE_USAGE: &str =
+    "pair console [OPTIONS] (keys come from standard input, after what --before says)";
+
 // The names of the fates of a packet: it is brought, it is lost, it is brought twice.
 static FATES: &[&str] = &["pass", "drop", "twice"];
 
@@ -47,6 +50,32 @@ const MOST_TURNS: u64 = 1_000_000_000;
 
 const TURNS_HELP: &str =
     "In how many turns the primary, and the backup, may make progress; one that finds nothing to do is none of them";
+
+// The options of `console` whose values are numbers from 0 on: their names, the greatest numbers, those that count without the option, and
+// what they say.
+static CONSOLE_NUMBERS: [(&str, u64, &str, &str); 3] = [
+    (
+        "spares",
+        97,
+        "2",
+        "How many spare hosts there are; when a host has failed, the guest is copied to the next one",
+    ),
+    (
+        "escape",
+        255,
+        "5",
+        "The key that opens a command line, as the number of its byte; 5 is Ctrl-E",
+    ),
+    (
+        "before",
+        1_099_511_627_776,
+        "0",
+        "How many bytes come before the first key: images, then setup and `type` lines",
+    ),
+];
+
+const MARK: &str =
+    "What is written between the guest's output and the disks of --saved; ./pair looks for it";
 
 // The commands that run a script: their names, what they do, and how they are called.
 static SCRIPT_COMMANDS: [(&str, &str, &str); 3] = [
@@ -96,7 +125,7 @@ static ASKS: [(&str, &str); 2] = [
 /// The program with all its commands.
 pub(crate) fn pair_command<'a>(alloc: Global) -> Result<Command<'a>, AllocError> {
     let pair = with_script_commands(alloc, program(alloc)?)?;
-    with_live_command(alloc, with_plain_commands(alloc, pair)?)
+    with_thread_commands(alloc, with_plain_commands(alloc, pair)?)
 }
 
 // The program without its commands.
@@ -110,9 +139,13 @@ fn program<'a>(alloc: Global) -> Result<Command<'a>, AllocError> {
     )
 }
 
-// The program with its command that runs a pair on threads.
-fn with_live_command<'a>(alloc: Global, program: Command<'a>) -> Result<Command<'a>, AllocError> {
-    program.subcommand(live_command(alloc)?)
+// The program with its commands that run a pair on threads.
+fn with_thread_commands<'a>(
+    alloc: Global,
+    program: Command<'a>,
+) -> Result<Command<'a>, AllocError> {
+    let pair = program.subcommand(live_command(alloc)?)?;
+    pair.subcommand(console_command(alloc)?)
 }
 
 // The program with its commands that run a script.
@@ -146,6 +179,39 @@ fn live_command<'a>(alloc: Global) -> Result<Command<'a>, AllocError> {
     with_words(alloc, with_turns(alloc, live)?)
 }
 
+// The command that runs a pair that one sits at.
+fn console_command<'a>(alloc: Global) -> Result<Command<'a>, AllocError> {
+    let console = Command::new(alloc, "console")
+        .about(
+            "Runs a pair that one sits at: keys from standard input, the guest's output as it is accepted",
+        )
+        .override_usage(CONSOLE_USAGE);
+    let command = with_link_and_disks(alloc, with_console_numbers(alloc, console)?)?;
+    command.arg(mark(alloc))
+}
+
+// The command with its options whose values are numbers from 0 on.
+fn with_console_numbers<'a>(
+    alloc: Global,
+    console: Command<'a>,
+) -> Result<Command<'a>, AllocError> {
+    let mut command = console;
+    for (name, most, default, help) in CONSOLE_NUMBERS {
+        let number = number(alloc, name, 0, most)
+            .help(help)
+            .default_value(default);
+        command = command.arg(number)?;
+    }
+    Ok(command)
+}
+
+fn mark<'a>(alloc: Global) -> Arg<'a> {
+    Arg::new(alloc, "mark")
+        .long("mark")
+        .value_name("TEXT")
+        .help(MARK)
+}
+
 // The command with its options that say for how many turns, and when somebody asks.
 fn with_turns<'a>(alloc: Global, live: Command<'a>) -> Result<Command<'a>, AllocError> {
     let turns = turn(alloc, "turns", 1)
@@ -160,8 +226,13 @@ fn with_turns<'a>(alloc: Global, live: Command<'a>) -> Result<Command<'a>, Alloc
 
 // The command with its options whose values are words.
 fn with_words<'a>(alloc: Global, live: Command<'a>) -> Result<Command<'a>, AllocError> {
-    let command = live.arg(link(alloc))?;
-    with_next(alloc, command.arg(images(alloc))?.arg(saved(alloc))?)
+    with_next(alloc, with_link_and_disks(alloc, live)?)
+}
+
+// The command with its options for the link and the disks.
+fn with_link_and_disks<'a>(alloc: Global, command: Command<'a>) -> Result<Command<'a>, AllocError> {
+    let command = command.arg(link(alloc))?;
+    command.arg(images(alloc))?.arg(saved(alloc))
 }
 
 // The command with its options that say what happens in further generations.
@@ -211,8 +282,13 @@ fn words<'a>(
 
 // An option whose value is a number of turns, at least this many.
 fn turn<'a>(alloc: Global, name: &'a str, least: u64) -> Arg<'a> {
+    number(alloc, name, least, MOST_TURNS)
+}
+
+// An option whose value is a number from the first of these to the second.
+fn number<'a>(alloc: Global, name: &'a str, least: u64, most: u64) -> Arg<'a> {
     Arg::new(alloc, name)
         .long(name)
         .value_name("N")
-        .value_parser(ValueParser::unsigned(least, MOST_TURNS))
+        .value_parser(ValueParser::unsigned(least, most))
 }

@@ -2,8 +2,10 @@
 #![tactic(auto)]
 
 mod commands;
+mod console_order;
 mod live_order;
 mod options;
 
+pub use console_order::ConsoleOrder;
 pub use live_order::{Asker, LiveOrder};
 pub use options::{Request, request_of};

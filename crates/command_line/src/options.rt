@@ -2,9 +2,10 @@
 ghost use Rattle.std.specs.Prelude.{◌≡◌, IfErr, IfOk, Some, codes, map, string_bytes, true};
 ghost use Rattle.clap.specs.Words.{found_of, one_text};
 ghost use Rattle.command_ending.specs.Statuses.{is_of_command_line};
-ghost use Rattle.command_line.specs.Orders.{AreTurns, Asks, AsksHelp, AsksIn, HasFound, IsAsked, IsGiven, IsGivenOr, IsOrdered, command_word, asker_of, drive_of, drives_in, fate_of, values_of};
+ghost use Rattle.command_line.specs.Orders.{AreTurns, Asks, AsksHelp, AsksIn, HasFound, IsAsked, IsConsoleOrdered, IsGiven, IsGivenOr, IsOrdered, command_word, asker_of, drive_of, drives_in, fate_of, text_given, values_of};
 
 use crate::commands::pair_command;
+use crate::console_order::ConsoleOrder;
 use crate::live_order::{Asker, LiveOrder};
 use clap::error::ErrorKind;
 use clap::{ArgMatches, Error};
@@ -25,6 +26,8 @@ pub enum Request {
     Lint,
     /// To run a pair on threads.
     Live(LiveOrder),
+    /// To run a pair that one sits at.
+    Console(ConsoleOrder),
     /// To answer lines as they come.
     Shell,
     /// To print this text, which says what there is to ask for; it ends with a line end.
@@ -33,6 +36,12 @@ pub enum Request {
 
 // How many turns there are if the command line does not say.
 const TURNS: u64 = 1_000_000;
+
+// How many spare hosts a console has if the command line does not say.
+const SPARES: u64 = 2;
+
+// The key that opens a command line if it does not say: Ctrl-E.
+const ESCAPE: u8 = 5;
 
 /// What the words of a command line ask for; the first word is the program's name.
 #[tactic(auto, using(crate::proofs::Orders::asked_by_found, crate::proofs::Orders::asked_by_help))]
@@ -128,6 +137,7 @@ fn request_named(
         "lint" => Ok(Request::Lint),
         "shell" => Ok(Request::Shell),
         "live" => Ok(Request::Live(live_order(alloc, found, images)?)),
+        "console" => Ok(Request::Console(console_order(alloc, found, images)?)),
         _ => Ok(Request::Script(images)),
     }
 }
@@ -139,6 +149,20 @@ fn images_in(alloc: Global, found: &ArgMatches<'_>) -> Result<Vec<u8>, AllocErro
     drives_of(alloc, found.get_strs("images").unwrap_or(&[]))
 }
 
+// The drives whose images are written at the end.
+fn saved_in(alloc: Global, found: &ArgMatches<'_>) -> Result<Vec<u8>, AllocError>
+    ensures { IfOk result (λ drives. drives.items ≡ drives_in (found_of found.now) (codes "saved")) }
+{
+    drives_of(alloc, found.get_strs("saved").unwrap_or(&[]))
+}
+
+// What becomes of the packets of the link.
+fn link_in(alloc: Global, found: &ArgMatches<'_>) -> Result<Vec<Fate>, AllocError>
+    ensures { IfOk result (λ fates. fates.items ≡ map fate_of (values_of (found_of found.now) (codes "link"))) }
+{
+    fates_of(alloc, found.get_strs("link").unwrap_or(&[]))
+}
+
 // What the words after `live` say.
 #[tactic(auto, using(crate::proofs::Orders::given_or))]
 fn live_order(alloc: Global, matches: &ArgMatches<'_>, images: Vec<u8>) -> Result<LiveOrder, Error>
@@ -147,8 +171,8 @@ fn live_order(alloc: Global, matches: &ArgMatches<'_>, images: Vec<u8>) -> Resul
     let turns = number(matches, "turns").unwrap_or(TURNS);
     let primary_asks = number(matches, "primary-asks");
     let backup_asks = number(matches, "backup-asks");
-    let link = fates_of(alloc, matches.get_strs("link").unwrap_or(&[]))?;
-    let saved = drives_of(alloc, matches.get_strs("saved").unwrap_or(&[]))?;
+    let link = link_in(alloc, matches)?;
+    let saved = saved_in(alloc, matches)?;
     let (next, next_at) = next_of(alloc, matches)?;
     Ok(LiveOrder {
         turns,
@@ -162,11 +186,54 @@ fn live_order(alloc: Global, matches: &ArgMatches<'_>, images: Vec<u8>) -> Resul
     })
 }
 
+// What the words after `console` say.
+#[tactic(auto, using(crate::proofs::Orders::given_or))]
+fn console_order(
+    alloc: Global,
+    matches: &ArgMatches<'_>,
+    images: Vec<u8>,
+) -> Result<ConsoleOrder, Error>
+    ensures { IfOk result (λ order. IsConsoleOrdered (found_of matches.now) images.items order) }
+{
+    let spares = number(matches, "spares").unwrap_or(SPARES);
+    let escape = byte(matches, "escape").unwrap_or(ESCAPE);
+    let before = number(matches, "before").unwrap_or(0);
+    let link = link_in(alloc, matches)?;
+    let saved = saved_in(alloc, matches)?;
+    let mark = text(alloc, matches, "mark")?;
+    Ok(ConsoleOrder {
+        spares,
+        escape,
+        before,
+        link,
+        images,
+        saved,
+        mark,
+    })
+}
+
 // The number that an option was given, if it was.
 fn number(matches: &ArgMatches<'_>, option: &str) -> Option<u64>
-    ensures { IsGiven (one_text (found_of matches.now) option.now) result }
+    ensures { IsGiven 64 (one_text (found_of matches.now) option.now) result }
 {
     matches.get_one(option)
+}
+
+// The byte that an option was given as a number, if it was.
+fn byte(matches: &ArgMatches<'_>, option: &str) -> Option<u8>
+    ensures { IsGiven 8 (one_text (found_of matches.now) option.now) result }
+{
+    matches.get_one(option)
+}
+
+// The text that an option was given; nothing if it was not.
+fn text(alloc: Global, matches: &ArgMatches<'_>, option: &str) -> Result<String, AllocError>
+    ensures { IfOk result (λ text. string_bytes text ≡ text_given (found_of matches.now) option.now) }
+{
+    match matches.get_str(option) {
+        Some(text) => String::from_str(alloc, text),
+        None => Ok(String::new(alloc)),
+    }
 }
 
 // The fates of packets, by their names.
@@ -236,7 +303,7 @@ fn turns_of(alloc: Global, words: &[&str]) -> Result<Vec<u64>, AllocError>
 
 // A turn, by its digits.
 fn turn_of(word: &str) -> u64
-    ensures { IsGivenOr 0 (Some word.now) result }
+    ensures { IsGivenOr 64 0 (Some word.now) result }
 {
     match word.parse::<u64>() {
         Ok(turn) => turn,
