@@ -177,10 +177,11 @@ class Run:
 
     @contextlib.contextmanager
     def program_at(self, path, asked, mark):
-        """The program, as long as it runs. What it writes goes to where this command writes, or through a pipe if disks come after it;
-        at a terminal all of it goes through one, so that its order is kept."""
-        how = {"stdout": subprocess.PIPE if asked.saves else None}
-        how["stderr"] = subprocess.STDOUT if asked.saves and os.isatty(1) and os.isatty(2) else None
+        """The program, as long as it runs. What it writes is passed on by this command if disks come after it, and if it does not go to
+        a terminal, so that the program is ended if it cannot be written; so is what it says beside that, if both go to one place."""
+        is_passed_on = asked.saves or not os.isatty(1)
+        how = {"stdout": subprocess.PIPE if is_passed_on else None}
+        how["stderr"] = subprocess.STDOUT if is_passed_on and is_one_place() else None
         how["preexec_fn"] = lambda: [signal.signal(it, signal.SIG_IGN) for it in OF_TERMINALS]
         self.program = subprocess.Popen([path, *asked.words(mark)], stdin=subprocess.PIPE, **how)
         try:
@@ -213,6 +214,14 @@ def begin(thread):
     thread.daemon = True
     thread.start()
     return thread
+
+
+def is_one_place():
+    """Whether standard output and standard error go to one place."""
+    try:
+        return os.path.sameopenfile(1, 2)
+    except OSError:
+        return False
 
 
 @contextlib.contextmanager
