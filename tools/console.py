@@ -17,6 +17,7 @@ import contextlib
 import os
 import re
 import secrets
+import select
 import signal
 import subprocess
 import sys
@@ -134,9 +135,14 @@ class Keys:
         """Passes on what comes before the keys, and then keys as they come, as long as there is a terminal and a program."""
         with contextlib.suppress(OSError):
             self.write(self.opening)
-            while some := os.read(0, MOST_KEYS):
+            while some := self.next():
                 self.write(some)
         self.end(self.is_terminal)
+
+    def next(self):
+        """The keys that come next. Whoever shares the input may have set it not to wait."""
+        select.select([0], [], [])
+        return os.read(0, MOST_KEYS)
 
     def write(self, some):
         while some:

@@ -7,6 +7,8 @@ import select
 # How many bytes are read at once, and for how many seconds bytes are held back with which the mark may begin.
 MOST_BYTES = 65536
 HOLD = 0.02
+# How many bytes are written at once: a pipe that takes any takes so many.
+MOST_AT_ONCE = 4096
 
 
 def begun(text, mark):
@@ -62,7 +64,9 @@ class Screen:
     def write(self, some):
         try:
             while some and not self.has_hung_up:
-                some = some[os.write(1, some) :]
+                # Whoever shares the output may have set it not to wait.
+                select.select([], [1], [])
+                some = some[os.write(1, some[:MOST_AT_ONCE]) :]
         except OSError as error:
             if error.errno != errno.EIO:
                 raise
