@@ -1,0 +1,279 @@
+#!/usr/bin/env python3
+"""Sits at a pair: runs the program's command `console`, and passes on to it what is typed, byte for byte.
+
+usage: tools/console.py PROGRAM console [OPTION ..]
+
+The options are those of tools/options.py that are for `console`, and the program's own --spares and --link. Without --load, --disk and
+--setup the guest is the monitor of examples/guests.
+
+A terminal gives each key as it is typed, Ctrl-C among them, and is set back as it was however the command ends. If it hangs up, no
+more keys come, and a program that goes on for half a minute is ended. If the input is a file or a pipe, its end is that of the keys.
+
+A file is read whole before the program starts; one that is not what it should be is refused, with status 2. Disks are saved if the
+program ends well, each whole; a file that cannot be written stays as it was, and then the status is 5.
+"""
+
+import contextlib
+import os
+import re
+import secrets
+import select
+import signal
+import subprocess
+import sys
+import termios
+import threading
+import tty
+
+sys.path.insert(0, os.path.dirname(os.path.realpath(__file__)))
+import disks
+from files import hex_lines, image_in, place_in, read, save
+from options import complain, count_in, drives_in, key_lines, numbered, spelled, taken
+from screen import Screen
+
+MONITOR = os.path.join(os.path.dirname(os.path.dirname(os.path.realpath(__file__))), "examples/guests/monitor.hex")
+# How many spare hosts there are at most, and what may become of a packet.
+MOST_SPARES = 97
+FATES = {"pass", "drop", "twice"}
+# These words ask for the program's own help.
+HELP = {"-h", "--help"}
+# How many keys are read at once, and for how many seconds a program may go on after its terminal has hung up.
+MOST_KEYS = 4096
+PATIENCE = 30
+# These end the command; a program does not hear those that a terminal sends, since this command does.
+ENDINGS = (signal.SIGINT, signal.SIGQUIT, signal.SIGTERM)
+OF_TERMINALS = (signal.SIGINT, signal.SIGQUIT, signal.SIGHUP)
+
+
+def escape_in(word):
+    """The byte that the escape key sends, as the program's option names it."""
+    named = re.fullmatch(r"\^([?-_a-z])", word)
+    if not named and not re.fullmatch(r"[0-9A-Fa-f]{2}", word):
+        complain(f"--escape {word}: expected a key, as ^E, or a byte in two hexadecimal digits")
+    return str(ord(named[1].upper()) ^ 0x40 if named else int(word, 16))
+
+
+def spares_in(word):
+    """The number of spare hosts."""
+    if count_in("--spares", word, 0) > MOST_SPARES:
+        complain(f"--spares {word}: expected a number from 0 to {MOST_SPARES}")
+    return word
+
+
+def link_in(word):
+    """What becomes of packets of the link."""
+    if not FATES.issuperset(word.split(",")):
+        complain(f"--link {word}: expected `pass`, `drop` and `twice`, with commas between them")
+    return word
+
+
+# The options that are handed on to the program, each with what becomes of its value.
+HANDED_ON = {"--spares": spares_in, "--link": link_in, "--escape": escape_in}
+
+
+class Asked:
+    """What the words of a command line ask for: words for the program, what comes before the keys, and disks to be saved."""
+
+    def __init__(self, words):
+        self.own, self.images, self.saves = [], {}, {}
+        self.setup, self.memory, self.keys = b"", None, []
+        for option, value in taken("console", words, HANDED_ON):
+            if value is None:
+                complain(f"`pair console` has no option {option}; `./pair help console` lists its options")
+            self.take(option, value)
+        if self.memory is None:
+            self.memory = hex_lines(MONITOR)
+
+    def take(self, option, value):
+        if option in HANDED_ON:
+            self.own += [option, HANDED_ON[option](value)]
+        elif option == "--type":
+            self.keys += key_lines(*numbered(option, value, 1))
+        elif option == "--save-disk":
+            drive, path = numbered(option, value, 3)
+            self.saves[drive] = place_in(path)
+        else:
+            self.take_guest(option, value)
+
+    def take_guest(self, option, value):
+        """A file of which the guest is made."""
+        self.memory = self.memory or []
+        if option == "--load":
+            self.memory += hex_lines(value)
+        elif option == "--setup":
+            self.setup += b"".join(line + b"\n" for line in read(value).splitlines())
+        else:
+            drive, path = numbered(option, value, 3)
+            self.images[drive] = image_in(path)
+
+    def opening(self):
+        """What comes before the first key: images, and then a script."""
+        return b"".join(self.images.values()) + self.setup + spelled(self.memory + self.keys)
+
+    def words(self, mark):
+        """The words that the program is given."""
+        words = ["console", "--before", str(len(self.opening())), *self.own]
+        words += ["--images", drives_in(self.images)] * bool(self.images)
+        return words + ["--saved", drives_in(self.saves), "--mark", mark] * bool(self.saves)
+
+    def save(self, images):
+        """Writes each disk that is to be saved."""
+        is_whole = len(images) == len(self.saves) * disks.IMAGE_BYTES
+        for place, (drive, path) in enumerate(self.saves.items()):
+            image = images[place * disks.IMAGE_BYTES : (place + 1) * disks.IMAGE_BYTES]
+            save(path, image if is_whole else None, "the disks that came are not whole")
+
+
+class Keys:
+    """The keys of standard input, on their way to a program."""
+
+    def __init__(self, program, opening):
+        self.program, self.opening, self.to = program, opening, program.stdin.fileno()
+        self.is_terminal = os.isatty(0)
+
+    def pass_on(self):
+        """Passes on what comes before the keys, and then keys as they come, as long as there is a terminal and a program."""
+        with contextlib.suppress(OSError):
+            self.write(self.opening)
+            while some := self.next():
+                self.write(some)
+        self.end(self.is_terminal)
+
+    def next(self):
+        """The keys that come next. Whoever shares the input may have set it not to wait."""
+        select.select([0], [], [])
+        return os.read(0, MOST_KEYS)
+
+    def write(self, some):
+        while some:
+            some = some[os.write(self.to, some) :]
+
+    def end(self, has_hung_up):
+        """No more keys come, and what is written from now on goes nowhere. A program whose terminal has hung up may not go on for long."""
+        with open(os.devnull, "wb") as nowhere:
+            os.dup2(nowhere.fileno(), self.to)
+        if has_hung_up:
+            begin(threading.Timer(PATIENCE, self.program.kill))
+
+
+class Run:
+    """A run of the program, and the signal that has ended it."""
+
+    def __init__(self):
+        self.program = self.keys = self.screen = self.ended_by = None
+
+    def heed(self):
+        """From now on no signal ends this command before it has set the terminal back."""
+        for it in ENDINGS:
+            signal.signal(it, self.end)
+        if signal.getsignal(signal.SIGHUP) != signal.SIG_IGN:
+            signal.signal(signal.SIGHUP, self.hang_up)
+        signal.signal(signal.SIGTTOU, signal.SIG_IGN)
+
+    def end(self, number, _frame=None):
+        self.ended_by = number
+        if self.program:
+            self.program.kill()
+
+    def hang_up(self, number, _frame):
+        if self.keys:
+            self.keys.end(True)
+        else:
+            self.end(number)
+
+    @contextlib.contextmanager
+    def program_at(self, path, asked, mark):
+        """The program, as long as it runs. What it writes is passed on by this command if disks come after it, and if it does not go to
+        a terminal, so that the program is ended if it cannot be written; so is what it says beside that, if both go to one place."""
+        is_passed_on = asked.saves or not os.isatty(1)
+        how = {"stdout": subprocess.PIPE if is_passed_on else None}
+        how["stderr"] = subprocess.STDOUT if is_passed_on and is_one_place() else None
+        how["preexec_fn"] = lambda: [signal.signal(it, signal.SIG_IGN) for it in OF_TERMINALS]
+        self.program = subprocess.Popen([path, *asked.words(mark)], stdin=subprocess.PIPE, **how)
+        try:
+            self.keys = Keys(self.program, asked.opening())
+            if self.ended_by:
+                self.program.kill()
+            yield self.program
+        finally:
+            self.program.kill()
+
+    def pass_on(self, mark):
+        """Passes on keys, and what the program writes, until it ends."""
+        begin(threading.Thread(target=self.keys.pass_on))
+        if self.program.stdout:
+            self.screen = Screen(self.program, mark)
+            showing = begin(threading.Thread(target=self.screen.pass_on))
+            self.program.wait()
+            while showing.is_alive() and not self.ended_by:
+                showing.join(0.1)
+        self.program.wait()
+
+    def status(self):
+        """The status of the program, or that of a command that a signal has ended."""
+        number = self.ended_by or -min(self.program.returncode, 0)
+        return 128 + number if number else self.program.returncode
+
+
+def begin(thread):
+    """Starts a thread that does not keep the command from ending."""
+    thread.daemon = True
+    thread.start()
+    return thread
+
+
+def is_one_place():
+    """Whether standard output and standard error go to one place."""
+    try:
+        return os.path.sameopenfile(1, 2)
+    except OSError:
+        return False
+
+
+@contextlib.contextmanager
+def raw_terminal():
+    """The terminal of standard input, if it is one, gives each byte as it is typed, and takes each byte as it is written."""
+    mode = termios.tcgetattr(0) if os.isatty(0) else None
+    try:
+        if mode:
+            tty.setraw(0, termios.TCSANOW)
+        yield
+    finally:
+        if mode:
+            with contextlib.suppress(termios.error):
+                termios.tcsetattr(0, termios.TCSANOW, mode)
+
+
+def main(path, command, *words):
+    if not HELP.isdisjoint(words):
+        os.execv(path, [path, command, "--help"])
+    asked = Asked(words)
+    # A byte that guests seldom send, FS, and what nobody can guess.
+    mark = f"\x1c{secrets.token_hex(16)}"
+    run = Run()
+    run.heed()
+    with raw_terminal(), run.program_at(path, asked, mark):
+        run.pass_on(mark.encode())
+    status = run.status()
+    if status and os.isatty(0) and os.isatty(2):
+        # What was said last may not end where a line begins.
+        os.write(2, b"\r\n")
+    if run.screen and run.screen.error:
+        complain(f"the output is not written: {run.screen.error.strerror}", 5)
+    if status and asked.saves:
+        complain(f"{', '.join(asked.saves.values())}: not written, since the console did not end well", status)
+    if asked.saves:
+        asked.save(bytes(run.screen.kept or b""))
+    return status
+
+
+if __name__ == "__main__":
+    if sys.argv[1:2] in (["--help"], ["-h"]) or len(sys.argv) < 3:
+        print(__doc__.strip())
+        sys.exit(0 if len(sys.argv) > 1 else 2)
+    try:
+        ended = main(*sys.argv[1:])
+    except SystemExit as end:
+        ended = end.code
+    # The thread that reads keys may still wait for one.
+    os._exit(ended)

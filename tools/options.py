@@ -1,0 +1,110 @@
+#!/usr/bin/env python3
+"""The options of ./pair that the program itself lacks: it opens no file, sets no terminal, and knows hosts only by their roles.
+
+usage: tools/options.py [COMMAND]     prints those of a command; without one, all of them
+
+  --load FILE           a program in Intel HEX, in memory at boot, as lines `mem` before the input
+  --disk D=FILE         for all commands but `lint`: the image of a disk in drive D, before the input
+  --save-disk D=FILE    for `live`, `shell` and `console`: at the end the disk of drive D is written to a file
+  --type P=TEXT         for `live` and `console`: keys typed at port P, as lines `type` after the script; \\r, \\n, \\t, \\\\ and \\xHH are one key each
+  --stop HOST@TURN      for `live`: a host fails at this turn of its generation, so that the other one goes on; one for each generation
+  --spares K            for `live`: how many spare hosts there are to copy the guest to; as many as --stop is given, if it is not said
+  --generations N       for `live`: how many generations there are at most
+  --setup FILE          for `console`: lines of a setup, as a script has them, before those of --load
+  --escape KEY          for `console`: the key that opens a command line, as ^E, or as two hexadecimal digits
+"""
+
+import contextlib
+import re
+import signal
+import sys
+
+# The commands that each option is for.
+OPTIONS = {
+    "--load": ("script", "check", "picture", "lint", "live", "shell", "console"),
+    "--disk": ("script", "check", "picture", "live", "shell", "console"),
+    "--save-disk": ("live", "shell", "console"),
+    "--type": ("live", "console"),
+    "--stop": ("live",),
+    "--spares": ("live",),
+    "--generations": ("live",),
+    "--setup": ("console",),
+    "--escape": ("console",),
+}
+# The lines above that say what these options are, each with its option.
+SAID = {line.split()[0]: line for line in __doc__.splitlines() if line.startswith("  --")}
+ESCAPES = {"r": b"\r", "n": b"\n", "t": b"\t", "\\": b"\\"}
+
+
+def tell_options(command=None):
+    """Prints which of these options a command takes; without one, all of them."""
+    signal.signal(signal.SIGPIPE, signal.SIG_DFL)
+    told = [said for option, said in SAID.items() if command in (None, *OPTIONS[option])]
+    if told:
+        print("\nOptions of ./pair, which reads and writes the files:")
+        print("\n".join(told))
+
+
+def complain(why, status=2):
+    """Ends the command with a reason; status 2 is that of a command line that is refused."""
+    with contextlib.suppress(OSError):
+        print(f"pair: {why}", file=sys.stderr)
+    sys.exit(status)
+
+
+def taken(command, words, own=()):
+    """The options among the words after a command, each with its value, and any other word with none. Beside those above the
+    program's own options of these names are taken."""
+    words = iter(words)
+    for word in words:
+        option, equals, value = word.partition("=")
+        if option not in OPTIONS and option not in own:
+            yield word, None
+            continue
+        value = value if equals else next(words, None)
+        if value is None:
+            complain(f"{option} lacks its value")
+        if option not in own and command not in OPTIONS[option]:
+            complain(f"{option} is for " + ", ".join(f"`pair {it}`" for it in OPTIONS[option]))
+        yield option, value
+
+
+def numbered(option, word, most):
+    """The number before the `=` of an option's value, and what comes after it."""
+    number, equals, value = word.partition("=")
+    if not equals or not number.isdigit() or int(number) > most:
+        complain(f"{option} {word}: expected a number from 0 to {most}, `=` and a value")
+    return int(number), value
+
+
+def count_in(option, word, least):
+    """The number that an option was given."""
+    if not re.fullmatch(r"[0-9]{1,9}", word) or int(word) < least:
+        complain(f"{option} {word}: expected a number from {least}")
+    return int(word)
+
+
+def key_lines(port, text):
+    """The lines of a script for `live` that type a text."""
+    keys, rest = b"", text
+    while rest:
+        found = re.match(r"\\([rnt\\])|\\x([0-9A-Fa-f]{2})|([^\\])", rest, re.DOTALL)
+        if not found:
+            complain(f"--type {port}={text}: after a backslash comes r, n, t, x with two hexadecimal digits, or a backslash")
+        named, code, plain = found.groups()
+        keys += ESCAPES[named] if named else bytes.fromhex(code) if code else plain.encode()
+        rest = rest[found.end() :]
+    return [f"type {port} {key:02X}" for key in keys]
+
+
+def drives_in(disks):
+    """The drives of some disks, as the program's options name them."""
+    return ",".join(map(str, disks))
+
+
+def spelled(lines):
+    return "".join(f"{line}\n" for line in lines).encode()
+
+
+if __name__ == "__main__":
+    tell_options(*sys.argv[1:2])
