@@ -1,14 +1,19 @@
 -- What was heard and handed on: nothing, one byte, and some bytes after others.
-use Rattle.std.proofs.Common.{ℕ, ◌≡◌, Option, Some, None, List, [], ◌∷◌, ◌++◌, append-nil, append_assoc, refl, sym, ap, ◌∙◌, subst}
+use Rattle.std.proofs.lemmas.List.Folds.{list_any-append}
+use Rattle.std.proofs.Common.{ℕ, ◌≡◌, ◌||◌, false, Option, Some, None, IfSome, List, [], ◌∷◌, ◌++◌, append-nil, append_assoc, refl, sym, ap, ◌∙◌, subst}
 use Rattle.std.specs.Io.KnownBytes.{Consumes}
-use Rattle.pair_lines.specs.declared.keyboard.Stroke.{Stroke}
+use Rattle.std.specs.List.{list_any}
+use Rattle.pair_lines.proofs.Same.{same_start_on}
 use Rattle.rtrb.specs.Ring.{SameProducer, sent}
-use Rattle.rtrb.specs.declared.producer.Producer.{Producer}
-use Rattle.console_terminal.specs.Listening.{Listens}
-use Rattle.console_terminal.specs.Typing.{Place, act_of, after, after_all, command_in, commands_at, done_by, line_of, order_at, order_by, place_of, strokes_at, strokes_by}
+use Rattle.console_terminal.specs.Listening.{Listens, ending_of, is_quit, notes_after, place_after, strokes_after, was_quit}
+use Rattle.console_terminal.specs.Telling.{Says, Tells, closing, notes_by}
+use Rattle.console_terminal.specs.Typing.{Place, act_of, after, after_all, command_in, commands_at, done_by, line_after, line_of, order_at, order_by, place_of, strokes_at, strokes_by}
 use Rattle.console_terminal.specs.declared.command.Command.{Command}
-use Rattle.console_terminal.specs.declared.desk.Desk.{Desk}
+use Rattle.console_terminal.specs.declared.command.Order.{Order}
+use Rattle.console_terminal.specs.declared.desk.Act.{Act}
+use Rattle.console_terminal.specs.declared.listener.Ending.{Ending}
 use Rattle.console_terminal.specs.declared.listener.Listener.{Listener}
+use Rattle.console_terminal.specs.declared.note.Note.{Note}
 use Rattle.console_terminal.specs.declared.port.Port.{Port}
 use Rattle.console_terminal.proofs.Bytes.{consumes_both, consumes_none}
 
@@ -34,86 +39,159 @@ commands_both e p (x ∷ xs) ys =
     ap (λ l. first ++ l) (commands_both e (after e p x) xs ys)
     ∙ sym (append_assoc first (commands_at e (after e p x) xs) (commands_at e (after_all e (after e p x) xs) ys))
 
+tells_both : (e : ℕ) (p : Place) (xs ys : List ℕ) (ms ns : List Note) →
+    Tells e p xs ms → Tells e (after_all e p xs) ys ns → Tells e p (xs ++ ys) (ms ++ ns)
+tells_both e p [] ys ms ns h k = subst (λ l. Tells e p ys (l ++ ns)) (sym h) k
+tells_both e p (x ∷ xs) ys ms ns h k =
+    (h.0, h.1 ++ ns, ap (λ l. l ++ ns) h.2 ∙ append_assoc (notes_by e p x h.0) h.1 ns, tells_both e (after e p x) xs ys h.1 ns h.3 k)
+
 -- what went into a ring, and then more
-on_top : (a b c xs ys all last : List Stroke) → b ≡ (a ++ xs) ++ [] → c ≡ (b ++ ys) ++ last → all ≡ xs ++ ys → c ≡ (a ++ all) ++ last
+on_top : {T : Type 0} (a b c xs ys all last : List T) → b ≡ (a ++ xs) ++ [] → c ≡ (b ++ ys) ++ last → all ≡ xs ++ ys → c ≡ (a ++ all) ++ last
 on_top a b c xs ys all last p q r =
     q ∙ ap (λ l. (l ++ ys) ++ last) (p ∙ append-nil (a ++ xs))
     ∙ ap (λ l. l ++ last) (append_assoc a xs ys ∙ ap (λ l. a ++ l) (sym r))
 
-same_on : {T A P : Type 0} (a b c : Producer T A P) → SameProducer a b → SameProducer b c → SameProducer a c
-same_on a b c p q =
-    ((q.0.0 ∙ p.0.0, q.0.1 ∙ p.0.1, q.0.2 ∙ p.0.2, q.0.3 ∙ p.0.3), q.1 ∙ p.1)
+-- ---- the end
+
+if_any : (ending : Option Ending) (P : Type 0) → P → IfSome ending (λ _. P)
+if_any None P p = tt
+if_any (Some ending) P p = p
+
+-- a command line that is carried out is closed
+if_quit : (act : Act) (line : Option (List ℕ)) → IfSome (ending_of act (order_by act line)) (λ _. line_after act line ≡ None)
+if_quit (Act.Key byte) line = tt
+if_quit Act.Opens line = tt
+if_quit (Act.Adds byte) line = tt
+if_quit Act.TakesBack line = tt
+if_quit Act.Cancels line = tt
+if_quit Act.HandsOn line = if_any (ending_of Act.HandsOn (order_by Act.HandsOn line)) (None ≡ None) refl
+if_quit Act.Nothing line = tt
+
+quit_by_order : (order : Order) → was_quit (ending_of Act.HandsOn order) ≡ list_any is_quit (command_in order ++ [])
+quit_by_order Order.Nothing = refl
+quit_by_order (Order.Mistake mistake) = refl
+quit_by_order (Order.Command (Command.Stop host)) = refl
+quit_by_order (Order.Command Command.Status) = refl
+quit_by_order (Order.Command (Command.Terminal port)) = refl
+quit_by_order (Order.Command Command.Help) = refl
+quit_by_order (Order.Command Command.Quit) = refl
+
+quit_by : (act : Act) (line : Option (List ℕ)) →
+    was_quit (ending_of act (order_by act line)) ≡ list_any is_quit (command_in (order_by act line) ++ [])
+quit_by (Act.Key byte) line = refl
+quit_by Act.Opens line = refl
+quit_by (Act.Adds byte) line = refl
+quit_by Act.TakesBack line = refl
+quit_by Act.Cancels line = refl
+quit_by Act.HandsOn line = quit_by_order (order_by Act.HandsOn line)
+quit_by Act.Nothing line = refl
+
+closed_place : (ending : Option Ending) (p : Place) → IfSome ending (λ _. p.line ≡ None) → p ≡ place_after ending p
+closed_place None p h = refl
+closed_place (Some ending) p h = ap (λ l. let q : Place = record { port = p.port; line = l } in q) h
+
+none_closing : (ending : Option Ending) (p : Place) → IfSome ending (λ _. p.line ≡ None) → notes_after ending p ≡ []
+none_closing None p h = refl
+none_closing (Some ending) p h = ap (λ (l : Option (List ℕ)). closing (record { port = p.port; line = l })) h
 
 module _ {S I : Type 0} (left : S → Option (List ℕ)) (given : I → List Command) where
-  pub then : (last : List Stroke) (a b c : Listener S I) → Listens left given [] a b → Listens left given last b c → Listens left given last a c
-  then last a b c p q =
+  pub and_then : (ending : Option Ending) (a b c : Listener S I) → Listens left given None a b → Listens left given ending b c → Listens left given ending a c
+  and_then ending a b c p q =
       let e = a.desk.escape in
       let at = place_of a.desk in
       let between : after_all b.desk.escape (place_of b.desk) ≡ after_all e (after_all e at p.bytes) =
       ap (λ l. after_all l (place_of b.desk)) p.escape ∙ ap (after_all e) p.place in
+      let all : after_all b.desk.escape (place_of b.desk) q.bytes ≡ after_all e at (p.bytes ++ q.bytes) =
+      ap (λ f. f q.bytes) between ∙ sym (after_both e at p.bytes q.bytes) in
       let strokes : (port : Port) → strokes_at port e at (p.bytes ++ q.bytes) ≡ strokes_at port e at p.bytes ++ strokes_at port b.desk.escape (place_of b.desk) q.bytes =
       λ port. strokes_both port e at p.bytes q.bytes
       ∙ ap (λ l. strokes_at port e at p.bytes ++ l)
       (ap (λ l. strokes_at port e l q.bytes) (sym p.place) ∙ ap (λ l. strokes_at port l (place_of b.desk) q.bytes) (sym p.escape)) in
+      let orders : commands_at e at p.bytes ++ commands_at b.desk.escape (place_of b.desk) q.bytes ≡ commands_at e at (p.bytes ++ q.bytes) =
+      ap (λ l. commands_at e at p.bytes ++ l)
+      (ap (λ l. commands_at l (place_of b.desk) q.bytes) p.escape ∙ ap (λ l. commands_at e l q.bytes) p.place)
+      ∙ sym (commands_both e at p.bytes q.bytes) in
       record {
         bytes = p.bytes ++ q.bytes;
+        said = p.said ++ q.said;
         taken = consumes_both (left a.source) (left b.source) (left c.source) p.bytes q.bytes p.taken q.taken;
         escape = q.escape ∙ p.escape;
-        place = q.place ∙ ap (λ f. f q.bytes) between ∙ sym (after_both e at p.bytes q.bytes);
-        first = on_top (sent a.first) (sent b.first) (sent c.first) (strokes_at Port.Zero e at p.bytes) (strokes_at Port.Zero b.desk.escape (place_of b.desk) q.bytes) _ last p.first q.first (strokes Port.Zero);
-        second = on_top (sent a.second) (sent b.second) (sent c.second) (strokes_at Port.One e at p.bytes) (strokes_at Port.One b.desk.escape (place_of b.desk) q.bytes) _ last p.second q.second (strokes Port.One);
+        place = q.place ∙ ap (place_after ending) all;
+        first = on_top (sent a.first) (sent b.first) (sent c.first) (strokes_at Port.Zero e at p.bytes) (strokes_at Port.Zero b.desk.escape (place_of b.desk) q.bytes) _ (strokes_after ending) p.first q.first (strokes Port.Zero);
+        second = on_top (sent a.second) (sent b.second) (sent c.second) (strokes_at Port.One e at p.bytes) (strokes_at Port.One b.desk.escape (place_of b.desk) q.bytes) _ (strokes_after ending) p.second q.second (strokes Port.One);
         commands = q.commands ∙ ap (λ l. l ++ commands_at b.desk.escape (place_of b.desk) q.bytes) p.commands
             ∙ append_assoc (given a.interpreter) (commands_at e at p.bytes) (commands_at b.desk.escape (place_of b.desk) q.bytes)
-            ∙ ap (λ l. given a.interpreter ++ l)
-            (ap (λ l. commands_at e at p.bytes ++ l)
-            (ap (λ l. commands_at l (place_of b.desk) q.bytes) p.escape ∙ ap (λ l. commands_at e l q.bytes) p.place)
-            ∙ sym (commands_both e at p.bytes q.bytes));
-        same_first = same_on a.first b.first c.first p.same_first q.same_first;
-        same_second = same_on a.second b.second c.second p.same_second q.same_second;
-        same_notes = same_on a.notes b.notes c.notes p.same_notes q.same_notes;
+            ∙ ap (λ l. given a.interpreter ++ l) orders;
+        quit = q.quit ∙ ap (λ l. l || list_any is_quit (commands_at b.desk.escape (place_of b.desk) q.bytes)) p.quit
+            ∙ sym (list_any-append is_quit (commands_at e at p.bytes) (commands_at b.desk.escape (place_of b.desk) q.bytes)) ∙ ap (list_any is_quit) orders;
+        notes = on_top (sent a.notes) (sent b.notes) (sent c.notes) p.said q.said _ (notes_after ending (after_all b.desk.escape (place_of b.desk) q.bytes)) p.notes q.notes refl
+            ∙ ap (λ l. (sent a.notes ++ (p.said ++ q.said)) ++ notes_after ending l) all;
+        tells = tells_both e at p.bytes q.bytes p.said q.said p.tells
+            (subst (λ l. Tells e l q.bytes q.said) p.place (subst (λ l. Tells l (place_of b.desk) q.bytes q.said) p.escape q.tells));
+        same_first = same_start_on (Some a.first) (Some b.first) (Some c.first) p.same_first q.same_first;
+        same_second = same_start_on (Some a.second) (Some b.second) (Some c.second) p.same_second q.same_second;
+        same_notes = same_start_on (Some a.notes) (Some b.notes) (Some c.notes) p.same_notes q.same_notes;
       }
 
   -- no byte came
-  pub of_none : (last : List Stroke) (a b : Listener S I) → Consumes (left a.source) (left b.source) [] → b.desk ≡ a.desk
-      → sent b.first ≡ sent a.first ++ last → sent b.second ≡ sent a.second ++ last → given b.interpreter ≡ given a.interpreter
-      → SameProducer a.first b.first → SameProducer a.second b.second → SameProducer a.notes b.notes → Listens left given last a b
-  of_none last a b taken desk first second commands one two three = record {
+  pub of_none : (ending : Option Ending) (a b : Listener S I) → was_quit ending ≡ false → Consumes (left a.source) (left b.source) [] → b.desk.escape ≡ a.desk.escape
+      → place_of b.desk ≡ place_after ending (place_of a.desk)
+      → sent b.first ≡ sent a.first ++ strokes_after ending → sent b.second ≡ sent a.second ++ strokes_after ending
+      → given b.interpreter ≡ given a.interpreter → sent b.notes ≡ sent a.notes ++ notes_after ending (place_of a.desk)
+      → SameProducer a.first b.first → SameProducer a.second b.second → SameProducer a.notes b.notes → Listens left given ending a b
+  of_none ending a b quit taken escape place first second commands notes one two three = record {
     bytes = [];
+    said = [];
     taken = taken;
-    escape = ap (λ d. d.escape) desk;
-    place = ap place_of desk;
-    first = first ∙ ap (λ l. l ++ last) (sym (append-nil (sent a.first)));
-    second = second ∙ ap (λ l. l ++ last) (sym (append-nil (sent a.second)));
+    escape = escape;
+    place = place;
+    first = first ∙ ap (λ l. l ++ strokes_after ending) (sym (append-nil (sent a.first)));
+    second = second ∙ ap (λ l. l ++ strokes_after ending) (sym (append-nil (sent a.second)));
     commands = commands ∙ sym (append-nil (given a.interpreter));
+    quit = quit;
+    notes = notes ∙ ap (λ l. l ++ notes_after ending (place_of a.desk)) (sym (append-nil (sent a.notes)));
+    tells = refl;
     same_first = one;
     same_second = two;
     same_notes = three;
   }
 
   -- a byte came
-  pub of_byte : (last : List Stroke) (byte : ℕ) (a b : Listener S I) → Consumes (left a.source) (left b.source) (byte ∷ [])
+  pub of_byte : (ending : Option Ending) (byte : ℕ) (a b : Listener S I) → Consumes (left a.source) (left b.source) (byte ∷ [])
       → b.desk.escape ≡ a.desk.escape → place_of b.desk ≡ after a.desk.escape (place_of a.desk) byte
-      → sent b.first ≡ (sent a.first ++ strokes_by Port.Zero a.desk.port (act_of a.desk byte)) ++ last
-      → sent b.second ≡ (sent a.second ++ strokes_by Port.One a.desk.port (act_of a.desk byte)) ++ last
+      → sent b.first ≡ (sent a.first ++ strokes_by Port.Zero a.desk.port (act_of a.desk byte)) ++ strokes_after ending
+      → sent b.second ≡ (sent a.second ++ strokes_by Port.One a.desk.port (act_of a.desk byte)) ++ strokes_after ending
       → given b.interpreter ≡ given a.interpreter ++ command_in (order_by (act_of a.desk byte) (line_of a.desk))
-      → SameProducer a.first b.first × SameProducer a.second b.second × SameProducer a.notes b.notes → Listens left given last a b
-  of_byte last byte a b taken escape place first second commands rings = record {
-    bytes = byte ∷ [];
-    taken = taken;
-    escape = escape;
-    place = place;
-    first = first ∙ ap (λ l. (sent a.first ++ l) ++ last) (sym (append-nil (strokes_by Port.Zero a.desk.port (act_of a.desk byte))));
-    second = second ∙ ap (λ l. (sent a.second ++ l) ++ last) (sym (append-nil (strokes_by Port.One a.desk.port (act_of a.desk byte))));
-    commands = commands ∙ ap (λ l. given a.interpreter ++ l) (sym (append-nil (command_in (order_by (act_of a.desk byte) (line_of a.desk)))));
-    same_first = rings.0;
-    same_second = rings.1;
-    same_notes = rings.2;
-  }
+      → Says a.desk.escape (place_of a.desk) byte (sent a.notes) (sent b.notes) → ending ≡ ending_of (act_of a.desk byte) (order_by (act_of a.desk byte) (line_of a.desk))
+      → SameProducer a.first b.first × SameProducer a.second b.second × SameProducer a.notes b.notes → Listens left given ending a b
+  of_byte ending byte a b taken escape place first second commands notes ended rings =
+      let p = after a.desk.escape (place_of a.desk) byte in
+      let said = notes_by a.desk.escape (place_of a.desk) byte notes.0 in
+      let no_line : IfSome ending (λ _. p.line ≡ None) =
+      subst (λ l. IfSome l (λ _. p.line ≡ None)) (sym ended) (if_quit (act_of a.desk byte) (line_of a.desk)) in
+      record {
+        bytes = byte ∷ [];
+        said = said;
+        taken = taken;
+        escape = escape;
+        place = place ∙ closed_place ending p no_line;
+        first = first ∙ ap (λ l. (sent a.first ++ l) ++ strokes_after ending) (sym (append-nil (strokes_by Port.Zero a.desk.port (act_of a.desk byte))));
+        second = second ∙ ap (λ l. (sent a.second ++ l) ++ strokes_after ending) (sym (append-nil (strokes_by Port.One a.desk.port (act_of a.desk byte))));
+        commands = commands ∙ ap (λ l. given a.interpreter ++ l) (sym (append-nil (command_in (order_by (act_of a.desk byte) (line_of a.desk)))));
+        quit = ap was_quit ended ∙ quit_by (act_of a.desk byte) (line_of a.desk);
+        notes = notes.1 ∙ sym (append-nil (sent a.notes ++ said)) ∙ ap (λ l. (sent a.notes ++ said) ++ l) (sym (none_closing ending p no_line));
+        tells = (notes.0, [], sym (append-nil said), refl);
+        same_first = rings.0;
+        same_second = rings.1;
+        same_notes = rings.2;
+      }
 
   -- nothing was done
   pub none_yet : (a b : Listener S I) → b.source ≡ a.source → b.desk ≡ a.desk → sent b.first ≡ sent a.first → sent b.second ≡ sent a.second
-      → b.interpreter ≡ a.interpreter → SameProducer a.first b.first → SameProducer a.second b.second → SameProducer a.notes b.notes
-      → Listens left given [] a b
-  none_yet a b source desk first second commands one two three =
-      of_none [] a b (subst (λ s. Consumes (left a.source) (left s) []) (sym source) (consumes_none (left a.source))) desk
-      (first ∙ sym (append-nil (sent a.first))) (second ∙ sym (append-nil (sent a.second))) (ap given commands) one two three
+      → sent b.notes ≡ sent a.notes → b.interpreter ≡ a.interpreter
+      → SameProducer a.first b.first → SameProducer a.second b.second → SameProducer a.notes b.notes → Listens left given None a b
+  none_yet a b source desk first second notes commands one two three =
+      of_none None a b refl (subst (λ s. Consumes (left a.source) (left s) []) (sym source) (consumes_none (left a.source)))
+      (ap (λ d. d.escape) desk) (ap place_of desk)
+      (first ∙ sym (append-nil (sent a.first))) (second ∙ sym (append-nil (sent a.second))) (ap given commands)
+      (notes ∙ sym (append-nil (sent a.notes))) one two three

@@ -1,3 +1,4 @@
 pub mod Bytes
 pub mod Hearing
 pub mod Pieces
+pub mod Seen

@@ -1,15 +1,20 @@
 -- What the thread that hears has taken from its source, and handed on.
-use Rattle.std.specs.Prelude.{◌≡◌, ℕ, ◌<◌, List, [], ◌∷◌, ◌++◌, Option, None, Some}
+use Rattle.std.specs.Prelude.{◌≡◌, ℕ, ◌<◌, Bool, true, false, List, [], ◌∷◌, ◌++◌, Option, None, Some}
 use Rattle.std.specs.Io.KnownBytes.{Consumes}
+use Rattle.std.specs.List.{list_any}
 use Rattle.pair_lines.specs.declared.keyboard.Stroke.{Stroke}
 use Rattle.rtrb.specs.Ring.{SameProducer, known_free, sent}
-use Rattle.console_terminal.specs.Typing.{after_all, commands_at, place_of, strokes_at}
+use Rattle.console_terminal.specs.Telling.{Tells, closing}
+use Rattle.console_terminal.specs.Typing.{Place, after_all, commands_at, place_of, strokes_at}
 use Rattle.console_terminal.specs.declared.command.Command.{Command}
 use Rattle.console_terminal.specs.declared.command.Order.{Order}
 use Rattle.console_terminal.specs.declared.desk.Act.{Act}
 use Rattle.console_terminal.specs.declared.listener.Ending.{Ending}
 use Rattle.console_terminal.specs.declared.listener.Listener.{Listener}
+use Rattle.console_terminal.specs.declared.note.Note.{Note}
 use Rattle.console_terminal.specs.declared.port.Port.{Port}
+
+-- ---- the end
 
 -- what both keyboards are told at the end; if it was stopped, nobody hears it
 abbrev pub last_strokes : Ending → List Stroke
@@ -21,26 +26,54 @@ abbrev pub strokes_after : Option Ending → List Stroke
 strokes_after None = []
 strokes_after (Some ending) = last_strokes ending
 
+-- a command line that is open at the end is closed, and this is said
+abbrev pub closed : Place → Place
+closed p = record { port = p.port; line = None }
+
+abbrev pub place_after : Option Ending → Place → Place
+place_after None p = p
+place_after (Some ending) p = closed p
+
+abbrev pub notes_after : Option Ending → Place → List Note
+notes_after None p = []
+notes_after (Some ending) p = closing p
+
 -- how the console ends by a byte that does this and gives this order
 abbrev pub ending_of : Act → Order → Option Ending
 ending_of (Act.Key byte) order = None
 ending_of act (Order.Command Command.Quit) = Some Ending.Quit
 ending_of act order = None
 
-module _ {S I : Type 0} where
-  abbrev pub HasRoom : Listener S I → Type 0
-  HasRoom l = (0 < known_free l.first) × (0 < known_free l.second)
+abbrev pub is_quit : Command → Bool
+is_quit Command.Quit = true
+is_quit _ = false
 
-  -- Some bytes were taken: the keys among them went to the terminals, each once and in order, and the commands to the interpreter.
-  -- After them both keyboards were sent the last strokes.
-  pub record Listens (left : S → Option (List ℕ)) (given : I → List Command) (last : List Stroke) (old new : Listener S I) : Type 0 where
+abbrev pub was_quit : Option Ending → Bool
+was_quit (Some Ending.Quit) = true
+was_quit _ = false
+
+-- ---- a listener
+
+module _ {S I : Type 0} where
+  -- each ring takes what one byte may send, and that of notes one more
+  abbrev pub HasRoom : Listener S I → Type 0
+  HasRoom l = (0 < known_free l.first) × (0 < known_free l.second) × (2 < known_free l.notes)
+
+  -- Some bytes were taken: the keys among them went to the terminals, each once and in order, the commands to the interpreter, and to
+  -- the display what becomes of the command line. If it has ended so, both keyboards were told after that, and a command line that was
+  -- open is closed; it has ended by a command to quit if there is one.
+  pub record Listens (left : S → Option (List ℕ)) (given : I → List Command) (ending : Option Ending) (old new : Listener S I) : Type 0 where
     pub bytes : List ℕ
+    pub said : List Note
     pub taken : Consumes (left old.source) (left new.source) bytes
     pub escape : new.desk.escape ≡ old.desk.escape
-    pub place : place_of new.desk ≡ after_all old.desk.escape (place_of old.desk) bytes
-    pub first : sent new.first ≡ (sent old.first ++ strokes_at Port.Zero old.desk.escape (place_of old.desk) bytes) ++ last
-    pub second : sent new.second ≡ (sent old.second ++ strokes_at Port.One old.desk.escape (place_of old.desk) bytes) ++ last
+    pub place : place_of new.desk ≡ place_after ending (after_all old.desk.escape (place_of old.desk) bytes)
+    pub first : sent new.first ≡ (sent old.first ++ strokes_at Port.Zero old.desk.escape (place_of old.desk) bytes) ++ strokes_after ending
+    pub second : sent new.second ≡ (sent old.second ++ strokes_at Port.One old.desk.escape (place_of old.desk) bytes) ++ strokes_after ending
     pub commands : given new.interpreter ≡ given old.interpreter ++ commands_at old.desk.escape (place_of old.desk) bytes
+    pub quit : was_quit ending ≡ list_any is_quit (commands_at old.desk.escape (place_of old.desk) bytes)
+    pub notes : sent new.notes ≡ (sent old.notes ++ said) ++ notes_after ending (after_all old.desk.escape (place_of old.desk) bytes)
+    pub tells : Tells old.desk.escape (place_of old.desk) bytes said
     pub same_first : SameProducer old.first new.first
     pub same_second : SameProducer old.second new.second
     pub same_notes : SameProducer old.notes new.notes

@@ -1,11 +1,11 @@
 -- What appears on the screen: the guest's bytes, of the terminal that one looks at, and what is said beside them.
-use Rattle.std.specs.Prelude.{◌≡◌, ℕ, ◌==◌, Bool, true, false, if◌then◌else◌, filter, not, List, [], ◌∷◌, ◌++◌, Option, None, Some, codes, string_bytes}
+use Rattle.std.specs.Prelude.{◌≡◌, ℕ, ◌==◌, Bool, true, false, if◌then◌else◌, filter, flat_map, map, not, List, [], ◌∷◌, ◌++◌, Option, None, Some, codes, string_bytes}
 use Rattle.std.specs.Io.KnownBytes.{Appends}
 use Rattle.std.specs.Global.{Global}
 use Rattle.std.specs.declared.string.String.{String}
 use Rattle.pair_lines.specs.Lines.{shown_at}
 use Rattle.pair_lines.specs.declared.screen.Shown.{Shown}
-use Rattle.rtrb.specs.Ring.{SameConsumer, received}
+use Rattle.rtrb.specs.Ring.{SameConsumer, known_items, received}
 use Rattle.console_terminal.specs.Commands.{mistake_text, number_of_port}
 use Rattle.console_terminal.specs.declared.note.Note.{Note}
 use Rattle.console_terminal.specs.declared.port.Port.{Port}
@@ -33,38 +33,43 @@ pub data Piece : Type 0 where
   -- a line about the pair
   Told : String Global → Piece
 
--- the guest's bytes among the pieces
+-- the guest's byte that a piece is, and so on
+abbrev pub guest_of : Piece → List Shown
+guest_of (Piece.Guest s) = s ∷ []
+guest_of (Piece.Said n) = []
+guest_of (Piece.Told t) = []
+
+abbrev pub said_of : Piece → List Note
+said_of (Piece.Guest s) = []
+said_of (Piece.Said n) = n ∷ []
+said_of (Piece.Told t) = []
+
+abbrev pub told_of : Piece → List (String Global)
+told_of (Piece.Guest s) = []
+told_of (Piece.Said n) = []
+told_of (Piece.Told t) = t ∷ []
+
+abbrev pub beside_of : Piece → List ℕ
+beside_of (Piece.Guest s) = []
+beside_of (Piece.Said n) = text_of n
+beside_of (Piece.Told t) = string_bytes t
+
+-- those among some pieces
 abbrev pub guest_in : List Piece → List Shown
-guest_in [] = []
-guest_in (Piece.Guest s ∷ pieces) = s ∷ guest_in pieces
-guest_in (Piece.Said n ∷ pieces) = guest_in pieces
-guest_in (Piece.Told t ∷ pieces) = guest_in pieces
+guest_in pieces = flat_map guest_of pieces
 
 abbrev pub said_in : List Piece → List Note
-said_in [] = []
-said_in (Piece.Guest s ∷ pieces) = said_in pieces
-said_in (Piece.Said n ∷ pieces) = n ∷ said_in pieces
-said_in (Piece.Told t ∷ pieces) = said_in pieces
+said_in pieces = flat_map said_of pieces
 
 abbrev pub told_in : List Piece → List (String Global)
-told_in [] = []
-told_in (Piece.Guest s ∷ pieces) = told_in pieces
-told_in (Piece.Said n ∷ pieces) = told_in pieces
-told_in (Piece.Told t ∷ pieces) = t ∷ told_in pieces
+told_in pieces = flat_map told_of pieces
 
--- what goes to the screen
+-- what goes to the screen, and what goes beside it
 abbrev pub bytes_of : List Piece → List ℕ
-bytes_of [] = []
-bytes_of (Piece.Guest s ∷ pieces) = s.byte ∷ bytes_of pieces
-bytes_of (Piece.Said n ∷ pieces) = bytes_of pieces
-bytes_of (Piece.Told t ∷ pieces) = bytes_of pieces
+bytes_of pieces = map (λ (s : Shown). s.byte) (guest_in pieces)
 
--- what goes beside it
 abbrev pub texts_of : List Piece → List ℕ
-texts_of [] = []
-texts_of (Piece.Guest s ∷ pieces) = texts_of pieces
-texts_of (Piece.Said n ∷ pieces) = text_of n ++ texts_of pieces
-texts_of (Piece.Told t ∷ pieces) = string_bytes t ++ texts_of pieces
+texts_of pieces = flat_map beside_of pieces
 
 -- which terminal one looks at after a note
 abbrev pub look_after : Option Port → Note → Option Port
@@ -82,7 +87,7 @@ look_at_end look (Piece.Told t ∷ pieces) = look_at_end look pieces
 -- one looks at the terminal of this port
 abbrev pub is_looked_at : Option Port → ℕ → Bool
 is_looked_at None port = false
-is_looked_at (Some at) port = number_of_port at == port
+is_looked_at (Some at) port = port == number_of_port at
 
 -- no command line is open
 abbrev pub is_looking : Option Port → Bool
@@ -124,6 +129,10 @@ module _ {W N : Type 0} where
   -- nothing is kept of the terminal that one looks at
   abbrev pub IsClear : Display W N → Type 0
   IsClear d = (port : ℕ) → is_looked_at d.look port ≡ true → shown_at port d.kept.items ≡ []
+
+  -- nothing that is known to have come is left in its rings
+  abbrev pub IsEmpty : Display W N → Type 0
+  IsEmpty d = (known_items d.said ≡ []) × (known_items d.told ≡ []) × (known_items d.shown ≡ [])
 
   -- What a display has written: what it was given, in order and once, but for what it keeps; contents are the bytes of its two writers.
   pub record Wrote (screen : W → Option (List ℕ)) (notes : N → Option (List ℕ)) (old new : Display W N) : Type 0 where

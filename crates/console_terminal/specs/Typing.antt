@@ -1,5 +1,5 @@
 -- What is typed at a console: what each byte does, and what many bytes come to.
-use Rattle.std.specs.Prelude.{◌≡◌, ℕ, ◌-◌, ◌==◌, ◌&&◌, ◌||◌, nat_lt, nat_le, Bool, true, false, if◌then◌else◌, List, [], ◌∷◌, ◌++◌, length, map, take, Option, None, Some}
+use Rattle.std.specs.Prelude.{ℕ, ◌-◌, ◌==◌, ◌&&◌, ◌||◌, nat_lt, nat_le, if◌then◌else◌, List, [], ◌∷◌, ◌++◌, length, take, Option, None, Some}
 use Rattle.std.specs.Option.{option_map}
 use Rattle.console_terminal.specs.Commands.{order_of}
 use Rattle.console_terminal.specs.declared.command.Command.{Command}

@@ -1,8 +1,8 @@
 //! The display, on which one looks at one terminal at a time.
-ghost use Rattle.std.specs.Prelude.{◌≡◌, ◌==◌, ◌∷◌, [], OnOk, None, Some, filter};
+ghost use Rattle.std.specs.Prelude.{◌≡◌, ◌∷◌, [], OnOk, Some, false};
 ghost use Rattle.std.specs.Io.KnownBytes.{Appends};
 ghost use Rattle.pair_lines.specs.Lines.{shown_at};
-ghost use Rattle.console_terminal.specs.Screen.{IsClear, Wrote, but_at, byte_seen, bytes_seen, is_looked_at, is_looking, kept_with, look_after, unseen};
+ghost use Rattle.console_terminal.specs.Screen.{IsClear, IsEmpty, Wrote, but_at, byte_seen, bytes_seen, is_looked_at, is_looking, kept_with, look_after, unseen};
 
 use crate::note::{Note, write_note};
 use crate::port::Port;
@@ -43,6 +43,7 @@ impl<W, N> Display<W, N> {
         ensures rings { (result.shown ≡ shown) × (result.said ≡ said) × (result.told ≡ told) }
         ensures look { result.look ≡ Some port }
         ensures kept { result.kept.items ≡ [] }
+        ensures clear { IsClear result }
     {
         Display {
             screen,
@@ -53,6 +54,19 @@ impl<W, N> Display<W, N> {
             said,
             told,
         }
+    }
+
+    /// Takes what comes next, and drops it, if something has come.
+    pub(crate) fn drop_next(&mut self) -> bool
+        ensures { result ≡ false → IsEmpty self.new }
+    {
+        if self.said.pop().is_ok() {
+            return true;
+        }
+        if self.told.pop().is_ok() {
+            return true;
+        }
+        self.shown.pop().is_ok()
     }
 }
 
@@ -143,7 +157,7 @@ fn is_looked_at(look: Option<Port>, port: u8) -> bool
     ensures { result ≡ is_looked_at look port }
 {
     match look {
-        Some(at) => at.number() == port,
+        Some(at) => port == at.number(),
         None => false,
     }
 }

@@ -8,7 +8,8 @@ use std::io::{self, Write};
 use std::thread;
 use std::time::{Clock, Duration};
 
-/// Writes what comes to a display until nothing more can come, or a writer fails. Then no more keys are wanted.
+/// Writes what comes to a display until nothing more can come. Then no more keys are wanted. Nor are they if a writer fails: what comes
+/// after that is dropped, so that nobody waits for a place in a ring that is full.
 pub fn show_all<C: Clock, W: Write + Drop, N: Write + Drop>(
     clock: &C,
     mut display: Display<W, N>,
@@ -19,6 +20,9 @@ pub fn show_all<C: Clock, W: Write + Drop, N: Write + Drop>(
 {
     let end = write_all(clock, &mut display, signs);
     signs.stop();
+    if end.is_err() {
+        drop_all(clock, &mut display, signs);
+    }
     (display, end)
 }
 
@@ -35,6 +39,7 @@ fn write_all<C: Clock, W: Write + Drop, N: Write + Drop>(
     for _ in 0..u64::MAX {
         let is_over = signs.is_over();
         if display.turn()? {
+            signs.moves();
             continue;
         }
         if is_over {
@@ -43,4 +48,18 @@ fn write_all<C: Clock, W: Write + Drop, N: Write + Drop>(
         thread::sleep(clock, Duration::from_millis(1));
     }
     Ok(())
+}
+
+// Drops what comes until nothing more can come.
+fn drop_all<C: Clock, W, N>(clock: &C, display: &mut Display<W, N>, signs: &Signs) {
+    for _ in 0..u64::MAX {
+        let is_over = signs.is_over();
+        if display.drop_next() {
+            continue;
+        }
+        if is_over {
+            return;
+        }
+        thread::sleep(clock, Duration::from_millis(1));
+    }
 }

@@ -10,6 +10,7 @@ mod listener;
 mod note;
 mod port;
 mod signs;
+mod welcome;
 
 pub use command::{Command, HELP, Keyword, Mistake, Order, order_of};
 pub use desk::{Act, Desk};
@@ -20,3 +21,4 @@ pub use listener::{Ending, Interpreter, Listener, listen};
 pub use note::Note;
 pub use port::Port;
 pub use signs::Signs;
+pub use welcome::greeting;

@@ -1,8 +1,8 @@
 //! The thread that hears what is typed.
-ghost use Rattle.std.specs.Prelude.{◌≡◌, ◌++◌, ◌∷◌, ◌<◌, [], IsTrue};
-ghost use Rattle.std.specs.Io.KnownBytes.{Consumes};
+ghost use Rattle.std.specs.Prelude.{◌≡◌, ◌++◌, ◌∷◌, ◌+◌, ◌<◌, ◌≤◌, [], IsTrue, None, Some};
 ghost use Rattle.rtrb.specs.Ring.{SameProducer, known_free, sent};
-ghost use Rattle.console_terminal.specs.Listening.{HasRoom, Listens, ending_of, last_strokes, strokes_after};
+ghost use Rattle.console_terminal.specs.Listening.{HasRoom, Listens, closed, ending_of, strokes_after};
+ghost use Rattle.console_terminal.specs.Telling.{Answers, Says, changed, closing};
 ghost use Rattle.console_terminal.specs.Typing.{act_of, after, command_in, line_of, order_by, place_of, strokes_by};
 
 use crate::command::{Command, Order};
@@ -46,18 +46,21 @@ pub struct Listener<S, I> {
     pub first: Producer<Stroke>,
     /// The keyboard of port 1.
     pub second: Producer<Stroke>,
+    /// What is said to the display. The ring needs places for three notes: a byte is heard only while there is room for the two that it
+    /// may be worth and for the one that closes a command line at the end.
     pub notes: Producer<Note>,
     pub interpreter: I,
 }
 
 /// Hears keys, and hands them on through the rings until the console is to end. At the end of the source, and when it is told to quit,
-/// both keyboards are told that no key comes any more.
+/// both keyboards are told that no key comes any more. A command line that is open at the end is closed, so the display catches up.
 pub fn listen<C: Clock, S: KeySource + Drop, I: Interpreter + Drop>(
     clock: &C,
     mut listener: Listener<S, I>,
     signs: &Signs,
 ) -> (Listener<S, I>, Ending)
-    ensures { Listens S.left I.given (last_strokes result.1) listener result.0 }
+    requires { 3 ≤ known_free listener.notes }
+    ensures { Listens S.left I.given (Some result.1) listener result.0 }
 {
     let ending = hear_all(clock, &mut listener, signs);
     signs.hear_all();
@@ -65,17 +68,18 @@ pub fn listen<C: Clock, S: KeySource + Drop, I: Interpreter + Drop>(
 }
 
 // Hears keys until the console is to end.
-#[tactic(auto, using(crate::proofs::Hearing::none_yet, crate::proofs::Hearing::then))]
+#[tactic(auto, using(crate::proofs::Hearing::none_yet, crate::proofs::Hearing::of_none, crate::proofs::Hearing::and_then))]
 fn hear_all<C: Clock, S: KeySource + Drop, I: Interpreter + Drop>(
     clock: &C,
     listener: &mut Listener<S, I>,
     signs: &Signs,
 ) -> Ending
-    ensures { Listens S.left I.given (last_strokes result) listener.old listener.new }
+    requires { 0 < known_free listener.old.notes }
+    ensures { Listens S.left I.given (Some result) listener.old listener.new }
 {
     for _ in 0..u64::MAX {
         if signs.is_stopped() {
-            return Ending::Stopped;
+            break;
         }
         if !listener.has_room() {
             thread::sleep(clock, Duration::from_micros(100));
@@ -86,15 +90,18 @@ fn hear_all<C: Clock, S: KeySource + Drop, I: Interpreter + Drop>(
             return ending;
         }
     }
+    listener.leave();
     Ending::Stopped
 }
 
 impl<S: KeySource, I: Interpreter> Listener<S, I> {
-    // Whether each ring takes what one byte may send.
+    // Whether each ring takes what one byte may send. It waits for both keyboards: a pair takes keys out of both at once, so neither
+    // stays full while the other one is emptied.
     #[tactic(auto, using(crate::proofs::Hearing::none_yet))]
     fn has_room(&mut self) -> bool
-        ensures same { Listens S.left I.given [] self.old self.new }
+        ensures same { Listens S.left I.given None self.old self.new }
         ensures room { IsTrue result → HasRoom self.new }
+        ensures kept { known_free self.old.notes ≤ known_free self.new.notes }
     {
         let first = self.first.slots();
         let second = self.second.slots();
@@ -106,13 +113,15 @@ impl<S: KeySource, I: Interpreter> Listener<S, I> {
     #[tactic(auto, using(crate::proofs::Hearing::of_none, crate::proofs::Hearing::of_byte))]
     fn turn(&mut self) -> Option<Ending>
         requires { HasRoom self.old }
-        ensures { Listens S.left I.given (strokes_after result) self.old self.new }
+        ensures heard { Listens S.left I.given result self.old self.new }
+        ensures room { result ≡ None → 0 < known_free self.new.notes }
     {
         match self.source.hear() {
             Heard::Quiet => None,
             Heard::Key(byte) => self.take(byte),
             Heard::End => {
                 end(&mut self.first, &mut self.second);
+                self.leave();
                 Some(Ending::EndOfInput)
             }
         }
@@ -127,7 +136,10 @@ impl<S: KeySource, I: Interpreter> Listener<S, I> {
         ensures first { sent self.new.first ≡ (sent self.old.first ++ strokes_by Port.Zero self.old.desk.port (act_of self.old.desk byte)) ++ strokes_after result }
         ensures second { sent self.new.second ≡ (sent self.old.second ++ strokes_by Port.One self.old.desk.port (act_of self.old.desk byte)) ++ strokes_after result }
         ensures commands { I.given self.new.interpreter ≡ I.given self.old.interpreter ++ command_in (order_by (act_of self.old.desk byte) (line_of self.old.desk)) }
+        ensures notes { Says self.old.desk.escape (place_of self.old.desk) byte (sent self.old.notes) (sent self.new.notes) }
+        ensures ending { result ≡ ending_of (act_of self.old.desk byte) (order_by (act_of self.old.desk byte) (line_of self.old.desk)) }
         ensures rings { SameProducer self.old.first self.new.first × SameProducer self.old.second self.new.second × SameProducer self.old.notes self.new.notes }
+        ensures room { 0 < known_free self.new.notes }
     {
         let port = self.desk.port;
         let was_open = self.desk.is_open();
@@ -136,6 +148,23 @@ impl<S: KeySource, I: Interpreter> Listener<S, I> {
         obey(&mut self.interpreter, &mut self.notes, order);
         tell(&mut self.notes, act, was_open, self.desk.port);
         ending
+    }
+
+    // Closes the command line, if one is open, and says so.
+    fn leave(&mut self)
+        requires { 0 < known_free self.old.notes }
+        ensures source { self.new.source ≡ self.old.source }
+        ensures escape { self.new.desk.escape ≡ self.old.desk.escape }
+        ensures place { place_of self.new.desk ≡ closed (place_of self.old.desk) }
+        ensures keyboards { (self.new.first ≡ self.old.first) × (self.new.second ≡ self.old.second) }
+        ensures interpreter { self.new.interpreter ≡ self.old.interpreter }
+        ensures notes { sent self.new.notes ≡ sent self.old.notes ++ closing (place_of self.old.desk) }
+        ensures ring { SameProducer self.old.notes self.new.notes }
+    {
+        if self.desk.is_open() {
+            self.desk.change(Act::Cancels);
+            self.notes.push_reserved(Note::Closed(self.desk.port));
+        }
     }
 }
 
@@ -195,37 +224,36 @@ fn press(first: &mut Producer<Stroke>, second: &mut Producer<Stroke>, port: Port
 
 // Gives a command to the interpreter, and says what it answers.
 fn obey<I: Interpreter>(interpreter: &mut I, notes: &mut Producer<Note>, order: Order)
+    requires { 0 < known_free notes.old }
     ensures given { I.given interpreter.new ≡ I.given interpreter.old ++ command_in order }
-    ensures notes { SameProducer notes.old notes.new }
+    ensures notes { Answers order (sent notes.old) (sent notes.new) }
+    ensures ring { SameProducer notes.old notes.new }
+    ensures room { known_free notes.old ≤ known_free notes.new + 1 }
 {
     match order {
         Order::Nothing => {}
-        Order::Mistake(mistake) => say(notes, Note::Mistaken(mistake)),
+        Order::Mistake(mistake) => notes.push_reserved(Note::Mistaken(mistake)),
         Order::Command(command) => {
             if let Some(text) = interpreter.carry_out(command) {
-                say(notes, Note::Answered(text));
+                notes.push_reserved(Note::Answered(text));
             }
         }
     }
 }
 
-// Says something, unless the ring is full.
-fn say(notes: &mut Producer<Note>, note: Note)
-    ensures { SameProducer notes.old notes.new }
-{
-    let _ = notes.push(note);
-}
-
 // Says what a byte did to the command line.
 fn tell(notes: &mut Producer<Note>, act: Act, was_open: bool, port: Port)
-    ensures { SameProducer notes.old notes.new }
+    requires { 0 < known_free notes.old }
+    ensures notes { sent notes.new ≡ sent notes.old ++ changed act was_open port }
+    ensures ring { SameProducer notes.old notes.new }
+    ensures room { known_free notes.old ≤ known_free notes.new + 1 }
 {
     match act {
-        Act::Opens => say(notes, Note::Opened),
-        Act::Adds(byte) => say(notes, Note::Typed(byte)),
-        Act::TakesBack => say(notes, Note::TakenBack),
-        Act::Cancels | Act::HandsOn => say(notes, Note::Closed(port)),
-        Act::Key(_) if was_open => say(notes, Note::Closed(port)),
+        Act::Opens => notes.push_reserved(Note::Opened),
+        Act::Adds(byte) => notes.push_reserved(Note::Typed(byte)),
+        Act::TakesBack => notes.push_reserved(Note::TakenBack),
+        Act::Cancels | Act::HandsOn => notes.push_reserved(Note::Closed(port)),
+        Act::Key(_) if was_open => notes.push_reserved(Note::Closed(port)),
         Act::Key(_) | Act::Nothing => {}
     }
 }

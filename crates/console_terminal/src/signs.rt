@@ -1,13 +1,14 @@
 //! What the threads of a console tell each other.
 
-use std::sync::atomic::{AtomicBool, Ordering};
+use std::sync::atomic::{AtomicBool, AtomicU64, Ordering};
 
-/// Signs that are given once, and seen by all threads from then on.
+/// Signs that are given once, and seen by all threads from then on; and how often the display moved.
 #[derive(Drop)]
 pub struct Signs {
     stopped: AtomicBool,
     heard_all: AtomicBool,
     shown_all: AtomicBool,
+    moved: AtomicU64,
 }
 
 impl Signs {
@@ -17,6 +18,7 @@ impl Signs {
             stopped: AtomicBool::new(false),
             heard_all: AtomicBool::new(false),
             shown_all: AtomicBool::new(false),
+            moved: AtomicU64::new(0),
         }
     }
 
@@ -38,6 +40,16 @@ impl Signs {
     /// The pair shows no more bytes, and tells of no more events.
     pub fn show_all(&self) {
         self.shown_all.store(true, Ordering::SeqCst);
+    }
+
+    /// The display has something to write or keep.
+    pub fn moves(&self) {
+        let _ = self.moved.fetch_add(1, Ordering::SeqCst);
+    }
+
+    /// How often the display had something to write or keep.
+    pub fn moved(&self) -> u64 {
+        self.moved.load(Ordering::SeqCst)
     }
 
     /// Whether nothing more can come to the screen.
