@@ -1,6 +1,6 @@
 //! What each byte does that is typed.
-ghost use Rattle.std.specs.Prelude.{◌≡◌, ◌<◌, [], None};
-ghost use Rattle.console_terminal.specs.Typing.{act_of, edited, after, line_after, line_of, most_bytes, order_by, place_of, port_after};
+ghost use Rattle.std.specs.Prelude.{◌≡◌, None};
+ghost use Rattle.console_terminal.specs.Typing.{act_of, edited, after, line_after, line_of, order_by, place_of, port_after};
 
 use crate::command::{Command, Order, order_of};
 use crate::port::Port;

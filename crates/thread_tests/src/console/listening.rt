@@ -8,7 +8,10 @@ use console_terminal::{
 };
 use pair_lines::Stroke;
 use rtrb::RingBuffer;
+use std::alloc::Global;
+use std::process::Abort;
 use std::test::Fail;
+use std::time::Clock;
 
 // Some bytes, and then the sign to stop, or the end.
 #[derive(Drop)]
@@ -37,18 +40,19 @@ impl KeySource for Typed<'_> {
 
 // Records the commands that it is given, and answers to `status` alone.
 #[derive(Drop)]
-pub(super) struct Recorder {
-    pub(super) rt: HostRuntime,
+pub(super) struct Recorder<'a, R> {
+    pub(super) rt: &'a R,
+    pub(super) alloc: Global,
     pub(super) commands: Vec<Command>,
 }
 
-impl Interpreter for Recorder {
+impl<R: Abort> Interpreter for Recorder<'_, R> {
     ghost given = { λ r. r.commands.items };
 
     fn carry_out(&mut self, command: Command) -> Option<String> {
-        self.commands.push(command).expect(&self.rt, "no memory");
+        self.commands.push(command).expect(self.rt, "no memory");
         match command {
-            Command::Status => String::from_str(self.rt.alloc(), "fine").ok(),
+            Command::Status => String::from_str(self.alloc, "fine").ok(),
             _ => None,
         }
     }
@@ -140,10 +144,10 @@ static CASES: [Case; 9] = [
 ];
 
 // The case is heard, and what was said of it is shown.
-fn expect_case(rt: HostRuntime, case: &Case) -> Result<(), Fail> {
-    let (first, mut first_out) = RingBuffer::new(rt.alloc(), 8)?;
-    let (second, mut second_out) = RingBuffer::new(rt.alloc(), 8)?;
-    let (notes, said) = RingBuffer::new(rt.alloc(), 64)?;
+fn expect_case<R: Abort + Clock>(rt: &R, alloc: Global, case: &Case) -> Result<(), Fail> {
+    let (first, mut first_out) = RingBuffer::new(alloc, 8)?;
+    let (second, mut second_out) = RingBuffer::new(alloc, 8)?;
+    let (notes, said) = RingBuffer::new(alloc, 64)?;
     let signs = Signs::new();
     let stops = match case.ending {
         Ending::Stopped => Some(&signs),
@@ -160,23 +164,24 @@ fn expect_case(rt: HostRuntime, case: &Case) -> Result<(), Fail> {
         notes,
         interpreter: Recorder {
             rt,
-            commands: Vec::new(rt.alloc()),
+            alloc,
+            commands: Vec::new(alloc),
         },
     };
-    let (listener, ending) = listen(&rt, listener, &signs);
+    let (listener, ending) = listen(rt, listener, &signs);
     assert_eq!(rt; ending, case.ending);
     assert!(rt; !listener.desk.is_open());
     assert_eq!(rt; listener.interpreter.commands.as_slice(), case.commands);
     assert!(rt; come_out(&mut first_out, case.first));
     assert!(rt; come_out(&mut second_out, case.second));
-    let (_, shown) = RingBuffer::new(rt.alloc(), 1)?;
-    let (_, told) = RingBuffer::new(rt.alloc(), 1)?;
-    let (screen, mut screen_out) = RingBuffer::new(rt.alloc(), 1)?;
-    let (text, mut text_out) = RingBuffer::new(rt.alloc(), 256)?;
+    let (_, shown) = RingBuffer::new(alloc, 1)?;
+    let (_, told) = RingBuffer::new(alloc, 1)?;
+    let (screen, mut screen_out) = RingBuffer::new(alloc, 1)?;
+    let (text, mut text_out) = RingBuffer::new(alloc, 256)?;
     let (screen, text) = (Paper::of(screen), Paper::of(text));
-    let display = Display::new(rt.alloc(), screen, text, Port::Zero, shown, said, told);
+    let display = Display::new(alloc, screen, text, Port::Zero, shown, said, told);
     signs.show_all();
-    let (_, end) = show_all(&rt, display, &signs);
+    let (_, end) = show_all(rt, display, &signs);
     end?;
     assert!(rt; come_out(&mut screen_out, &[]));
     assert!(rt; come_out(&mut text_out, case.text));
@@ -186,7 +191,7 @@ fn expect_case(rt: HostRuntime, case: &Case) -> Result<(), Fail> {
 #[test]
 fn what_is_typed_is_handed_on(rt: HostRuntime) -> Result<(), Fail> {
     for case in &CASES {
-        expect_case(rt, case)?;
+        expect_case(&rt, rt.alloc(), case)?;
     }
     Ok(())
 }

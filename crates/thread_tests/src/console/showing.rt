@@ -162,26 +162,27 @@ fn a_display_holds_still_and_catches_up(rt: HostRuntime) -> Result<(), Fail> {
     Ok(())
 }
 
+static FAILING: Step = Step {
+    shown: &[(0, b'a'), (1, b'b'), (0, b'c'), (0, b'd'), (0, b'e')],
+    line: Line::Closes(Port::Zero),
+    told: Some("one\r\n"),
+    screen: b"ac",
+    notes: b"\r\none\r\n",
+};
+
 // After two bytes there is no place on its screen: the run is to stop, and nobody waits for a ring that stays full.
 #[test]
 fn a_display_that_fails_takes_the_rest(rt: HostRuntime) -> Result<(), Fail> {
     let (screen, mut screen_out) = RingBuffer::new(rt.alloc(), 2)?;
     let (notes, mut notes_out) = RingBuffer::new(rt.alloc(), 64)?;
     let (display, mut ends) = display_of(rt.alloc(), Paper::of(screen), Paper::of(notes))?;
-    let step = Step {
-        shown: &[(0, b'a'), (1, b'b'), (0, b'c'), (0, b'd'), (0, b'e')],
-        line: Line::Closes(Port::Zero),
-        told: Some("one\r\n"),
-        screen: b"ac",
-        notes: b"\r\none\r\n",
-    };
-    ends.take(rt.alloc(), &step)?;
+    ends.take(rt.alloc(), &FAILING)?;
     let signs = over();
     let (_, end) = show_all(&rt, display, &signs);
     assert!(rt; end.is_err() && signs.is_stopped());
     assert_eq!(rt; signs.moved(), 5);
     assert!(rt; ends.are_empty());
-    assert!(rt; come_out(&mut screen_out, step.screen));
-    assert!(rt; come_out(&mut notes_out, step.notes));
+    assert!(rt; come_out(&mut screen_out, FAILING.screen));
+    assert!(rt; come_out(&mut notes_out, FAILING.notes));
     Ok(())
 }

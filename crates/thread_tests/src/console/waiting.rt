@@ -85,12 +85,13 @@ fn a_listener_waits_for_room(rt: HostRuntime) -> Result<(), Fail> {
         second,
         notes,
         interpreter: Recorder {
-            rt,
+            rt: &rt,
+            alloc: rt.alloc(),
             commands: Vec::new(rt.alloc()),
         },
     };
     let (listener, ending) = listen(&ticks, listener, &signs);
-    assert!(rt; ending == Ending::Stopped && listener.source.bytes == b"b");
+    assert!(rt; ending == Ending::Stopped && listener.source.bytes == b"b".as_slice());
     assert_eq!(rt; ticks.sleeps.load(Ordering::SeqCst), 3);
     assert!(rt; come_out(&mut first_out, &[Stroke::Key(b'a')]));
     Ok(())
