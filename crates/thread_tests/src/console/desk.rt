@@ -59,11 +59,12 @@ fn a_full_line_takes_no_more(rt: HostRuntime) {
 #[test]
 fn a_line_is_carried_out_once(rt: HostRuntime) {
     let mut desk = Desk::new(Port::Zero, 0x05);
-    let mut orders = 0;
+    let mut is_ordered = false;
     for byte in b"\x05terminal 1\r\rx" {
         if desk.take(*byte).1 == Order::Command(Command::Terminal(Port::One)) {
-            orders += 1;
+            assert!(rt; !is_ordered);
+            is_ordered = true;
         }
     }
-    assert!(rt; orders == 1 && desk.port == Port::One);
+    assert!(rt; is_ordered && desk.port == Port::One);
 }

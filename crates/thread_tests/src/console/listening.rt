@@ -1,13 +1,14 @@
 //! What a listener hands on of some bytes that are typed: to both terminals, to an interpreter that records it, and to the display.
-ghost use Rattle.std.specs.Prelude.{None};
+ghost use Rattle.std.specs.Prelude.{◌≤◌, None};
+ghost use Rattle.rtrb.specs.Ring.{known_free};
 
 use super::paper::{Paper, come_out};
 use console_terminal::{
-    Command, Desk, Display, Ending, Heard, Interpreter, KeySource, Listener, Port, Signs, listen,
-    show_all,
+    Command, Desk, Display, Ending, Heard, Interpreter, KeySource, Listener, Note, Port, Signs,
+    listen, show_all,
 };
 use pair_lines::Stroke;
-use rtrb::RingBuffer;
+use rtrb::{Consumer, Producer, RingBuffer};
 use std::alloc::Global;
 use std::process::Abort;
 use std::test::Fail;
@@ -40,17 +41,17 @@ impl KeySource for Typed<'_> {
 
 // Records the commands that it is given, and answers to `status` alone.
 #[derive(Drop)]
-pub(super) struct Recorder<'a, R> {
-    pub(super) rt: &'a R,
+pub(super) struct Recorder<R> {
+    pub(super) rt: R,
     pub(super) alloc: Global,
     pub(super) commands: Vec<Command>,
 }
 
-impl<R: Abort> Interpreter for Recorder<'_, R> {
+impl<R: Abort> Interpreter for Recorder<R> {
     ghost given = { λ r. r.commands.items };
 
     fn carry_out(&mut self, command: Command) -> Option<String> {
-        self.commands.push(command).expect(self.rt, "no memory");
+        self.commands.push(command).expect(&self.rt, "no memory");
         match command {
             Command::Status => String::from_str(self.alloc, "fine").ok(),
             _ => None,
@@ -143,14 +144,20 @@ static CASES: [Case; 9] = [
     },
 ];
 
-// The case is heard, and what was said of it is shown.
-fn expect_case<R: Abort + Clock>(rt: &R, alloc: Global, case: &Case) -> Result<(), Fail> {
+// The keys and commands of a case are heard.
+fn expect_heard<R: Abort + Clock + Copy>(
+    rt: R,
+    alloc: Global,
+    case: &Case,
+    signs: &Signs,
+    notes: Producer<Note>,
+) -> Result<(), Fail>
+    requires { 3 ≤ known_free notes }
+{
     let (first, mut first_out) = RingBuffer::new(alloc, 8)?;
     let (second, mut second_out) = RingBuffer::new(alloc, 8)?;
-    let (notes, said) = RingBuffer::new(alloc, 64)?;
-    let signs = Signs::new();
     let stops = match case.ending {
-        Ending::Stopped => Some(&signs),
+        Ending::Stopped => Some(signs),
         Ending::Quit | Ending::EndOfInput => None,
     };
     let listener = Listener {
@@ -168,12 +175,23 @@ fn expect_case<R: Abort + Clock>(rt: &R, alloc: Global, case: &Case) -> Result<(
             commands: Vec::new(alloc),
         },
     };
-    let (listener, ending) = listen(rt, listener, &signs);
+    let (listener, ending) = listen(&rt, listener, signs);
     assert_eq!(rt; ending, case.ending);
     assert!(rt; !listener.desk.is_open());
     assert_eq!(rt; listener.interpreter.commands.as_slice(), case.commands);
     assert!(rt; come_out(&mut first_out, case.first));
     assert!(rt; come_out(&mut second_out, case.second));
+    Ok(())
+}
+
+// These bytes are written of what was said, once no more is heard.
+fn expect_written<R: Abort + Clock>(
+    rt: &R,
+    alloc: Global,
+    said: Consumer<Note>,
+    signs: &Signs,
+    wanted: &[u8],
+) -> Result<(), Fail> {
     let (_, shown) = RingBuffer::new(alloc, 1)?;
     let (_, told) = RingBuffer::new(alloc, 1)?;
     let (screen, mut screen_out) = RingBuffer::new(alloc, 1)?;
@@ -181,17 +199,20 @@ fn expect_case<R: Abort + Clock>(rt: &R, alloc: Global, case: &Case) -> Result<(
     let (screen, text) = (Paper::of(screen), Paper::of(text));
     let display = Display::new(alloc, screen, text, Port::Zero, shown, said, told);
     signs.show_all();
-    let (_, end) = show_all(rt, display, &signs);
+    let (_, end) = show_all(rt, display, signs);
     end?;
     assert!(rt; come_out(&mut screen_out, &[]));
-    assert!(rt; come_out(&mut text_out, case.text));
+    assert!(rt; come_out(&mut text_out, wanted));
     Ok(())
 }
 
 #[test]
 fn what_is_typed_is_handed_on(rt: HostRuntime) -> Result<(), Fail> {
     for case in &CASES {
-        expect_case(&rt, rt.alloc(), case)?;
+        let signs = Signs::new();
+        let (notes, said) = RingBuffer::new(rt.alloc(), 64)?;
+        expect_heard(rt, rt.alloc(), case, &signs, notes)?;
+        expect_written(&rt, rt.alloc(), said, &signs, case.text)?;
     }
     Ok(())
 }

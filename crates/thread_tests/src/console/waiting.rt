@@ -85,7 +85,7 @@ fn a_listener_waits_for_room(rt: HostRuntime) -> Result<(), Fail> {
         second,
         notes,
         interpreter: Recorder {
-            rt: &rt,
+            rt,
             alloc: rt.alloc(),
             commands: Vec::new(rt.alloc()),
         },
