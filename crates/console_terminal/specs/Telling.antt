@@ -8,12 +8,16 @@ use Rattle.console_terminal.specs.declared.desk.Act.{Act}
 use Rattle.console_terminal.specs.declared.note.Note.{Note}
 use Rattle.console_terminal.specs.declared.port.Port.{Port}
 
+-- what is said of what the interpreter answers
+abbrev pub note_of : Option (String Global) → List Note
+note_of None = []
+note_of (Some text) = Note.Answered text ∷ []
+
 -- what is said of an order, if this is what the interpreter answers
 abbrev pub answered : Order → Option (String Global) → List Note
 answered Order.Nothing answer = []
 answered (Order.Mistake mistake) answer = Note.Mistaken mistake ∷ []
-answered (Order.Command command) None = []
-answered (Order.Command command) (Some text) = Note.Answered text ∷ []
+answered (Order.Command command) answer = note_of answer
 
 -- This was said of an order after what was said before.
 abbrev pub Answers : Order → List Note → List Note → Type 0

@@ -3,7 +3,7 @@ ghost use Rattle.std.specs.Prelude.{◌≡◌, ◌++◌, ◌∷◌, ◌+◌, ◌
 ghost use Rattle.rtrb.specs.Ring.{SameProducer, known_free, sent};
 ghost use Rattle.console_terminal.specs.Commands.{Grows};
 ghost use Rattle.console_terminal.specs.Listening.{HasRoom, Listens, closed, ending_of, strokes_after};
-ghost use Rattle.console_terminal.specs.Telling.{Answers, Says, changed, closing};
+ghost use Rattle.console_terminal.specs.Telling.{Answers, Says, changed, closing, note_of};
 ghost use Rattle.console_terminal.specs.Typing.{act_of, after, command_in, line_of, order_by, place_of, strokes_by};
 
 use crate::command::{Command, Order};
@@ -236,11 +236,19 @@ fn obey<I: Interpreter>(interpreter: &mut I, notes: &mut Producer<Note>, order: 
     match order {
         Order::Nothing => {}
         Order::Mistake(mistake) => notes.push_reserved(Note::Mistaken(mistake)),
-        Order::Command(command) => {
-            if let Some(text) = interpreter.carry_out(command) {
-                notes.push_reserved(Note::Answered(text));
-            }
-        }
+        Order::Command(command) => say(notes, interpreter.carry_out(command)),
+    }
+}
+
+// Says what the interpreter answers, if anything.
+fn say(notes: &mut Producer<Note>, answer: Option<String>)
+    requires { 0 < known_free notes.old }
+    ensures notes { sent notes.new ≡ sent notes.old ++ note_of answer }
+    ensures ring { SameProducer notes.old notes.new }
+    ensures room { known_free notes.old ≤ known_free notes.new + 1 }
+{
+    if let Some(text) = answer {
+        notes.push_reserved(Note::Answered(text));
     }
 }
 

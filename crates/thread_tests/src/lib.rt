@@ -3,6 +3,8 @@
 #![tactic(auto)]
 
 #[cfg(test)]
+mod console;
+#[cfg(test)]
 mod generations;
 #[cfg(test)]
 mod seats;

@@ -1,0 +1,53 @@
+//! What a command line orders.
+
+use console_terminal::{Command, Keyword, Mistake, Order, Port, order_of};
+
+static LINES: [(&[u8], Order); 28] = [
+    (b"", Order::Nothing),
+    (b"   ", Order::Nothing),
+    (b"stop 0", Order::Command(Command::Stop(0))),
+    (b"stop 09", Order::Command(Command::Stop(9))),
+    (b"  stop   97  ", Order::Command(Command::Stop(97))),
+    (b"stop 100", Order::Mistake(Mistake::Unfit(Keyword::Stop))),
+    (b"stop", Order::Mistake(Mistake::Unfit(Keyword::Stop))),
+    (b"stop x", Order::Mistake(Mistake::Unfit(Keyword::Stop))),
+    (b"stop 1x", Order::Mistake(Mistake::Unfit(Keyword::Stop))),
+    (b"stop x1", Order::Mistake(Mistake::Unfit(Keyword::Stop))),
+    (b"stop -1", Order::Mistake(Mistake::Unfit(Keyword::Stop))),
+    (b"stop 1 2", Order::Mistake(Mistake::Unfit(Keyword::Stop))),
+    (b"status", Order::Command(Command::Status)),
+    (b"STATUS", Order::Command(Command::Status)),
+    (b"status 1", Order::Mistake(Mistake::Unfit(Keyword::Status))),
+    (b"terminal 0", Order::Command(Command::Terminal(Port::Zero))),
+    (b"Terminal 1", Order::Command(Command::Terminal(Port::One))),
+    (
+        b"terminal 2",
+        Order::Mistake(Mistake::Unfit(Keyword::Terminal)),
+    ),
+    (
+        b"terminal 01",
+        Order::Mistake(Mistake::Unfit(Keyword::Terminal)),
+    ),
+    (
+        b"terminal",
+        Order::Mistake(Mistake::Unfit(Keyword::Terminal)),
+    ),
+    (
+        b"terminal 0 1",
+        Order::Mistake(Mistake::Unfit(Keyword::Terminal)),
+    ),
+    (b"help", Order::Command(Command::Help)),
+    (b"help me", Order::Mistake(Mistake::Unfit(Keyword::Help))),
+    (b"qUiT", Order::Command(Command::Quit)),
+    (b"quit now", Order::Mistake(Mistake::Unfit(Keyword::Quit))),
+    (b"quit\t", Order::Mistake(Mistake::Unknown)),
+    (b"sto 1", Order::Mistake(Mistake::Unknown)),
+    (b"1", Order::Mistake(Mistake::Unknown)),
+];
+
+#[test]
+fn each_line_orders_what_its_row_says(rt: HostRuntime) {
+    for (line, order) in &LINES {
+        assert_eq!(rt; order_of(line), *order, "{line:?}");
+    }
+}
