@@ -7,7 +7,7 @@ use Rattle.pair_lines.specs.declared.screen.Shown.{Shown}
 use Rattle.rtrb.specs.Ring.{sent}
 use Rattle.rtrb.specs.declared.producer.Producer.{Producer}
 
-keys_in_both : (xs ys : List Stroke) → keys_in (xs ++ ys) ≡ keys_in xs ++ keys_in ys
+pub keys_in_both : (xs ys : List Stroke) → keys_in (xs ++ ys) ≡ keys_in xs ++ keys_in ys
 keys_in_both [] ys = refl
 keys_in_both (Key byte ∷ xs) ys = ap (λ l. byte ∷ l) (keys_in_both xs ys)
 keys_in_both (End ∷ xs) ys = keys_in_both xs ys

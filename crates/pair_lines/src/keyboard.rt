@@ -1,5 +1,5 @@
 //! The keys of a port that come while a pair runs.
-ghost use Rattle.std.specs.Prelude.{◌≡◌, false, None};
+ghost use Rattle.std.specs.Prelude.{◌≡◌, false, true, None, Some};
 ghost use Rattle.pair_lines.specs.Lines.{Hears, heard, is_end, key_in, keys_in};
 ghost use Rattle.rtrb.specs.Ring.{received};
 
@@ -18,9 +18,9 @@ pub enum Stroke {
 /// them; without a ring no key comes.
 #[derive(Drop)]
 pub struct Keyboard {
-    ring: Option<Consumer<Stroke>>,
     // Whether more keys may come.
     open: bool,
+    ring: Option<Consumer<Stroke>>,
 }
 
 impl Keyboard {
@@ -29,18 +29,19 @@ impl Keyboard {
         ensures { (result.ring ≡ None) × (result.open ≡ false) }
     {
         Keyboard {
-            ring: None,
             open: false,
+            ring: None,
         }
     }
 
-    /// The keyboard whose keys come through this ring.
+    /// The keyboard whose keys come through this ring. More may come.
     pub fn of(ring: Consumer<Stroke>) -> Keyboard
-        ensures { heard result ≡ keys_in (received ring) }
+        ensures heard { heard result ≡ keys_in (received ring) }
+        ensures begins { (result.ring ≡ Some ring) × (result.open ≡ true) }
     {
         Keyboard {
-            ring: Some(ring),
             open: true,
+            ring: Some(ring),
         }
     }
 

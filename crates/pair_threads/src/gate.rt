@@ -11,8 +11,8 @@ pub enum Who {
 }
 
 /// A caller's hold on the turns. Each worker counts its turns from 0. A gate may wait; the run ends as stalled if `enter`
-/// returns false. In a watched generation the gate also detects failures: a worker for which `suspects` is true is told that its peer has
-/// failed, and asks to go on alone.
+/// returns false. In a watched generation the gate also detects failures: a worker for which `suspects` is true is told that
+/// its peer has failed, and asks to go on alone.
 pub trait Gate {
     fn enter(&self, who: Who, turn: u64) -> bool;
 

@@ -369,11 +369,12 @@ pub(crate) fn finish<B: Lockstep + Drop, D: SectorStore>(
     conclude(fabric, primary, link, backup, terminal, disk, undecided)
 }
 
-/// Runs one generation over these lines, a worker for each of the five seats on its own thread, with at most this many turns for
-/// the primary and for the backup. If nobody is planned to go on alone, it ends well when the guest idles, all keys are taken and no more
-/// come, nothing is outstanding, under way or due, and all entries are acknowledged and repeated. Otherwise it ends when it is decided who goes
-/// on alone; a backup that does has repeated its list. A watched generation ends in the first of these two ways: a host fails in it when the
-/// gate says so (`Gate::suspects`), and it waits for keys as long as it takes. `Stalled` if it ends in no such way, `OutOfMemory` if memory or a thread is refused.
+/// Runs one generation over these lines, a worker for each of the five seats on its own thread, with at most this many turns
+/// for the primary and for the backup. If nobody is planned to go on alone, it ends well when the guest idles, all keys are
+/// taken and no more come, nothing is outstanding, under way or due, and all entries are acknowledged and repeated. Otherwise
+/// it ends when it is decided who goes on alone; a backup that does has repeated its list. A watched generation ends in the
+/// first of these two ways: a host fails in it when the gate says so (`Gate::suspects`), and it waits for keys as long as it
+/// takes. `Stalled` if it ends in no such way, `OutOfMemory` if memory or a thread is refused.
 #[tactic(auto, using(crate::proofs::Beginning::nothing_yet, crate::proofs::Serving::first_disk, crate::proofs::Typing::typed_same, crate::proofs::Showing::shows_same))]
 pub fn run_generation_over<
     B: Lockstep + Send + Drop,
