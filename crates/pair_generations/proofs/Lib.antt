@@ -3,3 +3,4 @@ pub mod Resuming
 pub mod Ending
 pub mod Altair
 pub mod Over
+pub mod Alone

@@ -9,6 +9,7 @@ ghost use Rattle.pair_threads.specs.Typing.{IsOver};
 
 use crate::following::{Orders, Ready, follow};
 use crate::origin::Origin;
+use crate::steward::{PairEvent, Steward};
 use clone_state::Copies;
 use i8080_words::{Fault, R};
 use pair_standing::finish_over;
@@ -92,12 +93,13 @@ fn settle<B: Copies<H> + Drop, H: Drop, D: SectorStore, C: Clock>(
 }
 
 /// The generation after this one: whoever goes on finishes what is outstanding, the guest is copied to the spare host, and
-/// both run.
+/// both run. The steward hears that it begins.
 pub(crate) fn advance<
     B: Copies<H> + Send + Drop,
     H: Drop,
     D: SectorStore + Send,
     G: Gate + Sync,
+    S: Steward,
     T: Threads + Clock + Sync,
 >(
     rt: &T,
@@ -106,6 +108,7 @@ pub(crate) fn advance<
     next: Next<H>,
     watched: bool,
     gate: &G,
+    steward: &mut S,
     limits: Limits,
 ) -> R<Going<B, D>>
     requires guest { IsGuest B.state B.copied (machine_at B.machine (B.state going.origin.boot) going.origin.records) }
@@ -124,6 +127,7 @@ pub(crate) fn advance<
     let ready = settle(rt, going, limits.tries)?;
     let generation = ready.generation;
     let (resumed, origin) = follow(alloc, ready, next, watched, limits)?;
+    steward.hears(PairEvent::Begins(generation));
     let end = run_generation_at(rt, alloc, resumed, watched, gate, limits.turns)?;
     Ok(Going {
         end,

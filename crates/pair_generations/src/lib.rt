@@ -6,8 +6,12 @@ mod generation;
 mod laws;
 mod origin;
 mod run;
+mod steward;
+mod until_over;
 
 pub use generation::{Limits, Next};
 pub use laws::altairs_may_go_on;
 pub use origin::Origin;
 pub use run::{PairEnd, run_pair, run_pair_over};
+pub use steward::{PairEvent, Steward};
+pub use until_over::run_pair_until_over;

@@ -1,5 +1,5 @@
 //! A pair on threads over all its generations.
-ghost use Rattle.std.specs.Prelude.{◌≡◌, ◌⊎◌, ◌+◌, ◌∷◌, [], ℕ, List, None, false, length, IfErr, IfOk};
+ghost use Rattle.std.specs.Prelude.{◌≡◌, ◌⊎◌, ◌+◌, ◌<◌, ◌∷◌, [], ℕ, List, None, false, true, length, IfErr, IfOk};
 ghost use Rattle.pair_generations.specs.Generations.{HasEnded, WonLater, machine_at};
 ghost use Rattle.pair_generations.specs.Guests.{IsGuest};
 ghost use Rattle.pair_lines.specs.declared.lines.Lines.{Lines};
@@ -10,6 +10,7 @@ ghost use Rattle.shared_disk.specs.Records.{IsUnwritten};
 use crate::following::planned;
 use crate::generation::{Going, Limits, Next, advance};
 use crate::origin::origin_of;
+use crate::steward::{PairEvent, Steward, Unattended};
 use clone_state::Copies;
 use i8080_words::R;
 use pair_lines::Lines;
@@ -27,12 +28,28 @@ pub struct PairEnd<B: Drop, D: SectorStore> {
     pub generations: u32,
 }
 
-// The further generations, as long as somebody has gone on alone in the last one and there is a spare host.
+// Whether no further generation is to begin: there is no spare host, or a watched pair is over.
+fn is_last<S: Steward>(spares: usize, watched: bool, steward: &mut S) -> bool
+    ensures some { result ≡ false → 0 < spares }
+    ensures none { watched ≡ false → result ≡ true → spares ≡ 0 }
+{
+    if spares == 0 {
+        return true;
+    }
+    if !watched {
+        return false;
+    }
+    steward.is_over()
+}
+
+// The further generations, as long as somebody has gone on alone in the last one, there is a spare host, and the pair, if it is
+// watched, is not over. The steward hears who goes on alone.
 fn go_on<
     B: Copies<H> + Send + Drop,
     H: Drop,
     D: SectorStore + Send,
     G: Gate + Sync,
+    S: Steward,
     T: Threads + Clock + Sync,
 >(
     rt: &T,
@@ -41,6 +58,7 @@ fn go_on<
     mut later: Vec<Next<H>>,
     watched: bool,
     gate: &G,
+    steward: &mut S,
     limits: Limits,
 ) -> R<Going<B, D>>
     requires guest { IsGuest B.state B.copied (machine_at B.machine (B.state first.origin.boot) first.origin.records) }
@@ -52,29 +70,36 @@ fn go_on<
         → IsOver typed0 typed1 lines screens first.end → IfOk result (λ new. IsOver typed0 typed1 lines screens new.end) }
     ensures won { watched ≡ false
         → IfOk result (λ new. (new.end.winner ≡ first.end.winner) ⊎ WonLater later.items new.end.winner) }
-    ensures last { IfOk result (λ new. (new.end.winner ≡ None)
+    ensures last { watched ≡ false → IfOk result (λ new. (new.end.winner ≡ None)
         ⊎ (new.generation ≡ first.generation + length later.items)) }
     ensures refused { IfErr result IsEnding }
 {
     let mut going = first;
-    while going.end.winner.is_some() && !later.is_empty() {
+    'generations: while let Some(who) = going.end.winner {
+        steward.hears(PairEvent::Won(who));
+        if is_last(later.len(), watched, steward) {
+            return Ok(going);
+        }
         let next = later.remove(0);
-        going = advance(rt, alloc, going, next, watched, gate, limits)?;
+        going = advance(rt, alloc, going, next, watched, gate, steward, limits)?;
     }
     Ok(going)
 }
 
-/// Runs a pair over generations and over these lines: the first generation as `run_generation_over` does, and whenever a node goes on
-/// alone it takes what is outstanding, its machine is copied to the next spare host of `later`, and both begin the next generation where the
-/// run was settled, over the same lines. If the pair is watched, its hosts fail when the gate says so, and at no turn. It ends with the first
-/// generation in which nobody goes on alone, or with the last for which there is a host. Its end is that of one machine, the one that
-/// booted first, on one list, over all generations. `Stalled` if a generation ends in no such way, a disk fails too often or a copy
-/// does not arrive; `OutOfMemory` if memory or a thread is refused.
+/// Runs a pair over generations and over these lines: the first generation as `run_generation_over` does, and whenever a node
+/// goes on alone it takes what is outstanding, its machine is copied to the next spare host of `later`, and both begin the next
+/// generation where the run was settled, over the same lines. The steward hears of each generation that begins and of each node
+/// that goes on alone. If the pair is watched, its hosts fail when the gate says so, and at no turn, and no further generation
+/// begins once the steward says that the pair is over. It ends with the first generation in which nobody goes on alone, or with
+/// the last that begins. Its end is that of one machine, the one that booted first, on one list, over all generations. `Stalled`
+/// if a generation ends in no such way, a disk fails too often or a copy does not arrive; `OutOfMemory` if memory or a thread is
+/// refused.
 pub fn run_pair_over<
     B: Copies<H> + Send + Drop,
     H: Drop,
     D: SectorStore + Send,
     G: Gate + Sync,
+    S: Steward,
     T: Threads + Clock + Sync,
 >(
     rt: &T,
@@ -84,6 +109,7 @@ pub fn run_pair_over<
     watched: bool,
     later: Vec<Next<H>>,
     gate: &G,
+    steward: &mut S,
     limits: Limits,
 ) -> R<PairEnd<B, D>>
     requires guest { IsGuest B.state B.copied (machine_at B.machine (B.state workers.primary) (D.records workers.disk)) }
@@ -94,19 +120,21 @@ pub fn run_pair_over<
     ensures over { IfOk result (λ e. IsOver workers.typed0.items workers.typed1.items lines ([] ∷ [] ∷ []) e.end) }
     ensures won { watched ≡ false → IfOk result (λ e. WonBy workers.primary_contests workers.backup_contests e.end.winner
         ⊎ WonLater later.items e.end.winner) }
-    ensures last { IfOk result (λ e. (e.end.winner ≡ None) ⊎ (e.generations ≡ 1 + length later.items)) }
+    ensures last { watched ≡ false
+        → IfOk result (λ e. (e.end.winner ≡ None) ⊎ (e.generations ≡ 1 + length later.items)) }
     ensures refused { IfErr result IsEnding }
 {
     let origin = origin_of(&workers);
     workers.primary_contests = planned(watched, workers.primary_contests);
     workers.backup_contests = planned(watched, workers.backup_contests);
+    steward.hears(PairEvent::Begins(1));
     let end = run_generation_over(rt, alloc, workers, lines, watched, gate, limits.turns)?;
     let first = Going {
         end,
         origin,
         generation: 1,
     };
-    let last = go_on(rt, alloc, first, later, watched, gate, limits)?;
+    let last = go_on(rt, alloc, first, later, watched, gate, steward, limits)?;
     Ok(PairEnd {
         end: last.end,
         generations: last.generation,
@@ -149,6 +177,7 @@ pub fn run_pair<
         false,
         later,
         gate,
+        &mut Unattended,
         limits,
     )
 }

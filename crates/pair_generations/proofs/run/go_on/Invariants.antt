@@ -6,8 +6,8 @@ use Rattle.pair_generations.specs.Generations.{HasEnded, WonLater, machine_at}
 use Rattle.pair_protocol.specs.Lawful.{Among}
 use Rattle.pair_generations.proofs.run.go_on.Given as goal
 
-abbrev pub invariant-loop-later : goal.invariant-loop-later
-invariant-loop-later g l =
+abbrev pub invariant-generations : goal.invariant-generations
+invariant-generations g l =
     (l.going.origin ≡ l.fn.first.origin)
     × HasEnded g.B.Lockstep.state g.D.SectorStore.records (machine_at g.B.Lockstep.machine
     (g.B.Lockstep.state l.fn.first.origin.boot) l.fn.first.origin.records) l.going.end
@@ -17,5 +17,5 @@ invariant-loop-later g l =
     × ((n : _) → Among n l.later.items → Among n l.fn.later.items)
     × (l.going.generation + length l.later.items ≡ l.fn.first.generation + length l.fn.later.items)
 
-abbrev pub decreases-loop-later : goal.decreases-loop-later
-decreases-loop-later g l = length l.later.items
+abbrev pub decreases-generations : goal.decreases-generations
+decreases-generations g l = length l.later.items
