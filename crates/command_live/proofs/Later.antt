@@ -20,7 +20,7 @@ use Rattle.guest_parts.specs.Guest.{Guest}
 use Rattle.pair_generations.specs.Altair.{AltairsMayGoOn}
 use Rattle.pair_generations.specs.Generations.{WonLater, machine_at}
 use Rattle.pair_generations.specs.Guests.{IsGuest}
-use Rattle.pair_generations.proofs.Altair.{holds_guest}
+use Rattle.pair_generations.proofs.Altair.{boots_as_guest}
 use Rattle.pair_generations.specs.declared.generation.Next.{Next}
 use Rattle.pair_protocol.specs.Lawful.{Among}
 use Rattle.pair_threads.specs.Ending.{WonBy}
@@ -84,34 +84,14 @@ won_among (a ∷ askers) (t ∷ turns) (m ∷ later) n winner are (inr at) won =
 
 -- ---- the guest
 
--- the fields of a setup have their sizes, and so has each sector of a disk that is as the setup has it at boot
-pub setup_is : (setup : Setup) (records : List Record) (given : List SectorWrite) → length setup.levels ≡ 3
-    → length setup.memory.items ≡ BYTES → setup.sense < 2 ^ 8 → IsAtBoot records setup.drives given → HasWholeSectors records
-    → IsSetup setup (bytes_in records)
-setup_is setup records given levels memory sense at whole = record {
-  levels = levels;
-  memory = memory;
-  sense = sense;
-  disk = λ address has.
-      let r = boot_record (bytes_after given address (replicate SECTOR_BYTES 0)) in
-      let some : record_at records address ≡ Some r = at address ∙ there (has_sector setup.drives address) r has in
-      ap (λ o. length (option_map_or (λ (u : Record). u.bytes) o [])) some ∙ whole address r some;
-}
-  where
-    there : (b : Bool) (r : Record) → IsTrue b → (if b then Some r else None) ≡ Some r
-    there true r is = refl
-    there false r is = absurd (false≢true is)
-
--- so is the pair that begins over a disk as the setup has it
+-- the pair that begins over a disk as the setup has it runs a guest that may go on
 pub begins_as_guest : {B : Type 0} (state : B → Guest) (setup : ScriptSetup) (given : List SectorWrite) (lines : List Line)
     (primary backup : Guest) (records : List Record) (typed0 typed1 : List ℕ) → AltairsMayGoOn → length setup.guest.levels ≡ 3
     → length setup.guest.memory.items ≡ BYTES → setup.guest.sense < 2 ^ 8
     → BeginsAs setup given lines primary backup records typed0 typed1
     → IsGuest state state (machine_at some_altair primary records)
 begins_as_guest state setup given lines primary backup records typed0 typed1 law levels memory sense begins =
-    subst (λ b. IsGuest state state (machine_at some_altair b records)) (sym begins.primary_is)
-    (holds_guest state (altair setup.guest (bytes_in records))
-    (law setup.guest (bytes_in records) (setup_is setup.guest records given levels memory sense begins.at_boot begins.whole)))
+    boots_as_guest state setup.guest given primary records law levels memory sense begins.primary_is begins.at_boot begins.whole
 
 -- ---- the same workers
 
