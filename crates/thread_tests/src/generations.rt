@@ -6,3 +6,4 @@ mod lines;
 mod pairs;
 mod rows;
 mod turns;
+mod until_over;
