@@ -90,7 +90,7 @@ module _ {R W : Type 0} (remaining : R → Option (List ℕ)) (contents : W → 
 
   -- what a command prints that ends like this
   abbrev pub Prints : Request → Result (Unit {0}) Failure → Type 0
-  Prints asked result = Obeys asked (remaining reader) result (contents writer) (contents writer')
+  Prints asked result = Obeys asked (remaining reader) (remaining reader') result (contents writer) (contents writer')
 
   -- What a failure leaves of a request. A script with a bad line is refused, or its bad lines are named. If memory is refused or
   -- input fails before all of it was read, nothing is printed.

@@ -1,5 +1,5 @@
 //! A guest runs on alone, without a backup, until one can be started.
-ghost use Rattle.std.specs.Prelude.{◌≡◌, ◌∷◌, ℕ, List, [], IfErr, IfOk};
+ghost use Rattle.std.specs.Prelude.{◌≡◌, ◌+◌, ◌∷◌, ℕ, List, [], IfErr, IfOk};
 ghost use Rattle.disk_dcdd.specs.declared.address.SectorAddress.{SectorAddress};
 ghost use Rattle.guest_lockstep.specs.Machine.{booted_from};
 ghost use Rattle.pair_protocol.specs.Faithful.{IsPrefix};
@@ -18,6 +18,7 @@ use crate::winner::Winner;
 use guest_lockstep::Lockstep;
 use i8080_words::R;
 use pair_lines::{Keyboard, Screen};
+use pair_threads::KEY_STEPS;
 use shared_disk::SectorStore;
 use std::time::Clock;
 
@@ -46,7 +47,7 @@ pub struct AloneEnd<B: Drop, D: SectorStore> {
     pub screen: Screen,
 }
 
-// A settled run, of which the guest runs on.
+// A settled run, of which the guest runs on. It may have taken a key just before, so it has time for that one first.
 fn begin<B: Lockstep + Drop, D: SectorStore>(
     standing: Standing<B, D>,
     keyboards: (Keyboard, Keyboard),
@@ -57,6 +58,7 @@ fn begin<B: Lockstep + Drop, D: SectorStore>(
         × (result.winner.board ≡ standing.board) }
     ensures typed { (result.port0.typed ≡ standing.typed.0) × (result.port1.typed ≡ standing.typed.1)
         × (result.port0.keyboard ≡ keyboards.0) × (result.port1.keyboard ≡ keyboards.1) × (result.screen ≡ screen) }
+    ensures pace { result.key_count ≡ B.machine.count (B.state standing.board) + 300 }
 {
     let Standing {
         board,
@@ -69,6 +71,7 @@ fn begin<B: Lockstep + Drop, D: SectorStore>(
     let (accepted0, accepted1) = accepted;
     let (typed0, typed1) = typed;
     let (keyboard0, keyboard1) = keyboards;
+    let key_count = board.count() + KEY_STEPS;
     let winner = Winner {
         board,
         list,
@@ -87,7 +90,7 @@ fn begin<B: Lockstep + Drop, D: SectorStore>(
             typed: typed1,
         },
         screen,
-        key_count: 0,
+        key_count,
         idle: false,
         sector: 0,
     }

@@ -13,13 +13,10 @@ use event_callbacks::{OpId, PORTS};
 use guest_lockstep::Lockstep;
 use i8080_words::R;
 use pair_lines::Screen;
+use pair_threads::KEY_STEPS;
 use shared_disk::SectorStore;
 use std::thread;
 use std::time::{Clock, Duration};
-
-/// How many steps a guest makes between two keys of a port, unless it idles: about those of an 8080 between two bytes of a line
-/// at 9,600 baud.
-const KEY_STEPS: u64 = 300;
 
 /// For how many microseconds a guest that idles sleeps before its next turn.
 const IDLE_SLEEP: u64 = 200;

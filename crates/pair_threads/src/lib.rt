@@ -25,6 +25,7 @@ mod yields;
 pub use chore::Chore;
 pub use gate::{Gate, OpenGate, Progress, Who};
 pub use link::{Fate, fate_of};
+pub use primary::KEY_STEPS;
 pub use rest::Rest;
 pub use resumed::run_generation_at;
 pub use run::{run_generation, run_generation_over};

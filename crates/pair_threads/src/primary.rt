@@ -14,6 +14,10 @@ use crate::recording::Recording;
 use log_entry::Entry;
 use pair_rule::{DiskAnswer, PrimarySeat};
 
+/// How many steps a guest makes between two keys, unless it idles: about those of an 8080 between two bytes of a line at
+/// 9,600 baud.
+pub const KEY_STEPS: u64 = 300;
+
 /// The primary's seat, its list, its guest, and what arrived for it.
 #[derive(Drop)]
 pub(crate) struct PrimaryWorker<B> {

@@ -11,14 +11,10 @@ ghost use Rattle.pair_threads.specs.Patience.{guest_is_held_up};
 ghost use Rattle.pair_threads.specs.Primary.{Emits, HasTakenKeys, IsAtRest, Works};
 ghost use Rattle.pair_threads.specs.Turns.{RunsFor};
 
-use super::PrimaryWorker;
+use super::{KEY_STEPS, PrimaryWorker};
 use guest_lockstep::Lockstep;
 use i8080_words::{Fault, R};
 use pair_rule::Fabric;
-
-/// How many steps a guest makes between two keys, unless it idles: about those of an 8080 between two bytes of a line at
-/// 9,600 baud.
-const KEY_STEPS: u64 = 300;
 
 /// How many steps a guest makes at most in a turn while one of its operations is outstanding; while several are, each has a
 /// share of them. So its bytes leave soon, and a guest that waits for its window does not wait for its own turns.

@@ -1,5 +1,5 @@
 //! The turns of a primary's worker: it appends the entry that waits, and otherwise does its chores in rotation.
-ghost use Rattle.std.specs.Prelude.{◌≡◌, ◌<◌, ◌≤◌, ◌⊎◌, ◌↔◌, false, [], length, vec_len, None, Some, IfErr, IfOk, IfSome, IsTrue, OnOk};
+ghost use Rattle.std.specs.Prelude.{◌≡◌, ◌+◌, ◌<◌, ◌≤◌, ◌⊎◌, ◌↔◌, false, [], length, vec_len, None, Some, IfErr, IfOk, IfSome, IsTrue, OnOk};
 ghost use Rattle.event_callbacks.specs.declared.devices.TheConstants.{PORTS};
 ghost use Rattle.event_callbacks.specs.declared.operations.OpId.{OpId};
 ghost use Rattle.pair_rule.specs.Seats.{HasSwapsLeft};
@@ -12,7 +12,7 @@ ghost use Rattle.pair_threads.specs.Turns.{Leaves};
 ghost use Rattle.pair_threads.specs.Typing.{HasListened};
 ghost use Rattle.pair_threads.specs.declared.primary.PrimaryWorker.{PrimaryWorker};
 
-use super::PrimaryWorker;
+use super::{KEY_STEPS, PrimaryWorker};
 use crate::chore::{Chore, ROTATION};
 use crate::gate::Progress;
 use crate::plan::Plan;
@@ -74,7 +74,8 @@ impl<B: Lockstep> PrimaryWorker<B> {
         }
     }
 
-    /// A primary that goes on where a run of its list was settled: all of it is acknowledged, and nothing is outstanding.
+    /// A primary that goes on where a run of its list was settled: all of it is acknowledged, and nothing is outstanding. Its guest may
+    /// have taken a key just before, so it has time for that one first.
     pub(crate) fn resume(
         alloc: Global,
         seat: PrimarySeat,
@@ -92,6 +93,7 @@ impl<B: Lockstep> PrimaryWorker<B> {
         ensures board { result.guest.board ≡ board }
         ensures plan { (result.plan ≡ plan) × (result.port0 ≡ ports.0) × (result.port1 ≡ ports.1) }
         ensures first { result.second ≡ false }
+        ensures pace { result.key_count ≡ B.machine.count (B.state board) + 300 }
         ensures leads { (boot : B.State)
             → Leads B.machine boot seat.core.known.primary.list [] seat.core.known.primary (B.state board)
             → Says seat.core.known.primary.list (by_port (keys_taken ports.0) (keys_taken ports.1) [])
@@ -101,7 +103,7 @@ impl<B: Lockstep> PrimaryWorker<B> {
         let length = list.len() as u64;
         let counted0 = port0.accepted;
         let counted1 = port1.accepted;
-        let key_count = board.count();
+        let key_count = board.count() + KEY_STEPS;
         PrimaryWorker {
             seat,
             list,
