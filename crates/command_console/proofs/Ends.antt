@@ -1,6 +1,6 @@
 -- Both ends of the rings of a console: what came out is the first part of what went in.
-use Rattle.std.proofs.Common.{◌≡◌, ℕ, List, [], ◌∷◌, ◌++◌, Option, Some, None, refl, sym, ap, ◌∙◌, subst, append-nil, append_assoc}
-use Rattle.command_console.specs.Rings.{AreOpen, ComesOutOf, GoesInto, IsKeyboardOf, IsScreenOf}
+use Rattle.std.proofs.Common.{◌≡◌, ℕ, List, [], ◌++◌, Option, Some, None, refl, sym, ap, ◌∙◌, subst, append-nil, append_assoc}
+use Rattle.command_console.specs.Rings.{ComesOutOf, GoesInto, IsKeyboardOf, IsScreenOf}
 use Rattle.console_terminal.specs.Listening.{last_strokes}
 use Rattle.console_terminal.specs.declared.listener.Ending.{Ending}
 use Rattle.console_terminal.proofs.Seen.{shown_both}
@@ -58,9 +58,9 @@ came to to' k k' more strokes ending is heard_is went first =
     let none : heard k ≡ [] = ap (λ r. keys_in (came_by r)) is.ring ∙ ap keys_in is.none_came in
     let more_is : heard k' ≡ more = heard_is ∙ ap (λ l. l ++ more) none in
     let all : keys_in (sent to') ≡ keys_in strokes =
-        ap keys_in went ∙ keys_in_both (sent to ++ strokes) (last_strokes ending)
-        ∙ ap (λ l. keys_in (sent to ++ strokes) ++ l) (last_none ending) ∙ append-nil (keys_in (sent to ++ strokes))
-        ∙ ap (λ l. keys_in (l ++ strokes)) is.none_sent in
+    ap keys_in went ∙ keys_in_both (sent to ++ strokes) (last_strokes ending)
+    ∙ ap (λ l. keys_in (sent to ++ strokes) ++ l) (last_none ending) ∙ append-nil (keys_in (sent to ++ strokes))
+    ∙ ap (λ l. keys_in (l ++ strokes)) is.none_sent in
     subst (λ l. IsPrefix l (keys_in strokes)) more_is
     (subst (λ l. IsPrefix (heard k') l) all (keys_first (came_by k'.ring) (sent to') first))
 
@@ -78,10 +78,9 @@ pub shown_first : (from' : Consumer Shown Global AnyItems) (ring : Option (Produ
     → IsPrefix (shown_at port guest) bytes
 shown_first from' None port guest kept accepted bytes got split gone into first = absurd into
 shown_first from' (Some to) port guest kept accepted bytes got split gone into first =
-    let rest = first.0 in
-    (
+    let rest = first.0 in (
       shown_at port kept ++ shown_at port rest,
       sym (append_assoc (shown_at port guest) (shown_at port kept) (shown_at port rest))
-      ∙ ap (λ l. l ++ shown_at port rest) (split ∙ ap (shown_at port) (sym got))
-      ∙ sym (shown_both port (received from') rest) ∙ ap (shown_at port) first.1 ∙ gone,
+          ∙ ap (λ l. l ++ shown_at port rest) (split ∙ ap (shown_at port) (sym got))
+          ∙ sym (shown_both port (received from') rest) ∙ ap (shown_at port) first.1 ∙ gone,
     )

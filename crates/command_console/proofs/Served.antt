@@ -2,7 +2,7 @@
 use Rattle.std.proofs.Common.{◌≡◌, ℕ, List, [], ◌∷◌, ◌++◌, Option, Result, Ok, Err, inl, inr, sym, ap, ◌∙◌, subst, string_bytes}
 use Rattle.std.specs.Prelude.{IfErr, IfOk, OnOk}
 use Rattle.std.specs.Io.KnownBytes.{Appends, Consumes}
-use Rattle.command_console.specs.Console.{HasServed, IsAtConsole, IsOfOne, IsOfRun, Opens, Runs}
+use Rattle.command_console.specs.Console.{HasServed, IsAtConsole, IsOfOne, IsOfRun, Opens}
 use Rattle.command_console.specs.Session.{HasSat, HasUsed}
 use Rattle.command_console.specs.declared.console.Streams.{Streams}
 use Rattle.command_ending.specs.declared.failure.Failure.{Failure}
@@ -19,7 +19,7 @@ use Rattle.disk_dcdd.specs.declared.sector.SectorWrite.{SectorWrite}
 use Rattle.guest_board.specs.Inputs.{some_altair}
 use Rattle.guest_lockstep.specs.Machine.{booted_from}
 use Rattle.guest_parts.specs.Guest.{Guest}
-use Rattle.pair_generations.specs.Generations.{IsSettled, machine_at}
+use Rattle.pair_generations.specs.Generations.{machine_at}
 use Rattle.pair_standing.specs.Standing.{Stands}
 use Rattle.pair_standing.specs.declared.standing.Standing.{Standing}
 use Rattle.pair_threads.specs.Stores.{bytes_in}
@@ -111,6 +111,10 @@ is_at_console order input old keys new screen screen' notes notes' (Err failure.
 is_at_console order input old keys new screen screen' notes notes' (Err failure.Differs) opens served failed = failed
 is_at_console order input old keys new screen screen' notes notes' (Err (failure.CommandLine text)) opens served failed = failed
 is_at_console order input old keys new screen screen' notes notes' (Err (failure.BadScript line)) opens served failed =
-    absurd (elim failed [ inl is ↦ (let e : failure.BadScript line ≡ failure.OutOfMemory = is in cc)
-    | inr more ↦ elim more [ inl is ↦ (let e : failure.BadScript line ≡ failure.InputOrOutput = is in cc)
-    | inr is ↦ (let e : failure.BadScript line ≡ failure.Stalled = is in cc) ] ])
+    absurd (elim failed [
+      | inl is ↦ (let e : failure.BadScript line ≡ failure.OutOfMemory = is in cc)
+      | inr more ↦ elim more [
+        | inl is ↦ (let e : failure.BadScript line ≡ failure.InputOrOutput = is in cc)
+        | inr is ↦ (let e : failure.BadScript line ≡ failure.Stalled = is in cc)
+      ]
+    ])

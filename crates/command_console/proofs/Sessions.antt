@@ -3,13 +3,13 @@ use Rattle.std.proofs.Common.{◌≡◌, ℕ, List, [], ◌∷◌, ◌++◌, Opt
 use Rattle.std.specs.Prelude.{IfErr, IfOk, OnOk}
 use Rattle.std.specs.Global.{Global}
 use Rattle.std.specs.Io.KnownBytes.{Appends, Consumes}
-use Rattle.command_console.specs.Rings.{AreOpen, GoesInto, IsKeyboardOf, IsScreenOf}
-use Rattle.command_console.specs.Session.{HasSat, HasUsed, at_first, keys_typed}
+use Rattle.command_console.specs.Rings.{GoesInto, IsKeyboardOf, IsScreenOf}
+use Rattle.command_console.specs.Session.{HasSat, HasUsed, at_first}
 use Rattle.command_console.specs.Sitting.{HasRun}
 use Rattle.command_console.specs.declared.console.Streams.{Streams}
 use Rattle.command_console.proofs.Ends.{came, goes_into, none_shown, shown_first}
 use Rattle.console_terminal.specs.Listening.{Listens}
-use Rattle.console_terminal.specs.Screen.{AreSeen, Piece, Wrote, bytes_of, guest_in, texts_of}
+use Rattle.console_terminal.specs.Screen.{AreSeen, Wrote, bytes_of, guest_in, texts_of}
 use Rattle.console_terminal.specs.Typing.{Place, line_of, place_of, strokes_at}
 use Rattle.console_terminal.specs.declared.command.Command.{Command}
 use Rattle.console_terminal.specs.declared.desk.Desk.{Desk}
@@ -110,9 +110,9 @@ module _ {B D S : Type 0} (state : B → S) (records : D → List Record) (M : M
       begins ring looks empty ends listens wrote ran f0 f1 fs left =
       let screen = subst (λ x. IsScreenOf x lines.screen) (sym ring) s in
       let used = has_used (λ (k : TerminalKeys _). remaining k.reader) given contents notes typed0 typed1 lines l l' d d' e ending listens wrote k0 k1
-          screen (first_place l.desk at.0 none) looks empty ran
-          (goes_into d.shown d'.shown lines.screen e.screen screen ran.same wrote.same_shown) f0 f1
-          (subst (λ x. IsPrefix (received x) (gone_by e.screen.ring)) ends.2 fs) in
+      screen (first_place l.desk at.0 none) looks empty ran
+      (goes_into d.shown d'.shown lines.screen e.screen screen ran.same wrote.same_shown) f0 f1
+      (subst (λ x. IsPrefix (received x) (gone_by e.screen.ring)) ends.2 fs) in
       record {
         bytes = listens.bytes;
         pieces = wrote.pieces;

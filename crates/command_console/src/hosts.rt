@@ -96,13 +96,17 @@ impl Hosts {
         }
     }
 
-    /// Other hosts run the machine, and none of them has failed; so many spare hosts are left.
+    /// Other hosts run the machine; so many spare hosts are left.
     pub(crate) fn change(&self, roles: Roles, spares: u64) {
         self.generation.store(roles.generation, Ordering::SeqCst);
         self.primary.store(roles.primary, Ordering::SeqCst);
         self.backup
             .store(roles.backup.unwrap_or(NO_HOST), Ordering::SeqCst);
         self.spares.store(spares, Ordering::SeqCst);
+    }
+
+    /// No host of those that run the machine now has failed.
+    pub(crate) fn forget_failures(&self) {
         self.primary_failed.store(false, Ordering::SeqCst);
         self.backup_failed.store(false, Ordering::SeqCst);
     }
@@ -129,16 +133,24 @@ impl Hosts {
         let roles = self.roles();
         match roles.backup {
             Some(backup) if host == roles.primary => {
-                self.primary_failed.store(true, Ordering::SeqCst);
-                Stopped::Told(backup)
+                self.tell(&self.primary_failed, roles, backup)
             }
             Some(backup) if host == backup => {
-                self.backup_failed.store(true, Ordering::SeqCst);
-                Stopped::Told(roles.primary)
+                self.tell(&self.backup_failed, roles, roles.primary)
             }
             None if host == roles.primary => Stopped::Last,
             _ => Stopped::Elsewhere,
         }
+    }
+
+    // Tells the peer of a host that it has failed, unless other hosts have begun to run the machine meanwhile.
+    fn tell(&self, failed: &AtomicBool, roles: Roles, peer: u32) -> Stopped {
+        failed.store(true, Ordering::SeqCst);
+        if self.roles() == roles {
+            return Stopped::Told(peer);
+        }
+        failed.store(false, Ordering::SeqCst);
+        Stopped::Elsewhere
     }
 
     /// The console is to end.

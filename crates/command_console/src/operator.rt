@@ -22,14 +22,19 @@ impl<'a> Operator<'a> {
         let roles = self.hosts.roles();
         let (generation, primary, spares) = (roles.generation, roles.primary, self.hosts.spares());
         let Some(backup) = roles.backup else {
-            return format!(in self.alloc; "after generation {generation}: host {primary} runs alone; spare hosts: {spares}");
+            return format!(in self.alloc;
+                "after generation {generation}: host {primary} runs alone; spare hosts: {spares}"
+            );
         };
         let (lead, follow) = self.hosts.progress();
         let waiting = lead.entries.saturating_sub(lead.passed);
         let entries = lead.entries.saturating_sub(follow.passed);
         let steps = lead.steps.saturating_sub(follow.steps);
         let percent = self.hosts.link().percent();
-        format!(in self.alloc; "generation {generation}: host {primary} is the primary, host {backup} its backup; spare hosts: {spares}\r\nentries: {}, of which {waiting} wait for an acknowledgement; steps: {}\r\nthe backup is {entries} entries and {steps} steps behind; the link loses {percent} of 100 packets", lead.entries, lead.steps)
+        format!(in self.alloc;
+            "generation {generation}: host {primary} is the primary, host {backup} its backup; spare hosts: {spares}\r\nentries: {}, of which {waiting} wait for an acknowledgement; steps: {}\r\nthe backup is {entries} entries and {steps} steps behind; the link loses {percent} of 100 packets",
+            lead.entries, lead.steps
+        )
     }
 
     // The link loses so many of 100 packets from now on.
@@ -45,7 +50,9 @@ impl<'a> Operator<'a> {
                 format!(in self.alloc; "host {host} has failed, and host {peer} is told")
             }
             Stopped::Last => {
-                format!(in self.alloc; "host {host} is the only one that runs the machine: `quit` ends it")
+                format!(in self.alloc;
+                    "host {host} is the only one that runs the machine: `quit` ends it"
+                )
             }
             Stopped::Elsewhere => format!(in self.alloc; "host {host} does not run the machine"),
         }

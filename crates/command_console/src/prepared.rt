@@ -57,10 +57,7 @@ pub(crate) fn prepare<
     let workers = workers_of(alloc, asked, link, input, sent, sector, written)?;
     let mut later = Vec::new(alloc);
     for _ in 0..order.spares {
-        later.push(spare_host(
-            &order.link,
-            Callbacks::of(sent, sector, written),
-        )?)?;
+        later.push(spare_host(&order.link, Callbacks::of(sent, sector, written))?)?;
     }
     let (lines, ends) = rings(alloc)?;
     Ok(Prepared {

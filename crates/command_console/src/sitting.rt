@@ -102,7 +102,14 @@ fn run<B: Copies<K> + Send + Drop, K: Drop, D: SectorStore + Send, T: Threads + 
     } = machine;
     let mut steward = announcer;
     let end = run_pair_until_over(
-        rt, alloc, workers, lines, later, hosts, &mut steward, limits,
+        rt,
+        alloc,
+        workers,
+        lines,
+        later,
+        hosts,
+        &mut steward,
+        limits,
     );
     signs.stop();
     signs.show_all();

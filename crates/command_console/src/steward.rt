@@ -36,6 +36,9 @@ impl Steward for Announcer<'_> {
         let spares = self.hosts.spares();
         let roles = self.hosts.roles().after(event);
         self.hosts.change(roles, spares_after(spares, event));
+        if matches!(event, PairEvent::Won(_)) {
+            self.hosts.forget_failures();
+        }
         if self.hosts.is_over() {
             return;
         }
@@ -61,10 +64,14 @@ fn line_of(alloc: Global, event: PairEvent, roles: Roles) -> Result<String, Allo
             format!(in alloc; "\r\npair: host {primary} has won, and goes on alone\r\n")
         }
         (PairEvent::Begins(generation), Some(backup)) => {
-            format!(in alloc; "\r\npair: generation {generation}: host {primary} is the primary, host {backup} its backup\r\n")
+            format!(in alloc;
+                "\r\npair: generation {generation}: host {primary} is the primary, host {backup} its backup\r\n"
+            )
         }
         (PairEvent::Begins(_), None) | (PairEvent::Alone, _) => {
-            format!(in alloc; "\r\npair: no spare host is left; host {primary} goes on without a backup\r\n")
+            format!(in alloc;
+                "\r\npair: no spare host is left; host {primary} goes on without a backup\r\n"
+            )
         }
     }
 }

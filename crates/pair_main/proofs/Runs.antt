@@ -1,7 +1,7 @@
 -- What a command prints is what obeying its request leaves.
 use Rattle.std.proofs.Common.{◌≡◌, ℕ, Option, List, true, Result, Ok, Err, String, Global, string_bytes, inl, inr, refl, subst, sym}
 use Rattle.std.specs.Global.{Vec}
-use Rattle.command_console.specs.Console.{IsAtConsole}
+use Rattle.command_console.specs.Console.{IsAtConsole, IsOfRun}
 use Rattle.command_lint.specs.Linting.{Lints}
 use Rattle.command_live.specs.Living.{PrintsLive, typed_in}
 use Rattle.command_script.specs.Drawing.{Draws}
@@ -203,6 +203,11 @@ module _ {R W : Type 0} (remaining : R → Option (List ℕ)) (contents : W → 
       → IsObeyed remaining contents reader reader' writer writer' asked result
   obeys_shell asked result is h = named request.Shell asked result is (by_shell result h)
 
+  no_words : (text : String Global) → IsOfRun (failure.CommandLine text) → ⊥
+  no_words text (inl is) = absurd (let e : failure.CommandLine text ≡ failure.OutOfMemory = is in cc)
+  no_words text (inr (inl is)) = absurd (let e : failure.CommandLine text ≡ failure.InputOrOutput = is in cc)
+  no_words text (inr (inr is)) = absurd (let e : failure.CommandLine text ≡ failure.Stalled = is in cc)
+
   by_console : (how : ConsoleOrder) (result : Result (Unit {0}) Failure)
       → SitsAt how (remaining reader) (remaining reader') result (contents writer) (contents writer')
       → IsObeyed remaining contents reader reader' writer writer' (request.Console how) result
@@ -212,7 +217,7 @@ module _ {R W : Type 0} (remaining : R → Option (List ℕ)) (contents : W → 
   by_console how (Err failure.Stalled) h = h
   by_console how (Err failure.Differs) h = h
   by_console how (Err (failure.BadScript line)) h = inr h
-  by_console how (Err (failure.CommandLine text)) h = elim h.2.2 [ inl is ↦ absurd cc | inr more ↦ elim more [ inl is ↦ absurd cc | inr is ↦ absurd cc ] ]
+  by_console how (Err (failure.CommandLine text)) h = no_words text h.2
 
   pub obeys_console : (notes notes' : Option (List ℕ)) (asked : Request) (how : ConsoleOrder) (result : Result (Unit {0}) Failure)
       → asked ≡ request.Console how

@@ -81,10 +81,22 @@ fn obey<
     let mut streams = streams;
     let ended = match request {
         Request::Script(images) => {
-            run_order(alloc, Order::Script, images, &mut streams.reader, &mut streams.writer)
+            run_order(
+                alloc,
+                Order::Script,
+                images,
+                &mut streams.reader,
+                &mut streams.writer,
+            )
         }
         Request::Check(images) => {
-            run_order(alloc, Order::Check, images, &mut streams.reader, &mut streams.writer)
+            run_order(
+                alloc,
+                Order::Check,
+                images,
+                &mut streams.reader,
+                &mut streams.writer,
+            )
         }
         Request::Picture(images) => draw(alloc, images, &mut streams.reader, &mut streams.writer),
         Request::Lint => run_lint(alloc, &mut streams.reader, &mut streams.writer),

@@ -269,9 +269,9 @@ impl<B: Lockstep> Worker for BackupWorker<B> {
     ghost needs_others = { λ w. false };
 
     ghost stands = { λ w. Some (record {
-        entries = vec_len w.guest.list;
-        passed = w.guest.replayed;
-        steps = B.machine.count (B.state w.guest.board);
+      entries = vec_len w.guest.list;
+      passed = w.guest.replayed;
+      steps = B.machine.count (B.state w.guest.board);
     }) };
 
     fn turn(&mut self, fabric: &Fabric, number: u64, told: bool) -> R<Turn> {

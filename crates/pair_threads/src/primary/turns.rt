@@ -364,9 +364,9 @@ impl<B: Lockstep> Worker for PrimaryWorker<B> {
     ghost needs_others = { λ w. is_held_up w };
 
     ghost stands = { λ w. Some (record {
-        entries = vec_len w.list;
-        passed = w.seen;
-        steps = B.machine.count (B.state w.guest.board);
+      entries = vec_len w.list;
+      passed = w.seen;
+      steps = B.machine.count (B.state w.guest.board);
     }) };
 
     fn turn(&mut self, fabric: &Fabric, number: u64, told: bool) -> R<Turn> {

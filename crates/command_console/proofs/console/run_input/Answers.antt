@@ -14,10 +14,10 @@ session-streams-requires-clause-runs g c κs within =
     let new = c.drafted.result in
     let same = c.drafted.ensures in
     let begins = begins_so input.script.setup input.sectors.items input.script.lines.items old.primary.guest old.backup.guest
-        new.primary.board.guest new.backup.board.guest old.disk new.disk old.typed0.items old.typed1.items new.typed0.items
-        new.typed1.items (ap (λ (b : OnBoard). b.guest) same.guests.0) (ap (λ (b : OnBoard). b.guest) same.guests.1) same.disk
-        (ap (λ (v : Vec ℕ Global). v.items) same.typed.0) (ap (λ (v : Vec ℕ Global). v.items) same.typed.1)
-        c.in-Ok.ensures.begins in
+    new.primary.board.guest new.backup.board.guest old.disk new.disk old.typed0.items old.typed1.items new.typed0.items
+    new.typed1.items (ap (λ (b : OnBoard). b.guest) same.guests.0) (ap (λ (b : OnBoard). b.guest) same.guests.1) same.disk
+    (ap (λ (v : Vec ℕ Global). v.items) same.typed.0) (ap (λ (v : Vec ℕ Global). v.items) same.typed.1)
+    c.in-Ok.ensures.begins in
     record {
       guest = begins_as_guest (λ d. d.board.guest) input.script.setup input.sectors.items input.script.lines.items
           new.primary.board.guest new.backup.board.guest new.disk new.typed0.items new.typed1.items

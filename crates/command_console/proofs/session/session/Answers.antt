@@ -1,7 +1,4 @@
 -- What the threads came to is what was typed and seen.
-use Rattle.std.proofs.Common.{subst}
-use Rattle.std.specs.Prelude.{IfOk, OnOk}
-use Rattle.command_console.specs.Sitting.{HasRun}
 use Rattle.command_console.proofs.Sessions.{has_sat, of_ended, of_written}
 use Rattle.pair_generations.specs.Generations.{machine_at}
 use Rattle.command_console.proofs.session.session.Goals as goal
