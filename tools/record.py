@@ -1,9 +1,9 @@
 #!/usr/bin/env python3
 """Records a session at a console: what a terminal shows, with times, as asciinema's files have it (asciicast, version 2).
 
-usage: tools/record.py FILE.cast
+usage: tools/record.py FILE.cast [PROGRAM]     PROGRAM is ./pair, if it is not said, or crates/pair_main/out/pair_main
 
-A machine boots the monitor, prints memory, and goes on while two of its hosts fail. `asciinema play FILE.cast` shows it again.
+A machine boots the monitor, fills and prints memory, and goes on while two of its hosts fail and the link between them is cut. `asciinema play FILE.cast` shows it again.
 """
 
 import json
@@ -17,15 +17,19 @@ import time
 TOP = os.path.dirname(os.path.dirname(os.path.realpath(__file__)))
 COLUMNS, ROWS = 80, 24
 ESCAPE = "\x05"
-# What is waited for, and what is typed then.
+# What is waited for, and what is typed then. While the link is cut nothing appears.
 SESSION = [
-    ("*", "D0000\r"),
+    ("MONITOR\r\n*", "D 0000"),
     ("\r\n*", f"{ESCAPE}status\r"),
-    ("backup; spare", "F2000 200F 55"),
-    ("55", f"{ESCAPE}stop 0\r"),
-    ("generation 2", "D2000\r"),
+    ("of 100 packets", "F 2000 200F 55"),
+    ("\r\n*", "D 2000"),
+    ("\r\n2000 55", f"{ESCAPE}stop 0\r"),
+    ("generation 2", "D 2000"),
+    ("55\r\n*", f"{ESCAPE}cut\r"),
+    ("100 packets", "D 2000"),
+    (None, f"{ESCAPE}mend\r"),
     ("55\r\n*", f"{ESCAPE}stop 1\r"),
-    ("generation 3", "D2000\r"),
+    ("generation 3", "D 2000"),
     ("55\r\n*", f"{ESCAPE}quit\r"),
 ]
 # Between two keys, and before and after a line.
@@ -61,7 +65,9 @@ class Recording:
         return True
 
     def wait_for(self, text):
-        """Waits until this has been shown since it was last waited for."""
+        """Waits until this has been shown since it was last waited for, if anything is waited for."""
+        if text is None:
+            return
         until = time.time() + PATIENCE_SECONDS
         while text not in self.shown:
             if time.time() > until or not self.look(0.05):
@@ -75,8 +81,9 @@ class Recording:
             self.look(KEY_SECONDS)
 
 
-def main(path):
-    recording = Recording([f"{TOP}/pair", "console", "--spares", "2"])
+def main(path, program=None):
+    command = [f"{TOP}/tools/console.py", program] if program else [f"{TOP}/pair"]
+    recording = Recording([*command, "console", "--spares", "2"])
     for text, keys in SESSION:
         recording.wait_for(text)
         recording.look(PAUSE_SECONDS)
@@ -92,7 +99,7 @@ def main(path):
 
 
 if __name__ == "__main__":
-    if len(sys.argv) != 2 or sys.argv[1].startswith("-"):
+    if len(sys.argv) not in (2, 3) or sys.argv[1].startswith("-"):
         print(__doc__.strip())
         sys.exit(0 if sys.argv[1:] in (["--help"], ["-h"]) else 2)
-    main(sys.argv[1])
+    main(*sys.argv[1:])
