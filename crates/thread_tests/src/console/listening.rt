@@ -1,5 +1,5 @@
 //! What a listener hands on of some bytes that are typed: to both terminals, to an interpreter that records it, and to the display.
-ghost use Rattle.std.specs.Prelude.{◌≤◌, None};
+ghost use Rattle.std.specs.Prelude.{◌≤◌, None, Some};
 ghost use Rattle.rtrb.specs.Ring.{known_free};
 
 use super::paper::{Paper, come_out};
