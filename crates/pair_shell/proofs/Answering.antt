@@ -1,5 +1,5 @@
 -- A running session answers line after line, whatever world its pair shows.
-use Rattle.std.proofs.Common.{◌≡◌, ℕ, ◌++◌, ◌∷◌, Bool, true, Option, Some, None, List, [], refl, subst, sym, append-nil}
+use Rattle.std.proofs.Common.{◌≡◌, ℕ, ◌++◌, ◌∷◌, ◌∙◌, Bool, true, Option, Some, None, List, [], ap, refl, subst, sym, append-nil}
 use Rattle.std.specs.Prelude.{map}
 use Rattle.std.specs.List.{concat}
 use Rattle.std.specs.Io.KnownBytes.{Appends}
@@ -13,7 +13,7 @@ use Rattle.guest_parts.specs.Guest.{Guest}
 use Rattle.pair_check.proofs.Disks.{records_show, shows_records}
 use Rattle.pair_shell.specs.Looking.{IsSeen, IsSeenSaid, LooksIn}
 use Rattle.pair_shell.specs.Playing.{Plays}
-use Rattle.pair_shell.specs.Sessions.{AltairsPlay, BootsBy, HeedsSaid, IsAsBefore, is_quit, trace_after}
+use Rattle.pair_shell.specs.Sessions.{AltairsPlay, BootsBy, HeedsSaid, IsAsBefore, is_quit, is_run, trace_after}
 use Rattle.pair_shell.specs.declared.notes.Notes.{Notes}
 use Rattle.shared_disk.specs.Failing.{Disk, records_in}
 use Rattle.shell_book.specs.Outcomes.{is_ended}
@@ -29,9 +29,9 @@ use Rattle.shell_language.specs.declared.look.Look.{Look}
 use Rattle.shell_opening.specs.Openings.{SetsUpSaid}
 use Rattle.shell_opening.specs.declared.opening.Opening.{Opening}
 use Rattle.command_ending.proofs.Handing.{appends_on, keeps-appends, keeps_refl}
-use Rattle.pair_shell.specs.Answering.{AreAnswers, Boots, HasSeen, IsAnswer, Next, NoLine, PairPasses, Passes, Sees, SeesSaid, Sitting, begun}
-use Rattle.pair_shell.specs.Lines.{without_cr}
-use Rattle.pair_shell.specs.Running.{AnswersAll, AnswersEach, Desk, PairShows, sitting}
+use Rattle.pair_shell.specs.Answering.{AreAnswers, Boots, Further, GoesOn, HasSeen, IsAnswer, Next, NoLine, Once, PairPasses, Passes, Sees, SeesSaid, Sitting, begun}
+use Rattle.pair_shell.specs.Lines.{is_run_line, without_cr}
+use Rattle.pair_shell.specs.Running.{AnswersAll, AnswersEach, AnswersFurther, Desk, PairShows, sitting}
 
 -- ---- lines after others
 
@@ -45,6 +45,13 @@ are_then s mid new lines more answers others (Next {mid = v} {lines = ls} {answe
 passes_none : (opening : Opening) (pair : Option (Course Guest)) → PairPasses opening pair [] pair
 passes_none opening None = refl
 passes_none opening (Some c) = record { after = c.world; rows = Nothing; is = refl }
+
+-- one line, whose day goes on
+further : (line : List ℕ) (s mid new : Sitting) (answers : List (List ℕ)) (more : List ℕ) → is_run (said line) ≡ true
+    → AreAnswers s (line ∷ []) answers mid → GoesOn mid more new
+    → (answer : List ℕ) × (AreAnswers s (line ∷ []) (answer ∷ []) new × (concat answers ++ more ≡ answer))
+further line s mid new answers more is (Next {answer = answer} whole NoLine) on =
+    (answer ++ more, (Next (Further whole is on) NoLine, ap (λ a. a ++ more) (append-nil answer)))
 
 module _ {B H : Type 0} (guest : B → Guest) where
   pub each_none : (d : Desk B H) (old : Option (List ℕ)) → AnswersEach guest d [] old old d
@@ -238,6 +245,39 @@ module _ {B H : Type 0} (guest : B → Guest) where
         answers = answer ∷ [];
         pair = r.0;
         shows = r.1.0;
-        answered = Next (subst (λ t. IsAnswer t (sitting old pair) answer (sitting new r.0)) is r.1.1) NoLine;
+        answered = Next (Once (subst (λ t. IsAnswer t (sitting old pair) answer (sitting new r.0)) is r.1.1)) NoLine;
         written = subst (Appends before after) (sym (append-nil answer)) written;
+      }
+
+  -- ---- a day that goes on
+
+  pub further_none : (here : Desk B H) (line : List ℕ) (old : Option (List ℕ)) → AnswersFurther guest line here old old here
+  further_none here line old first before each = each
+
+  pub further_then : (a b c : Desk B H) (line : List ℕ) (old mid new : Option (List ℕ)) → AnswersFurther guest line a old mid b
+      → AnswersFurther guest line b mid new c → AnswersFurther guest line a old new c
+  further_then a b c line old mid new one next first before each = next first before (one first before each)
+
+  pub further_one : (here after : Desk B H) (line : List ℕ) (tape : List Played) (more : List ℕ) (old new : Option (List ℕ))
+      → is_run_line line ≡ true → AltairsPlay guest here.opening here.world tape after.world
+      → (here.is_traced ≡ true → Begins (trace_text tape) more) → after.opening ≡ here.opening → after.is_traced ≡ here.is_traced
+      → Appends old new more → AnswersFurther guest line here old new after
+  further_one here after line tape more old new is plays traced opening same written first before each pair shows =
+      let h = each pair shows in
+      let r = pair_passes here.opening here.world after.world tape h.pair h.shows plays in
+      let on : GoesOn (sitting here h.pair) more (sitting after r.0) = record {
+        tape = tape;
+        played = r.1.0;
+        traced = traced;
+        opening = opening;
+        is_traced = same;
+      } in
+      let f = further (without_cr line) (sitting first pair) (sitting here h.pair) (sitting after r.0) h.answers more is h.answered on in
+      record {
+        answers = f.0 ∷ [];
+        pair = r.0;
+        shows = r.1.1;
+        answered = f.1.0;
+        written = subst (Appends before new) (f.1.1 ∙ sym (append-nil f.0))
+            (appends_on before old new (concat h.answers) more h.written written);
       }

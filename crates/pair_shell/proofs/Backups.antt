@@ -1,5 +1,5 @@
 -- A node's status tells whether it is a backup, and who the backup of its day is.
-use Rattle.std.proofs.Common.{◌≡◌, ℕ, Bool, List, Option, Some, None, Result, Ok, Err, refl, subst, sym}
+use Rattle.std.proofs.Common.{◌≡◌, ℕ, Bool, List, Option, Some, None, Ok, Err, refl, subst, sym}
 use Rattle.std.specs.Prelude.{slice_get}
 use Rattle.ft_world.specs.Shows.{IsStatusAt}
 use Rattle.ft_world.specs.declared.hosts.NodeStatus.{NodeStatus}

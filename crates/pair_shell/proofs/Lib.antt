@@ -7,3 +7,5 @@ pub mod Tracing
 pub mod Answering
 pub mod Hearing
 pub mod Lines
+pub mod Loops
+pub mod Same

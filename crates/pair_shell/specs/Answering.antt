@@ -1,5 +1,5 @@
 -- What a session answers to its lines, one after another, and what each of them does to its pair.
-use Rattle.std.specs.Prelude.{◌≡◌, ℕ, Bool, true, false, List, [], ◌∷◌, Option, Some, None, map, slice_get, string_bytes}
+use Rattle.std.specs.Prelude.{◌≡◌, ℕ, Bool, true, false, List, [], ◌∷◌, ◌++◌, Option, Some, None, map, slice_get, string_bytes}
 use Rattle.std.specs.List.{concat}
 use Rattle.std.specs.Io.KnownBytes.{Appends}
 use Rattle.altair_copies.specs.Copies.{image_copy}
@@ -14,7 +14,7 @@ use Rattle.pair_protocol.specs.World.{World}
 use Rattle.pair_setup.specs.Booting.{HostsCome}
 use Rattle.pair_shell.specs.Looking.{look_rows}
 use Rattle.pair_shell.specs.Playing.{answers_of, events_of}
-use Rattle.pair_shell.specs.Sessions.{HeedsSaid, is_quit, trace_after}
+use Rattle.pair_shell.specs.Sessions.{HeedsSaid, is_quit, is_run, trace_after}
 use Rattle.shared_disk.specs.Records.{HasDrives, IsAtBoot, IsUnwritten}
 use Rattle.shared_disk.specs.declared.store.Record.{Record}
 use Rattle.shell_book.specs.Outcomes.{is_ended}
@@ -116,10 +116,24 @@ pub record IsAnswer (line : List ℕ) (old : Sitting) (answer : List ℕ) (new :
   pub left : outcome ≡ Refused → IsLeft tape old new
   pub ended : is_ended outcome ≡ is_quit (said line)
 
+-- more events have happened, as the tape says, and nothing else has changed; a trace of them comes first
+pub record GoesOn (old : Sitting) (answer : List ℕ) (new : Sitting) : Type 0 where
+  pub tape : List Played
+  pub played : PairPasses old.opening old.pair tape new.pair
+  pub traced : old.is_traced ≡ true → Begins (trace_text tape) answer
+  pub opening : new.opening ≡ old.opening
+  pub is_traced : new.is_traced ≡ old.is_traced
+
+-- the whole answer to a line: a day may go on after a pause, any number of times
+pub data IsWholeAnswer (line : List ℕ) (old : Sitting) : List ℕ → Sitting → Type 0 where
+  Once : {answer : List ℕ} {new : Sitting} → IsAnswer line old answer new → IsWholeAnswer line old answer new
+  Further : {answer more : List ℕ} {mid new : Sitting} → IsWholeAnswer line old answer mid → is_run (said line) ≡ true
+      → GoesOn mid more new → IsWholeAnswer line old (answer ++ more) new
+
 -- each line has its answer, by the session as the lines before it have left it
 pub data AreAnswers : Sitting → List (List ℕ) → List (List ℕ) → Sitting → Type 0 where
   NoLine : {s : Sitting} → AreAnswers s [] [] s
-  Next : {s mid new : Sitting} {line answer : List ℕ} {lines answers : List (List ℕ)} → IsAnswer line s answer mid
+  Next : {s mid new : Sitting} {line answer : List ℕ} {lines answers : List (List ℕ)} → IsWholeAnswer line s answer mid
       → AreAnswers mid lines answers new → AreAnswers s (line ∷ lines) (answer ∷ answers) new
 
 -- these lines were answered from here on, each by its answer and in order, and nothing else was written

@@ -9,3 +9,4 @@ pub mod Answering
 pub mod Hearing
 pub mod Lines
 pub mod Running
+pub mod Polling

@@ -1,6 +1,6 @@
 -- Which lines of an input are answered.
 use Rattle.std.specs.Prelude.{ℕ, ◌==◌, ◌-◌, ◌||◌, nat_lt, Bool, false, if◌then◌else◌, List, [], ◌∷◌, ◌++◌, length, take, bytes_eq}
-use Rattle.pair_shell.specs.Sessions.{is_quit}
+use Rattle.pair_shell.specs.Sessions.{is_quit, is_run}
 use Rattle.script_language.specs.Text.{end_of}
 use Rattle.shell_language.specs.Saying.{said}
 
@@ -11,6 +11,10 @@ without_cr line = if bytes_eq (end_of 1 line) (13 ∷ []) then take (length line
 -- it is `quit`
 abbrev pub is_quit_line : List ℕ → Bool
 is_quit_line line = is_quit (said (without_cr line))
+
+-- it is a day of the pair
+abbrev pub is_run_line : List ℕ → Bool
+is_run_line line = is_run (said (without_cr line))
 
 -- what is kept of a line with one more byte: no more than 65,538 bytes, which is too many for a line; 10 ends a line
 abbrev pub kept_with : List ℕ → ℕ → List ℕ

@@ -1,5 +1,5 @@
 -- What a running session has answered, whatever world its pair showed before.
-use Rattle.std.specs.Prelude.{ℕ, Bool, List, Option, Some, None, IfSome, Result, MatchResult, map}
+use Rattle.std.specs.Prelude.{ℕ, Bool, List, [], ◌∷◌, Option, Some, None, IfSome, Result, MatchResult, map}
 use Rattle.std.specs.List.{concat}
 use Rattle.std.specs.Io.KnownBytes.{Appends}
 use Rattle.ft_world.specs.Applies.{Shows}
@@ -47,6 +47,11 @@ abbrev pub AnswersEach : {B H : Type 0} → (B → Guest) → Desk B H → List 
     → Type 0
 AnswersEach guest before lines old new after = (pair : Option (Course Guest)) → PairShows guest before.world pair
     → HasAnswered guest (sitting before pair) lines old new after
+
+-- whatever was answered to a line so far, this was its answer, with what was written since
+abbrev pub AnswersFurther : {B H : Type 0} → (B → Guest) → List ℕ → Desk B H → Option (List ℕ) → Option (List ℕ) → Desk B H → Type 0
+AnswersFurther {B = B} {H = H} guest line here old new after = (first : Desk B H) (before : Option (List ℕ))
+    → AnswersEach guest first (line ∷ []) before old here → AnswersEach guest first (line ∷ []) before new after
 
 -- a session over an input that ended like this, from here on; nothing is claimed of the lines if it is not known what a reader has
 abbrev pub AnswersAll : {B H : Type 0} → (B → Guest) → Desk B H → List (List ℕ) → Option (List ℕ) → Option (List ℕ) → Type 0

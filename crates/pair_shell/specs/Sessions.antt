@@ -57,6 +57,11 @@ abbrev pub is_quit : Option ShellLine → Bool
 is_quit (Some shell.Quit) = true
 is_quit _ = false
 
+-- a line is a day of the pair
+abbrev pub is_run : Option ShellLine → Bool
+is_run (Some (shell.Run turns)) = true
+is_run _ = false
+
 -- a line is one of the setup
 abbrev pub is_setup : Option ShellLine → Bool
 is_setup (Some (shell.Setup word words)) = true

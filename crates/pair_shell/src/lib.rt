@@ -7,6 +7,7 @@ mod lists;
 mod machine;
 mod notes;
 mod play;
+mod polling;
 mod running;
 mod session;
 mod shell;

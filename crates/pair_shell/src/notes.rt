@@ -8,6 +8,8 @@ ghost use Rattle.shell_book.specs.Tapes.{Begins, IsAnswered, Traces, trace_text}
 
 use crate::asked::{keys_of, left};
 use crate::play::{KEPT, play, play_one};
+use crate::polling::MayPoll;
+use crate::running::Left;
 use crate::showing::{check, show_sector};
 use clone_state::Copies;
 use event_callbacks::PORTS;
@@ -29,6 +31,8 @@ pub struct Notes {
     pub book: Book,
     pub tape: Vec<Played>,
     pub past: Vec<Moment>,
+    // A day that has paused.
+    pub left: Option<Left>,
     // How many bytes of each terminal were shown as text.
     shown: [usize; PORTS],
 }
@@ -40,12 +44,13 @@ impl Notes {
             book: Book::new(alloc),
             tape: Vec::new(alloc),
             past: Vec::new(alloc),
+            left: None,
             shown: [0; PORTS],
         }
     }
 
     /// Does what a line says, other than one of the setup. The tape has the events that it made.
-    pub fn take<B: Copies<H> + Drop, H: Drop>(
+    pub fn take<B: Copies<H> + MayPoll + Drop, H: Drop>(
         &mut self,
         alloc: Global,
         opening: &Opening,
@@ -72,7 +77,7 @@ impl Notes {
 
     // Makes everything go that has not gone yet, if the line is one of those that ask for that.
     #[tactic(auto, using(crate::proofs::Playing::plays_nothing, crate::proofs::Tracing::begins_nothing))]
-    fn take_all<B: Copies<H> + Drop, H: Drop>(
+    fn take_all<B: Copies<H> + MayPoll + Drop, H: Drop>(
         &mut self,
         alloc: Global,
         opening: &Opening,
@@ -141,7 +146,7 @@ impl Notes {
 
     // Types a text at a port.
     #[tactic(auto, using(crate::proofs::Playing::plays_nothing, crate::proofs::Tracing::begins_nothing))]
-    fn type_text<B: Copies<H> + Drop, H: Drop>(
+    fn type_text<B: Copies<H> + MayPoll + Drop, H: Drop>(
         &mut self,
         alloc: Global,
         world: &mut World<B, Disk, H>,
@@ -219,7 +224,7 @@ impl Notes {
 
     // Several events, answered together.
     #[tactic(auto, using(crate::proofs::Playing::plays_nothing, crate::proofs::Tracing::begins_nothing, crate::proofs::Tracing::begins_trace, crate::proofs::Tracing::begins_more))]
-    fn happen_all<B: Copies<H> + Drop, H: Drop>(
+    fn happen_all<B: Copies<H> + MayPoll + Drop, H: Drop>(
         &mut self,
         alloc: Global,
         world: &mut World<B, Disk, H>,
@@ -236,19 +241,19 @@ impl Notes {
         print_sum(&self.tape, printed)
     }
 
-    // Makes the events of a plan happen, and traces them.
-    pub(crate) fn play<B: Copies<H> + Drop, H: Drop>(
+    // Makes the events of a plan happen, and traces them. Whether the plan has come to its end.
+    pub(crate) fn play<B: Copies<H> + MayPoll + Drop, H: Drop>(
         &mut self,
         alloc: Global,
         world: &mut World<B, Disk, H>,
         plan: &mut Plan,
         printed: &mut Printed,
-    ) -> Result<(), AllocError>
+    ) -> Result<bool, AllocError>
         ensures played { Plays B.state B.copied B.machine world.old self.new.tape.items world.new }
         ensures traced { IfOk result (λ _. Traces printed.old.is_traced self.new.tape.items
             (string_bytes printed.old.text) (string_bytes printed.new.text)) }
     {
-        play(
+        let is_over = play(
             alloc,
             world,
             &mut self.book,
@@ -256,7 +261,8 @@ impl Notes {
             &mut self.tape,
             &mut self.past,
         )?;
-        printed.trace(&self.tape)
+        printed.trace(&self.tape)?;
+        Ok(is_over)
     }
 }
 

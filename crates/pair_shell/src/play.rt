@@ -1,12 +1,15 @@
 //! Events that happen in a pair, one after another, and what was answered to each.
-ghost use Rattle.std.specs.Prelude.{◌≡◌, ◌<◌, [], ◌∷◌, ◌++◌, IfOk, cond, nat_lt, vec_capacity, vec_len};
+ghost use Rattle.std.specs.Prelude.{◌≡◌, ◌⊎◌, ◌<◌, [], ◌∷◌, ◌++◌, IfOk, None, cond, nat_lt, option_map, vec_capacity, vec_len};
+ghost use Rattle.std.specs.Option.{option_and_then};
 ghost use Rattle.ft_world.specs.Applies.{Happens, Shows};
 ghost use Rattle.ft_world.specs.Standing.{Course};
 ghost use Rattle.shared_disk.specs.Failing.{records_in};
 ghost use Rattle.pair_shell.specs.Books.{IsNoted, brings_in, brought_by, sent_in};
 ghost use Rattle.pair_shell.specs.Playing.{Lengthens, Plays};
 ghost use Rattle.shell_book.specs.Tapes.{played};
+ghost use Rattle.shell_day.specs.Rounds.{left_waiting, rested};
 
+use crate::polling::MayPoll;
 use clone_state::Copies;
 use ft_world::{Message, World};
 use i8080_words::R;
@@ -22,28 +25,65 @@ use std::alloc::{AllocError, Global};
 /// keep two thousand bytes for each byte that it prints.
 pub const KEPT: usize = 200_000;
 
+// After so many events a day pauses, so that its tape is no longer than that.
+const MOST_TAPED: usize = 1_000_000;
+
 /// Makes the events of a plan happen, one after another, each chosen when the one before it was answered. The tape has
-/// exactly these afterwards, with their answers; also if memory for the next one is refused.
+/// exactly these afterwards, with their answers; also if memory for the next one is refused. A day ends once its guest polls with
+/// nothing left to do for it, and pauses after a million events. Whether the plan has come to its end.
 #[tactic(auto, using(crate::proofs::Playing::plays_nothing))]
-pub fn play<B: Copies<H> + Drop, H: Drop>(
+pub fn play<B: Copies<H> + MayPoll + Drop, H: Drop>(
     alloc: Global,
     world: &mut World<B, Disk, H>,
     book: &mut Book,
     plan: &mut Plan,
     tape: &mut Vec<Played>,
     past: &mut Vec<Moment>,
-) -> Result<(), AllocError>
+) -> Result<bool, AllocError>
     ensures { Plays B.state B.copied B.machine world.old tape.new.items world.new }
 {
     tape.clear();
     'events: for _ in 0..u64::MAX {
         let Some(event) = plan.next(book)? else {
-            return Ok(());
+            return Ok(true);
         };
         let answer = play_next(alloc, world, book, event, tape, past)?;
         plan.hear(event, answer);
+        rest_if_polling(world, book, event, plan);
+        if tape.len() >= MOST_TAPED && plan.may_pause(event) {
+            return Ok(false);
+        }
     }
-    Ok(())
+    Ok(false)
+}
+
+// A day ends if its guest polls after this event, and nothing is left to do for it.
+fn rest_if_polling<B: Copies<H> + MayPoll + Drop, H: Drop>(
+    world: &World<B, Disk, H>,
+    book: &Book,
+    event: Event,
+    plan: &mut Plan,
+)
+    ensures busy { option_and_then (λ day. left_waiting event day book.now) plan.old.day ≡ None → plan.new ≡ plan.old }
+    ensures rests { (plan.new ≡ plan.old) ⊎ (plan.new ≡ record plan.old { day = option_map rested plan.old.day }) }
+{
+    let Some(node) = plan.left_waiting(event, book) else {
+        return;
+    };
+    if is_polling(world, node) {
+        plan.rest();
+    }
+}
+
+// Whether the guest of a node polls.
+fn is_polling<B: Copies<H> + MayPoll + Drop, H: Drop>(
+    world: &World<B, Disk, H>,
+    node: u64,
+) -> bool {
+    match world.guest(node) {
+        Some(guest) => guest.is_polling(),
+        None => false,
+    }
 }
 
 /// Makes one event happen. The tape has it alone afterwards, with its answer; nothing if memory for it is refused.

@@ -1,5 +1,5 @@
 //! The ordinary day of a pair.
-ghost use Rattle.std.specs.Prelude.{◌≡◌, ◌++◌, [], true, IfOk, string_bytes};
+ghost use Rattle.std.specs.Prelude.{◌≡◌, ◌++◌, [], true, IfOk, is_some, string_bytes};
 ghost use Rattle.ft_world.specs.Applies.{Shows};
 ghost use Rattle.ft_world.specs.Standing.{Course};
 ghost use Rattle.shared_disk.specs.Failing.{records_in};
@@ -12,6 +12,7 @@ ghost use Rattle.shell_book.specs.Tapes.{Begins, trace_text};
 ghost use Rattle.shell_picture.specs.HeldUp.{held_rows};
 
 use crate::notes::Notes;
+use crate::polling::MayPoll;
 use clone_state::Copies;
 use ft_world::{NodeStatus, World};
 use i8080_words::{Fault, R};
@@ -24,10 +25,18 @@ use shell_opening::Opening;
 use shell_picture::{print_held_up, print_refusal};
 use std::alloc::{AllocError, Global};
 
+/// A day that has paused: what it is to play, the node that runs the guest, and its backup if it has one.
+#[derive(Drop)]
+pub struct Left {
+    plan: Plan,
+    node: u64,
+    backup: Option<u64>,
+}
+
 impl Notes {
-    /// The ordinary day of a pair.
+    /// The ordinary day of a pair, or the first of its events.
     #[tactic(auto, using(crate::proofs::Playing::plays_nothing, crate::proofs::Tracing::begins_nothing))]
-    pub(crate) fn run<B: Copies<H> + Drop, H: Drop>(
+    pub(crate) fn run<B: Copies<H> + MayPoll + Drop, H: Drop>(
         &mut self,
         alloc: Global,
         opening: &Opening,
@@ -41,8 +50,41 @@ impl Notes {
             → Begins (trace_text self.new.tape.items) (string_bytes printed.new.text)) }
     {
         match self.backup_for(alloc, opening, world, turns.node)? {
-            Ok(backup) => self.play_day(alloc, world, turns, backup, printed),
+            Ok(backup) => {
+                let day = Left {
+                    plan: Plan::day(alloc, Day::new(alloc, turns, backup)),
+                    node: turns.node,
+                    backup,
+                };
+                self.play_day(alloc, world, day, printed)
+            }
             Err(fault) => print_refusal(fault, printed),
+        }
+    }
+
+    /// Whether a day has paused.
+    pub(crate) fn goes_on(&self) -> bool
+        ensures { result ≡ is_some self.now.left }
+    {
+        self.left.is_some()
+    }
+
+    /// Goes on with a day that has paused, if there is one.
+    #[tactic(auto, using(crate::proofs::Playing::plays_nothing, crate::proofs::Tracing::begins_nothing))]
+    pub(crate) fn go_on<B: Copies<H> + MayPoll + Drop, H: Drop>(
+        &mut self,
+        alloc: Global,
+        world: &mut World<B, Disk, H>,
+        printed: &mut Printed,
+    ) -> Result<(), AllocError>
+        requires { self.old.tape.items ≡ [] }
+        ensures played { Plays B.state B.copied B.machine world.old self.new.tape.items world.new }
+        ensures traced { IfOk result (λ _. printed.old.is_traced ≡ true → string_bytes printed.old.text ≡ []
+            → Begins (trace_text self.new.tape.items) (string_bytes printed.new.text)) }
+    {
+        match self.left.take() {
+            Some(day) => self.play_day(alloc, world, day, printed),
+            None => Ok(()),
         }
     }
 
@@ -76,23 +118,26 @@ impl Notes {
         }
     }
 
-    // A day of so many turns, and how it has gone.
-    fn play_day<B: Copies<H> + Drop, H: Drop>(
+    // Plays a day until it pauses or ends, and says how it has gone if it has ended.
+    fn play_day<B: Copies<H> + MayPoll + Drop, H: Drop>(
         &mut self,
         alloc: Global,
         world: &mut World<B, Disk, H>,
-        turns: Turns,
-        backup: Option<u64>,
+        mut day: Left,
         printed: &mut Printed,
     ) -> Result<(), AllocError>
         ensures played { Plays B.state B.copied B.machine world.old self.new.tape.items world.new }
         ensures traced { IfOk result (λ _. printed.old.is_traced ≡ true → string_bytes printed.old.text ≡ []
             → Begins (trace_text self.new.tape.items) (string_bytes printed.new.text)) }
     {
-        let mut plan = Plan::day(alloc, Day::new(alloc, turns, backup));
-        self.play(alloc, world, &mut plan, printed)?;
-        let count = count_of(world, turns.node);
-        print_day(&plan, count, backup, &self.tape, &self.book, printed)
+        if !self.play(alloc, world, &mut day.plan, printed)? {
+            self.left = Some(day);
+            return Ok(());
+        }
+        let count = count_of(world, day.node);
+        print_day(
+            &day.plan, count, day.backup, &self.tape, &self.book, printed,
+        )
     }
 }
 

@@ -54,7 +54,7 @@ impl<T: Completes + Drop + Copy, S: Completes + Drop + Copy, W: Completes + Drop
 
     /// Answers a line, which is without its LF and a CR before that. What it makes happen is on the tape, event by event,
     /// each with its answer; a trace says it line by line. A line that is wrong changes nothing. One that is an event of the
-    /// script language makes that event alone, and is answered as a script is.
+    /// script language makes that event alone, and is answered as a script is. A day may pause; it goes on with `go_on`.
     #[tactic(auto, using(crate::proofs::Playing::line_plays_nothing, crate::proofs::Tracing::begins_nothing, crate::proofs::Tracing::heeds_said, crate::proofs::Looking::seen_said, crate::proofs::Tracing::ends_said, crate::proofs::Tracing::ends_not, crate::proofs::Tracing::sets_up_said, crate::proofs::Tracing::switches, crate::proofs::Tracing::switches_not, crate::proofs::Tracing::late_said))]
     pub fn answer(
         &mut self,
@@ -92,6 +92,31 @@ impl<T: Completes + Drop + Copy, S: Completes + Drop + Copy, W: Completes + Drop
             Err(mistake) => refuse(mistake, &mut printed)?,
         };
         Ok((outcome, printed.into_text()))
+    }
+
+    /// Whether the day of the last line has paused.
+    pub fn goes_on(&self) -> bool
+        ensures { result ≡ is_some self.now.notes.left }
+    {
+        self.notes.goes_on()
+    }
+
+    /// Goes on with a day that has paused. What it makes happen is on the tape; a trace says it line by line.
+    #[tactic(auto, using(crate::proofs::Playing::line_plays_nothing, crate::proofs::Playing::line_plays, crate::proofs::Tracing::begins_nothing))]
+    pub fn go_on(&mut self, alloc: Global) -> Result<String, AllocError>
+        ensures played { AltairsPlay (λ d. d.board.guest) self.old.opening self.old.world self.new.notes.tape.items
+            self.new.world }
+        ensures traced { IfOk result (λ told. self.old.is_traced ≡ true
+            → Begins (trace_text self.new.notes.tape.items) (string_bytes told)) }
+        ensures opening { self.new.opening ≡ self.old.opening }
+        ensures switched { self.new.is_traced ≡ self.old.is_traced }
+    {
+        self.notes.tape.clear();
+        let mut printed = Printed::new(alloc, self.is_traced);
+        if let Some(world) = &mut self.world {
+            self.notes.go_on(alloc, world, &mut printed)?;
+        }
+        Ok(printed.into_text())
     }
 
     // Does what a line says.

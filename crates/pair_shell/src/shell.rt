@@ -1,10 +1,10 @@
 //! The shell over a reader and a writer: each line is answered before more is read.
-ghost use Rattle.std.specs.Prelude.{◌≡◌, ◌≤◌, ◌∷◌, [], IfErr, IfOk, IfSome, MatchOption, OnOk, false, take};
+ghost use Rattle.std.specs.Prelude.{◌≡◌, ◌≤◌, ◌∷◌, [], IfErr, IfOk, IfSome, MatchOption, OnOk, false, true, take};
 ghost use Rattle.std.specs.Io.KnownBytes.{Appends, Consumes, IsAtEnd};
 ghost use Rattle.event_callbacks.specs.declared.devices.TheConstants.{SENT, SECTOR, WRITTEN};
 ghost use Rattle.event_callbacks.specs.Keeping.{Keeps};
-ghost use Rattle.pair_shell.specs.Lines.{after_byte, byte_ends, ends_in, heard_at, heard_in, is_quit_line, kept_in, kept_with, last_line, without_cr};
-ghost use Rattle.pair_shell.specs.Running.{AnswersEach, HearsFrom, desk};
+ghost use Rattle.pair_shell.specs.Lines.{after_byte, byte_ends, ends_in, heard_at, heard_in, is_quit_line, is_run_line, kept_in, kept_with, last_line, without_cr};
+ghost use Rattle.pair_shell.specs.Running.{AnswersEach, AnswersFurther, HearsFrom, desk};
 ghost use Rattle.pair_shell.specs.Hearing.{Answers, Hears};
 ghost use Rattle.shell_book.specs.Outcomes.{is_ended};
 ghost use Rattle.command_ending.specs.declared.failure.Failure.TheVariants as failure;
@@ -13,7 +13,7 @@ use crate::session::Session;
 use command_ending::Failure;
 use event_callbacks::Completes;
 use shell_book::Outcome;
-use shell_language::LINE_BYTES;
+use shell_language::{LINE_BYTES, ShellLine, read_line};
 use std::alloc::Global;
 use std::io::{ErrorKind, Read, Write};
 
@@ -234,9 +234,43 @@ fn answer_last<
     Ok(())
 }
 
-// Answers a line, and writes the answer at once.
-#[tactic(auto, using(crate::proofs::Hearing::writes_none, crate::proofs::Hearing::wrote))]
+// Answers a line, and writes the answer at once. If it is a day that pauses, it goes on.
+#[tactic(auto, using(crate::proofs::Hearing::answers_until))]
 fn answer<
+    T: Completes + Drop + Copy,
+    S: Completes + Drop + Copy,
+    W: Completes + Drop + Copy,
+    O: Write + Drop,
+>(
+    alloc: Global,
+    session: &mut Session<T, S, W>,
+    line: &[u8],
+    writer: &mut O,
+    sent: T,
+    sector: S,
+    written: W,
+) -> Result<Outcome, Failure>
+    requires sent { Keeps (T.may sent) (T.gives sent) SENT }
+    requires sector { Keeps (S.may sector) (S.gives sector) SECTOR }
+    requires written { Keeps (W.may written) (W.gives written) WRITTEN }
+    ensures written { Answers result (O.contents writer.old) (O.contents writer.new) }
+    ensures heard { IfOk result (λ _. AnswersEach (λ d. d.board.guest)
+        (desk session.old.opening session.old.world session.old.is_traced) (line.now ∷ [])
+        (O.contents writer.old) (O.contents writer.new)
+        (desk session.new.opening session.new.world session.new.is_traced)) }
+    ensures ended { IfOk result (λ told. is_ended told ≡ is_quit_line line.now) }
+{
+    let outcome = begin(alloc, session, line, writer, sent, sector, written)?;
+    if !is_run_line(line) {
+        return Ok(outcome);
+    }
+    go_on(alloc, session, line, writer)?;
+    Ok(outcome)
+}
+
+// Answers a line, up to a pause of its day, and writes the answer at once.
+#[tactic(auto, using(crate::proofs::Hearing::writes_none, crate::proofs::Hearing::wrote))]
+fn begin<
     T: Completes + Drop + Copy,
     S: Completes + Drop + Copy,
     W: Completes + Drop + Copy,
@@ -263,6 +297,37 @@ fn answer<
     let (outcome, answered) = session.answer(alloc, sent, sector, written, without_cr(line))?;
     write(&answered, writer)?;
     Ok(outcome)
+}
+
+// Goes on with the day of a line until it has ended, and writes at once what is answered.
+#[tactic(auto, using(crate::proofs::Hearing::writes_none, crate::proofs::Hearing::wrote, crate::proofs::Hearing::writes_more))]
+fn go_on<
+    T: Completes + Drop + Copy,
+    S: Completes + Drop + Copy,
+    W: Completes + Drop + Copy,
+    O: Write + Drop,
+>(alloc: Global, session: &mut Session<T, S, W>, line: &[u8], writer: &mut O) -> Result<(), Failure>
+    requires { is_run_line line.now ≡ true }
+    ensures written { Answers result (O.contents writer.old) (O.contents writer.new) }
+    ensures further { IfOk result (λ _. AnswersFurther (λ d. d.board.guest) line.now
+        (desk session.old.opening session.old.world session.old.is_traced) (O.contents writer.old)
+        (O.contents writer.new) (desk session.new.opening session.new.world session.new.is_traced)) }
+{
+    'pauses: for _ in 0..u64::MAX {
+        if !session.goes_on() {
+            return Ok(());
+        }
+        let answered = session.go_on(alloc)?;
+        write(&answered, writer)?;
+    }
+    Ok(())
+}
+
+// Whether a line is a day of the pair.
+fn is_run_line(line: &[u8]) -> bool
+    ensures { result ≡ is_run_line line.now }
+{
+    matches!(read_line(without_cr(line)), Ok(ShellLine::Run(_)))
 }
 
 // Writes an answer at once.

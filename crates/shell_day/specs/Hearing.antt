@@ -1,5 +1,5 @@
 -- What a day notes of the answers to its events.
-use Rattle.std.specs.Prelude.{ℕ, zero, suc, ◌+◌, ◌-◌, ◌*◌, ◌%◌, ◌^◌, ◌==◌, ◌&&◌, nat_le, min, Bool, true, false, if◌then◌else◌, Option, Some, None, is_none, Result, Ok, Err, is_ok}
+use Rattle.std.specs.Prelude.{ℕ, zero, suc, ◌+◌, ◌-◌, ◌*◌, ◌%◌, ◌^◌, ◌==◌, ◌&&◌, nat_le, min, Bool, true, false, if◌then◌else◌, Some, is_none, Result, Ok, Err, is_ok}
 use Rattle.event_callbacks.specs.declared.operations.OpId.{OpId}
 use Rattle.event_callbacks.specs.declared.operations.OpId.TheVariants as id
 use Rattle.guest_lockstep.specs.declared.replay_end.ReplayEnd.TheVariants.{Wait}
@@ -18,7 +18,7 @@ use Rattle.shell_day.specs.declared.ending.Ending.TheVariants.{Turns, Events, Re
 abbrev pub added : ℕ → ℕ → ℕ
 added n more = min (n + more) (2 ^ 64 - 1)
 
--- one more event has happened; the millionth ends the day
+-- one more event has happened; the millionth without a step of the guest ends the day
 abbrev pub counted : Day → Day
 counted day = record day {
   events = added day.events 1;
@@ -33,6 +33,7 @@ refused fault day = record day { ending = Some (Refused fault) }
 -- the guest has made steps
 abbrev pub stepped : ℕ → Day → Day
 stepped steps day = record day {
+  events = if steps == 0 then day.events else 0;
   made = added day.made steps;
   since_key0 = added day.since_key0 steps;
   since_key1 = added day.since_key1 steps;

@@ -1,10 +1,13 @@
 -- A round of the ordinary day: the order of its parts, which of them comes next, and when the day is over. docs/SHELL.md has
 -- a round in words.
-use Rattle.std.specs.Prelude.{ℕ, ◌-◌, ◌==◌, ◌&&◌, ◌||◌, nat_lt, Bool, true, false, not, if◌then◌else◌, Option, Some, None, is_some, length, vec_len}
+use Rattle.std.specs.Prelude.{ℕ, ◌-◌, ◌==◌, ◌&&◌, ◌||◌, nat_lt, Bool, true, false, not, if◌then◌else◌, Option, Some, None, is_none, is_some, vec_len}
 use Rattle.std.specs.List.{list_any}
+use Rattle.pair_events.specs.declared.event.Event.{Event}
+use Rattle.pair_events.specs.declared.event.Event.TheVariants as event
 use Rattle.shell_book.specs.declared.book.Book.{Book}
 use Rattle.shell_book.specs.declared.book.PortNotes.{PortNotes}
 use Rattle.shell_day.specs.declared.day.Day.{Day}
+use Rattle.shell_day.specs.declared.ending.Ending.TheVariants.{Polls}
 use Rattle.shell_day.specs.declared.phase.Phase.{Phase}
 use Rattle.shell_day.specs.declared.phase.Phase.TheVariants.{Keys, Get, Under, Step, Send, Log, Acknowledge, Acknowledged, Replay, Fetch, Fetched, Tell, Release, Arrive, Complete}
 
@@ -34,6 +37,27 @@ is_out notes = nat_lt notes.heard notes.sent
 abbrev pub is_open : Option ℕ → Book → Bool
 is_open backup book =
     (is_some backup && nat_lt book.held book.logged) || (list_any is_out book.ports || not (vec_len book.undone == 0))
+
+-- keys of a port wait at its terminal
+abbrev pub is_typed : PortNotes → Bool
+is_typed notes = nat_lt notes.taken notes.typed
+
+-- the node that has just made steps in a day that goes on, if nothing is left to do that could give its guest an input
+abbrev pub has_nothing_left : Day → Book → Bool
+has_nothing_left day book = is_none day.ending && (not (is_open day.backup book) && not (list_any is_typed book.ports))
+
+abbrev pub left_waiting : Event → Day → Book → Option ℕ
+left_waiting (event.Step node turns) day book = if has_nothing_left day book then Some node else None
+left_waiting _ day book = None
+
+-- A day that goes on may pause after steps: what else its round has is still to come, and then a new one.
+abbrev pub may_pause : Event → Day → Bool
+may_pause (event.Step node turns) day = is_none day.ending
+may_pause _ day = false
+
+-- its guest polls: the day ends
+abbrev pub rested : Day → Day
+rested day = record day { ending = Some Polls }
 
 -- a round would begin, and the day has ended; the terminals would be told, and the backup has been handed a sector
 abbrev pub is_begin : Phase → Bool

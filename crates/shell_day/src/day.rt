@@ -2,7 +2,7 @@
 ghost use Rattle.std.specs.Prelude.{◌≡◌, ◌==◌, [], IfOk, None, Some, false, is_some, if◌then◌else◌, unwrap_or};
 ghost use Rattle.shell_day.specs.Links.{loss_of, seeded};
 ghost use Rattle.shell_day.specs.Parts.{Fills};
-ghost use Rattle.shell_day.specs.Rounds.{after, begun, is_begin, is_open, is_out, is_telling, part_next};
+ghost use Rattle.shell_day.specs.Rounds.{after, begun, has_nothing_left, is_begin, is_open, is_out, is_telling, is_typed, left_waiting, may_pause, part_next, rested};
 ghost use Rattle.shell_day.specs.declared.ending.Ending.TheVariants as ends;
 ghost use Rattle.shell_day.specs.declared.phase.Phase.TheVariants as round;
 ghost use Rattle.std.specs.List.{list_any};
@@ -165,6 +165,36 @@ impl Day {
         Some(part)
     }
 
+    /// The node that has just made steps, if nothing is left to do that could give its guest an input, and the day goes on.
+    pub fn left_waiting(&self, event: Event, book: &Book) -> Option<u64>
+        ensures { result ≡ left_waiting event self.now book.now }
+    {
+        match event {
+            Event::Step { node, .. } if self.has_nothing_left(book) => Some(node),
+            _ => None,
+        }
+    }
+
+    fn has_nothing_left(&self, book: &Book) -> bool
+        ensures { result ≡ has_nothing_left self.now book.now }
+    {
+        self.ending.is_none() && !self.is_open(book) && !is_any_typed(&book.ports)
+    }
+
+    /// Its guest polls, and nothing is left to do: the day ends.
+    pub fn rest(&mut self)
+        ensures { self.new ≡ rested self.old }
+    {
+        self.ending = Some(Ending::Polls);
+    }
+
+    /// Whether the day may pause after this event: it goes on, and a whole round is still to come.
+    pub fn may_pause(&self, event: Event) -> bool
+        ensures { result ≡ may_pause event self.now }
+    {
+        matches!(event, Event::Step { .. }) && self.ending.is_none()
+    }
+
     // Whether something is on its way.
     fn is_open(&self, book: &Book) -> bool
         ensures { result ≡ is_open self.now.backup book.now }
@@ -179,6 +209,13 @@ fn is_any_out(ports: &[PortNotes]) -> bool
     ensures { result ≡ list_any is_out ports.now }
 {
     ports.iter().any(|notes| notes.heard < notes.sent)
+}
+
+// Whether keys of a port wait at its terminal.
+fn is_any_typed(ports: &[PortNotes]) -> bool
+    ensures { result ≡ list_any is_typed ports.now }
+{
+    ports.iter().any(|notes| notes.taken < notes.typed)
 }
 
 fn is_begin(part: Phase) -> bool

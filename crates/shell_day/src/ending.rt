@@ -8,10 +8,12 @@ use std::fmt;
 pub enum Ending {
     /// All turns were made.
     Turns,
-    /// As many events have happened as a day may have.
+    /// As many events have happened without a step of the guest as may.
     Events,
     /// The guest waits for an interrupt, and there is none for it: no key was typed that it has not taken.
     WaitsForKey,
+    /// The guest only looks, again and again, whether a key has come, and nothing is left to do for it.
+    Polls,
     /// The node was refused a turn.
     Refused(Fault),
 }
@@ -27,6 +29,7 @@ impl fmt::Display for Ending {
             Ending::Turns => f.write_str("turns"),
             Ending::Events => f.write_str("events"),
             Ending::WaitsForKey => f.write_str("waits for a key"),
+            Ending::Polls => f.write_str("polls"),
             Ending::Refused(fault) => write!(f, "refused {}", fault.number()),
         }
     }

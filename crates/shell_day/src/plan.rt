@@ -1,7 +1,9 @@
 //! Which events a line makes: a list of them, or those of a day, each chosen when the one before it was answered.
-ghost use Rattle.std.specs.Prelude.{◌≡◌, ◌+◌, ◌<◌, ◌≤◌, [], IfOk, IfSome, None, Some, if◌then◌else◌, is_some, option_map, slice_get, length};
+ghost use Rattle.std.specs.Prelude.{◌≡◌, ◌+◌, ◌<◌, ◌≤◌, [], IfOk, IfSome, None, Some, false, if◌then◌else◌, is_some, option_map, slice_get, length};
 ghost use Rattle.shell_day.specs.Hearing.{counted, heard};
 ghost use Rattle.shell_day.specs.Plans.{GivesFirst};
+ghost use Rattle.shell_day.specs.Rounds.{left_waiting, may_pause, rested};
+ghost use Rattle.std.specs.Option.{option_and_then, option_map_or};
 
 use crate::day::Day;
 use i8080_words::R;
@@ -88,6 +90,35 @@ impl Plan {
     {
         if let Some(day) = &mut self.day {
             day.hear(event, answer);
+        }
+    }
+
+    /// The node that has just made steps, if this is a day that goes on, and nothing is left to do that could give its guest an input.
+    pub fn left_waiting(&self, event: Event, book: &Book) -> Option<u64>
+        ensures { result ≡ option_and_then (λ day. left_waiting event day book.now) self.now.day }
+    {
+        match &self.day {
+            Some(day) => day.left_waiting(event, book),
+            None => None,
+        }
+    }
+
+    /// The guest polls: the day ends.
+    pub fn rest(&mut self)
+        ensures { self.new ≡ record self.old { day = option_map rested self.old.day } }
+    {
+        if let Some(day) = &mut self.day {
+            day.rest();
+        }
+    }
+
+    /// Whether this is a day that may pause after this event.
+    pub fn may_pause(&self, event: Event) -> bool
+        ensures { result ≡ option_map_or (may_pause event) self.now.day false }
+    {
+        match &self.day {
+            Some(day) => day.may_pause(event),
+            None => false,
         }
     }
 

@@ -9,7 +9,7 @@ use guest_lockstep::{ReplayEnd, StopReason};
 use i8080_words::{Fault, R};
 use pair_events::{Event, Reply};
 
-// How many events a day has at most before it ends, since all of them are kept until the next line.
+// How many events a day has at most without a step of the guest before it ends.
 const MOST_EVENTS: u64 = 1_000_000;
 
 // How many sectors a track has.
@@ -66,6 +66,9 @@ impl Day {
     fn make(&mut self, steps: u64)
         ensures { self.new ≡ stepped steps self.old }
     {
+        if steps > 0 {
+            self.events = 0;
+        }
         self.made = self.made.saturating_add(steps);
         self.since_key0 = self.since_key0.saturating_add(steps);
         self.since_key1 = self.since_key1.saturating_add(steps);

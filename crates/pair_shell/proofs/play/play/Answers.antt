@@ -6,3 +6,6 @@ returns-in_err-answer g c = c.in_err-answer.ensures.happened c.args.world.now c.
 
 pub events-preserved : goal.events-preserved
 events-preserved g c = c.in_ok-answer.ensures.happened c.args.world.now c.events.invariant
+
+pub returns-then-may_pause : goal.returns-then-may_pause
+returns-then-may_pause g c = c.in_ok-answer.ensures.happened c.args.world.now c.events.invariant
