@@ -5,10 +5,7 @@ use Rattle.guest_lockstep.specs.Machine.{Machine, Move}
 use Rattle.log_entry.specs.Entries.{last_count}
 use Rattle.log_entry.specs.declared.entry.Entry.{Entry}
 use Rattle.pair_protocol.specs.Lawful.{Among, Lawful}
-use Rattle.pair_generations.specs.Generations.{HasEnded, machine_at}
-use Rattle.pair_generations.specs.declared.origin.Origin.{Origin}
 use Rattle.pair_threads.specs.Ending.{EndsBy, IsTraceOf}
-use Rattle.pair_threads.specs.declared.workers.GenerationEnd.{GenerationEnd}
 use Rattle.pair_threads.specs.declared.gate.Who.{Who}
 use Rattle.pair_threads.specs.declared.gate.Who.TheVariants as who
 use Rattle.shared_disk.specs.declared.store.Record.{Record}
@@ -47,15 +44,6 @@ module _ {S : Type 0} (M : Machine S) (lawful : Lawful M) where
   looser typed0 typed1 (Some who.Link) primary backup held screens records s t ends = ends
   looser typed0 typed1 (Some who.Terminal) primary backup held screens records s t ends = ends
   looser typed0 typed1 (Some who.Disk) primary backup held screens records s t ends = ends
-
--- where workers may begin, their end is that of the machine that booted first
-pub resumed_ends : {B D S : Type 0} (state : B → S) (records : D → List Record) (N : Machine S) (here there : Origin B)
-    (e : GenerationEnd B D) → here ≡ there
-    → (Lawful (machine_at N (state here.boot) here.records) → HasEnded state records (machine_at N (state here.boot) here.records) e)
-    → Lawful (machine_at N (state there.boot) there.records) → HasEnded state records (machine_at N (state there.boot) there.records) e
-resumed_ends state records N here there e same ends lawful =
-    subst (λ (o : Origin _). HasEnded state records (machine_at N (state o.boot) o.records) e) same
-    (ends (subst (λ (o : Origin _). Lawful (machine_at N (state o.boot) o.records)) (sym same) lawful))
 
 -- ---- the generations that are left
 
