@@ -1,5 +1,5 @@
 -- The end of a generation is that of the machine that booted first, whether its copy is exact or not.
-use Rattle.std.proofs.Common.{◌≡◌, ℕ, ◌+◌, ◌<◌, inl, inr, true, false, List, [], ◌∷◌, ◌++◌, length, take, drop, Option, Some, None, sym, ap, subst, ◌∙◌, arith}
+use Rattle.std.proofs.Common.{◌≡◌, ℕ, ◌+◌, ◌<◌, ◌≤◌, inl, inr, true, false, List, [], ◌∷◌, ◌++◌, length, take, drop, Option, Some, None, sym, ap, subst, ◌∙◌, arith}
 use Rattle.std.specs.Prelude.{slice_index_or}
 use Rattle.guest_lockstep.specs.Machine.{Machine, Move}
 use Rattle.log_entry.specs.Entries.{last_count}
@@ -57,3 +57,9 @@ pub one_less : {X : Type 0} (all rest : List X) (number next total : ℕ) → re
     → 0 < length all → next ≡ number + 1 → number + length all ≡ total → next + length rest ≡ total
 one_less [] rest number next total is some more sum = absurd (omega (arith, some))
 one_less (x ∷ all) rest number next total is some more sum = (let l = ap length is in omega (arith, l, more, sum))
+
+-- one that is left less, and no more than there were
+pub no_more : {X : Type 0} (all rest : List X) (most : ℕ) → rest ≡ take 0 all ++ drop (0 + 1) all → length all ≤ most
+    → length rest ≤ most
+no_more [] rest most is le = (let l = ap length is in omega (arith, l, le))
+no_more (x ∷ all) rest most is le = (let l = ap length is in omega (arith, l, le))

@@ -6,7 +6,7 @@ ghost use Rattle.pair_lines.specs.declared.lines.Lines.{Lines};
 ghost use Rattle.pair_threads.specs.Ending.{IsEnding, WonBy};
 ghost use Rattle.pair_threads.specs.Typing.{IsOver};
 
-use crate::following::{Orders, Ready, follow};
+use crate::following::{Backup, Orders, Ready, copied, follow};
 use crate::origin::Origin;
 use crate::steward::{PairEvent, Steward};
 use clone_state::Copies;
@@ -88,8 +88,7 @@ pub(crate) fn settle<B: Copies<H> + Drop, H: Drop, D: SectorStore, C: Clock>(
     })
 }
 
-/// The generation that follows a settled run: the guest is copied to the spare host, and both run. The steward hears that it
-/// begins.
+/// The generation that follows a settled run, once the guest was copied: both run. The steward hears that it begins.
 pub(crate) fn begin_next<
     B: Copies<H> + Send + Drop,
     H: Drop,
@@ -101,16 +100,16 @@ pub(crate) fn begin_next<
     rt: &T,
     alloc: Global,
     ready: Ready<B, D>,
-    next: Next<H>,
+    backup: Backup<B>,
     watched: bool,
     gate: &G,
     steward: &mut S,
     limits: Limits,
 ) -> R<Going<B, D>>
-    requires first { 0 < ready.generation }
     requires guest { IsGuest B.state B.copied (machine_at B.machine (B.state ready.origin.boot) ready.origin.records) }
     requires settled { IsSettled B.state D.records
         (machine_at B.machine (B.state ready.origin.boot) ready.origin.records) ready.standing }
+    requires copied { B.state backup.board ≡ B.state ready.standing.board }
     ensures origin { IfOk result (λ new. new.origin ≡ ready.origin) }
     ensures number { IfOk result (λ new. new.generation ≡ ready.generation) }
     ensures ended { IfOk result (λ new. HasEnded B.state D.records
@@ -119,11 +118,11 @@ pub(crate) fn begin_next<
         → IsSettledOver typed0 typed1 lines screens ready.standing ready.lines
         → IfOk result (λ new. IsOver typed0 typed1 lines screens new.end) }
     ensures won { watched ≡ false
-        → IfOk result (λ new. WonBy next.primary_contests next.backup_contests new.end.winner) }
+        → IfOk result (λ new. WonBy backup.orders.primary_contests backup.orders.backup_contests new.end.winner) }
     ensures refused { IfErr result IsEnding }
 {
     let generation = ready.generation;
-    let (resumed, origin) = follow(alloc, ready, next, watched, limits)?;
+    let (resumed, origin) = follow(alloc, ready, backup, watched)?;
     steward.hears(PairEvent::Begins(generation));
     let end = run_generation_at(rt, alloc, resumed, watched, gate, limits.turns)?;
     Ok(Going {
@@ -165,6 +164,10 @@ pub(crate) fn advance<
         → IfOk result (λ new. WonBy next.primary_contests next.backup_contests new.end.winner) }
     ensures refused { IfErr result IsEnding }
 {
-    let ready = settle(rt, going, limits.tries)?;
-    begin_next(rt, alloc, ready, next, watched, gate, steward, limits)
+    let settled = settle(rt, going, limits.tries)?;
+    let (ready, backup) = copied(alloc, settled, next, limits)?;
+    let Some(backup) = backup else {
+        return Err(Fault::Stalled);
+    };
+    begin_next(rt, alloc, ready, backup, watched, gate, steward, limits)
 }

@@ -27,6 +27,9 @@ pub trait Steward {
     /// May hold a guest that runs alone before its next turn, if it is to be slower. It has made so many steps since it is alone.
     fn holds(&mut self, _steps: u64) {}
 
+    /// The next spare host has failed while the guest was copied to it, and is not used again.
+    fn loses_spare(&mut self) {}
+
     fn hears(&mut self, event: PairEvent);
 }
 

@@ -10,8 +10,8 @@ ghost use Rattle.shared_disk.specs.Records.{IsUnwritten};
 
 use crate::following::Ready;
 use crate::generation::{Going, Limits, Next, begin_next, settle};
-use crate::run::{begin, is_last};
-use crate::running_alone::run_on;
+use crate::run::begin;
+use crate::running_alone::back_up;
 use crate::steward::{PairEvent, Steward};
 use clone_state::Copies;
 use i8080_words::R;
@@ -24,7 +24,7 @@ use std::thread::Threads;
 use std::time::Clock;
 
 // The further generations of a watched pair, as long as somebody has gone on alone in the last one, until it is over. Whoever has gone
-// on alone runs on without a backup until the next spare host has come. The steward hears who it is.
+// on alone runs on until it has a backup. The steward hears who it is.
 fn go_on_until_over<
     B: Copies<H> + Send + Drop,
     H: Drop,
@@ -55,21 +55,21 @@ fn go_on_until_over<
     'generations: while let Some(who) = going.end.winner {
         steward.hears(PairEvent::Won(who));
         let settled = settle(rt, going, limits.tries)?;
-        let ready = run_on(rt, settled, later.len(), steward, limits)?;
-        if is_last(later.len(), true, steward) {
+        let (ready, backup) = back_up(rt, alloc, settled, &mut later, steward, limits)?;
+        let Some(backup) = backup else {
             return Ok(ready);
-        }
-        let next = later.remove(0);
-        going = begin_next(rt, alloc, ready, next, true, gate, steward, limits)?;
+        };
+        going = begin_next(rt, alloc, ready, backup, true, gate, steward, limits)?;
     }
     settle(rt, going, limits.tries)
 }
 
 /// Runs a watched pair over generations and over these lines, as `run_pair_over` does, until it is over. If a node goes on alone
 /// and no spare host is there, its guest runs on alone, which the steward hears, until the next one has come, if one is left; then
-/// it is copied to that one, and so on. It ends if the steward says that the pair is over, if the guest will do no more, or if it
-/// has had its turns. The run is settled then: it is that of one machine, the one that booted first. `Stalled` and `OutOfMemory` as
-/// for `run_pair_over`, and `Stalled` if a guest that runs alone takes no further step.
+/// it is copied to that one, and so on. A spare host to which the copy does not arrive is used up, which the steward is told, and the
+/// guest stays alone. It ends if the steward says that the pair is over, if the guest will do no more, or if it has had its turns.
+/// The run is settled then: it is that of one machine, the one that booted first. `Stalled` and `OutOfMemory` as for
+/// `run_pair_over`, except for such a copy, and `Stalled` if a guest that runs alone takes no further step.
 pub fn run_pair_until_over<
     B: Copies<H> + Send + Drop,
     H: Drop,

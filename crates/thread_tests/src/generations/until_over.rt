@@ -14,7 +14,7 @@ use i8080_words::R;
 use pair_generations::{Limits, Next, PairEvent, Steward, altairs_may_go_on, run_pair_until_over};
 use pair_lines::{Keyboard, Lines, Screen, Shown, Stroke};
 use pair_standing::{AloneEnd, Standing};
-use pair_threads::{Gate, Who, Workers};
+use pair_threads::{Fate, Gate, Who, Workers};
 use rtrb::{Consumer, Producer, RingBuffer};
 use shared_disk::{MemoryStore, SectorStore, SharedDisk};
 use std::alloc::Global;
@@ -38,12 +38,13 @@ const ROOM: usize = 8;
 static KEYS: [u8; 9] = [0x41, 0x42, 0x43, 0x44, 0x45, 0x46, 0x47, 0x48, 0x49];
 
 // How a pair runs: whether a host fails in each generation once all that was typed is echoed, whether no key comes after the first,
-// how many spare hosts there are, whether each of them comes only once the guest has run alone and echoed all that was typed, and
-// what its steward hears.
+// how many spare hosts there are, how many of them fail before they have the guest, whether each of them comes only once the guest
+// has run alone and echoed all that was typed, and what its steward hears.
 struct Case {
     fails: bool,
     closes: bool,
     spares: u32,
+    lost: u32,
     is_late: bool,
     events: &'static [PairEvent],
 }
@@ -52,6 +53,7 @@ static FAILING: Case = Case {
     fails: true,
     closes: false,
     spares: 1,
+    lost: 0,
     is_late: false,
     events: &[
         PairEvent::Begins(1),
@@ -66,6 +68,7 @@ static WAITING: Case = Case {
     fails: true,
     closes: false,
     spares: 2,
+    lost: 0,
     is_late: true,
     events: &[
         PairEvent::Begins(1),
@@ -80,10 +83,28 @@ static WAITING: Case = Case {
     ],
 };
 
+static LOSING: Case = Case {
+    fails: true,
+    closes: false,
+    spares: 2,
+    lost: 1,
+    is_late: true,
+    events: &[
+        PairEvent::Begins(1),
+        PairEvent::Won(Who::Backup),
+        PairEvent::Alone,
+        PairEvent::Alone,
+        PairEvent::Begins(2),
+        PairEvent::Won(Who::Primary),
+        PairEvent::Alone,
+    ],
+};
+
 static RESTING: Case = Case {
     fails: false,
     closes: true,
     spares: 1,
+    lost: 0,
     is_late: false,
     events: &[PairEvent::Begins(1)],
 };
@@ -157,6 +178,10 @@ impl Steward for Typist<'_> {
         if steps > 0 && self.hosts.are_echoed() {
             self.has_come = true;
         }
+    }
+
+    fn loses_spare(&mut self) {
+        self.has_come = !self.case.is_late;
     }
 
     fn hears(&mut self, event: PairEvent) {
@@ -251,10 +276,19 @@ fn workers_of<T: Completes + Drop + Copy, S: Completes + Drop + Copy, W: Complet
     })
 }
 
-// So many spare hosts.
+// The fates of the packets that bring a copy, if it arrives or not.
+fn copy_fates(alloc: Global, is_lost: bool) -> R<Vec<Fate>> {
+    let mut fates = Vec::new(alloc);
+    if is_lost {
+        fates.push(Fate::Drop)?;
+    }
+    Ok(fates)
+}
+
+// The spare hosts of a case.
 fn spares_of<T: Completes + Drop + Copy, S: Completes + Drop + Copy, W: Completes + Drop + Copy>(
     alloc: Global,
-    spares: u32,
+    case: &Case,
     sent: T,
     sector: S,
     written: W,
@@ -264,10 +298,10 @@ fn spares_of<T: Completes + Drop + Copy, S: Completes + Drop + Copy, W: Complete
     requires written { Keeps (W.may written) (W.gives written) WRITTEN }
 {
     let mut later = Vec::new(alloc);
-    for _ in 0..spares {
+    for spare in 0..case.spares {
         later.push(Next {
             host: Callbacks::of(sent, sector, written),
-            copy_fates: Vec::new(alloc),
+            copy_fates: copy_fates(alloc, spare < case.lost)?,
             fates: Vec::new(alloc),
             primary_contests: None,
             backup_contests: None,
@@ -318,7 +352,7 @@ fn run_with<
     altairs_may_go_on();
     sizes(&setup.levels, setup.sense);
     let workers = workers_of(alloc, setup, sent, sector, written)?;
-    let later = spares_of(alloc, typist.case.spares, sent, sector, written)?;
+    let later = spares_of(alloc, typist.case, sent, sector, written)?;
     let hosts = typist.hosts;
     let end = run_pair_until_over(rt, alloc, workers, lines, later, hosts, &mut typist, LIMITS)?;
     Ok(look_at(end, typist.events))
@@ -400,6 +434,11 @@ fn a_pair_whose_hosts_fail_goes_on_until_it_is_over(rt: HostRuntime) -> R<()> {
 #[test]
 fn a_pair_without_a_spare_host_goes_on_alone_until_one_comes(rt: HostRuntime) -> R<()> {
     expect(&rt, rt.alloc(), &WAITING)
+}
+
+#[test]
+fn a_pair_goes_on_alone_if_a_spare_host_fails_before_it_has_the_guest(rt: HostRuntime) -> R<()> {
+    expect(&rt, rt.alloc(), &LOSING)
 }
 
 #[test]

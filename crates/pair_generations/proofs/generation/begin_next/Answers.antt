@@ -31,10 +31,10 @@ pub returns-clause-won : goal.returns-clause-won
 returns-clause-won g c = λ closed.
     let workers = c.in_ok-resumed.resumed.workers in
     let asks = c.in_ok-resumed.ensures.asks in
-    let next = c.args.next in
+    let orders = c.args.backup.orders in
     let e = c.in_ok-end.end in
     let decided = subst (λ w. WonOver w workers.primary_contests workers.backup_contests e.winner) closed
     c.in_ok-end.ensures.decided in
-    subst (λ x. WonBy x next.backup_contests e.winner) (asks.0 ∙ ap (λ w. planned w next.primary_contests) closed)
-    (subst (λ x. WonBy workers.primary_contests x e.winner) (asks.1 ∙ ap (λ w. planned w next.backup_contests) closed)
+    subst (λ x. WonBy x orders.backup_contests e.winner) (asks.0 ∙ ap (λ w. planned w orders.primary_contests) closed)
+    (subst (λ x. WonBy workers.primary_contests x e.winner) (asks.1 ∙ ap (λ w. planned w orders.backup_contests) closed)
     (won_closed workers.primary_contests workers.backup_contests e.winner decided))

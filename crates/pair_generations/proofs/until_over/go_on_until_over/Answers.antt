@@ -13,7 +13,7 @@ generations-preserved g c =
     let settled = c.in_ok-settled.ensures in
     let ready = c.in_ok-ready.ensures in
     let new = c.in_ok-going.ensures in
-    let same = ready.origin ∙ settled.origin ∙ inv.0 in (
+    let same = ready.origin.0 ∙ settled.origin ∙ inv.0 in (
       new.origin ∙ same,
       subst (λ (o : Origin _). HasEnded state records (machine_at N (state o.boot) o.records) c.in_ok-going.going.end) same
           new.ended,
@@ -21,8 +21,8 @@ generations-preserved g c =
           (settled.over typed0 typed1 lines screens (inv.2 typed0 typed1 lines screens over))),
     )
 
-pub returns-then-is_last-clause-over : goal.returns-then-is_last-clause-over
-returns-then-is_last-clause-over g c = λ typed0 typed1 lines screens over.
+pub returns-in_default-backup-clause-over : goal.returns-in_default-backup-clause-over
+returns-in_default-backup-clause-over g c = λ typed0 typed1 lines screens over.
     c.in_ok-ready.ensures.over typed0 typed1 lines screens (c.in_ok-settled.ensures.over typed0 typed1 lines screens
     (c.generations.invariant.2 typed0 typed1 lines screens over))
 
