@@ -1,14 +1,11 @@
 -- The end of a generation is that of the machine that booted first, whether its copy is exact or not.
-use Rattle.std.proofs.Common.{◌≡◌, ℕ, ◌+◌, ◌<◌, inl, inr, true, false, List, [], ◌∷◌, ◌++◌, length, take, drop, Option, Some, None, sym, ap, subst, ◌∙◌, arith}
+use Rattle.std.proofs.Common.{◌≡◌, ℕ, ◌+◌, ◌<◌, ◌≤◌, inl, inr, true, false, List, [], ◌∷◌, ◌++◌, length, take, drop, Option, Some, None, sym, ap, subst, ◌∙◌, arith}
 use Rattle.std.specs.Prelude.{slice_index_or}
 use Rattle.guest_lockstep.specs.Machine.{Machine, Move}
 use Rattle.log_entry.specs.Entries.{last_count}
 use Rattle.log_entry.specs.declared.entry.Entry.{Entry}
 use Rattle.pair_protocol.specs.Lawful.{Among, Lawful}
-use Rattle.pair_generations.specs.Generations.{HasEnded, machine_at}
-use Rattle.pair_generations.specs.declared.origin.Origin.{Origin}
 use Rattle.pair_threads.specs.Ending.{EndsBy, IsTraceOf}
-use Rattle.pair_threads.specs.declared.workers.GenerationEnd.{GenerationEnd}
 use Rattle.pair_threads.specs.declared.gate.Who.{Who}
 use Rattle.pair_threads.specs.declared.gate.Who.TheVariants as who
 use Rattle.shared_disk.specs.declared.store.Record.{Record}
@@ -48,15 +45,6 @@ module _ {S : Type 0} (M : Machine S) (lawful : Lawful M) where
   looser typed0 typed1 (Some who.Terminal) primary backup held screens records s t ends = ends
   looser typed0 typed1 (Some who.Disk) primary backup held screens records s t ends = ends
 
--- where workers may begin, their end is that of the machine that booted first
-pub resumed_ends : {B D S : Type 0} (state : B → S) (records : D → List Record) (N : Machine S) (here there : Origin B)
-    (e : GenerationEnd B D) → here ≡ there
-    → (Lawful (machine_at N (state here.boot) here.records) → HasEnded state records (machine_at N (state here.boot) here.records) e)
-    → Lawful (machine_at N (state there.boot) there.records) → HasEnded state records (machine_at N (state there.boot) there.records) e
-resumed_ends state records N here there e same ends lawful =
-    subst (λ (o : Origin _). HasEnded state records (machine_at N (state o.boot) o.records) e) same
-    (ends (subst (λ (o : Origin _). Lawful (machine_at N (state o.boot) o.records)) (sym same) lawful))
-
 -- ---- the generations that are left
 
 pub first_of : {X : Type 0} (all rest : List X) (x : X) → 0 < length all → x ≡ slice_index_or all 0 x
@@ -69,3 +57,9 @@ pub one_less : {X : Type 0} (all rest : List X) (number next total : ℕ) → re
     → 0 < length all → next ≡ number + 1 → number + length all ≡ total → next + length rest ≡ total
 one_less [] rest number next total is some more sum = absurd (omega (arith, some))
 one_less (x ∷ all) rest number next total is some more sum = (let l = ap length is in omega (arith, l, more, sum))
+
+-- one that is left less, and no more than there were
+pub no_more : {X : Type 0} (all rest : List X) (most : ℕ) → rest ≡ take 0 all ++ drop (0 + 1) all → length all ≤ most
+    → length rest ≤ most
+no_more [] rest most is le = (let l = ap length is in omega (arith, l, le))
+no_more (x ∷ all) rest most is le = (let l = ap length is in omega (arith, l, le))

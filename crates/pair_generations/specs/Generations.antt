@@ -2,6 +2,8 @@
 use Rattle.std.specs.Prelude.{◌≡◌, ◌≤◌, ℕ, Bool, true, false, map, take, vec_len, List, [], ◌∷◌, Option, None}
 use Rattle.guest_lockstep.specs.Machine.{Machine, booted_from}
 use Rattle.pair_generations.specs.declared.generation.Next.{Next}
+use Rattle.pair_lines.specs.Lines.{HasShown, IsSameStart}
+use Rattle.pair_lines.specs.declared.lines.Lines.{Lines}
 use Rattle.pair_protocol.specs.Lawful.{Among}
 use Rattle.pair_rule.specs.Rules.{IsStart}
 use Rattle.pair_rule.specs.Threads.{bytes_accepted}
@@ -9,11 +11,12 @@ use Rattle.pair_rule.specs.declared.view.Knowledge.{Knowledge}
 use Rattle.pair_standing.specs.Following.{MayBeKnown}
 use Rattle.pair_standing.specs.Standing.{Stands}
 use Rattle.pair_standing.specs.declared.standing.Standing.{Standing}
-use Rattle.pair_threads.specs.Ending.{EndsBy, NoneUnderWay, WonBy}
+use Rattle.pair_threads.specs.Ending.{EachScreen, EndsBy, NoneUnderWay, WonBy}
 use Rattle.pair_threads.specs.Leading.{by_port}
 use Rattle.pair_threads.specs.Left.{LeavesBy}
 use Rattle.pair_threads.specs.Resuming.{BeginsAt}
 use Rattle.pair_threads.specs.Stores.{IsStore, bytes_in}
+use Rattle.pair_threads.specs.Typing.{IsTyped}
 use Rattle.pair_threads.specs.declared.gate.Who.{Who}
 use Rattle.pair_threads.specs.declared.workers.GenerationEnd.{GenerationEnd}
 use Rattle.pair_threads.specs.declared.workers.Resumed.{Resumed}
@@ -46,6 +49,16 @@ abbrev pub IsSettled : {B D S : Type 0} → (B → S) → (D → List Record) �
 IsSettled state records M st =
     Stands M st.typed.0.items st.typed.1.items st.list.items (st.accepted.0.items ∷ st.accepted.1.items ∷ [])
     (records st.disk) st.taken.0 st.taken.1 (state st.board)
+
+-- what a run over these lines has made of them where it is settled: typed is what was, and then just the keys that came; and if
+-- all that the terminals had accepted was shown, all that they have accepted since is
+pub record IsSettledOver {B D : Type 0} (typed0 typed1 : List ℕ) (lines : Lines) (screens : List (List ℕ)) (st : Standing B D)
+    (now : Lines) : Type 0 where
+  pub keys0 : IsTyped (typed0, lines.keyboard0) (st.typed.0.items, now.keyboard0)
+  pub keys1 : IsTyped (typed1, lines.keyboard1) (st.typed.1.items, now.keyboard1)
+  pub same : IsSameStart lines.screen.ring now.screen.ring
+  pub shown : EachScreen (HasShown lines.screen) 0 screens
+      → EachScreen (HasShown now.screen) 0 (st.accepted.0.items ∷ st.accepted.1.items ∷ [])
 
 -- this may be known where it is settled
 abbrev pub MayBeKnownAt : {B D S : Type 0} → (B → S) → (D → List Record) → Machine S → S → List Record → Standing B D → ℕ →

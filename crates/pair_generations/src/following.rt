@@ -1,7 +1,8 @@
 //! What a generation begins with that follows another.
-ghost use Rattle.std.specs.Prelude.{◌≡◌, ◌<◌, IfErr, IfOk, List, vec_len};
-ghost use Rattle.pair_generations.specs.Generations.{IsSettled, MayBeKnownAt, MayResume, machine_at, planned};
+ghost use Rattle.std.specs.Prelude.{◌≡◌, ◌<◌, ℕ, IfErr, IfOk, IfSome, List, vec_len};
+ghost use Rattle.pair_generations.specs.Generations.{IsSettled, IsSettledOver, MayBeKnownAt, MayResume, machine_at, planned};
 ghost use Rattle.pair_generations.specs.Guests.{IsGuest};
+ghost use Rattle.pair_lines.specs.declared.lines.Lines.{Lines};
 ghost use Rattle.pair_rule.specs.declared.view.Knowledge.{Knowledge};
 ghost use Rattle.pair_threads.specs.Ending.{IsEnding};
 ghost use Rattle.shared_disk.specs.declared.store.Record.{Record};
@@ -10,7 +11,7 @@ use crate::generation::{Limits, Next};
 use crate::origin::Origin;
 use clone_state::Copies;
 use guest_lockstep::Lockstep;
-use i8080_words::R;
+use i8080_words::{Fault, R};
 use log_entry::Entry;
 use pair_lines::Lines;
 use pair_rule::{Known, Recalls, Start, known_by};
@@ -58,26 +59,33 @@ fn known_at<B: Lockstep + Drop, D: SectorStore>(ready: &Ready<B, D>) -> Known
     known_by::<Ready<B, D>, WhereSettled>(ready)
 }
 
-/// The workers of the generation that follows: the guest is copied to the spare host, and both begin where the run was settled.
-pub(crate) fn follow<B: Copies<H> + Drop, H: Drop, D: SectorStore>(
+/// A copy of a guest on a spare host, and what the two hosts of the generation do that begins with it.
+#[derive(Drop)]
+pub(crate) struct Backup<B: Drop> {
+    pub(crate) board: B,
+    pub(crate) orders: Orders,
+}
+
+/// The guest of a settled run is copied to the spare host. There is no copy if a part of it does not arrive; the run stays settled.
+pub(crate) fn copied<B: Copies<H> + Drop, H: Drop, D: SectorStore>(
     alloc: Global,
     mut ready: Ready<B, D>,
     next: Next<H>,
-    watched: bool,
     limits: Limits,
-) -> R<(Resumed<B, D>, Origin<B>)>
+) -> R<(Ready<B, D>, Option<Backup<B>>)>
     requires first { 0 < ready.generation }
     requires guest { IsGuest B.state B.copied (machine_at B.machine (B.state ready.origin.boot) ready.origin.records) }
     requires settled { IsSettled B.state D.records
         (machine_at B.machine (B.state ready.origin.boot) ready.origin.records) ready.standing }
-    ensures origin { IfOk result (λ r. r.1 ≡ ready.origin) }
-    ensures begins { IfOk result (λ r. MayResume B.state D.records B.machine (B.state ready.origin.boot)
-        ready.origin.records r.0) }
-    ensures typed { IfOk result (λ r. (r.0.workers.typed0 ≡ ready.standing.typed.0)
-        × (r.0.workers.typed1 ≡ ready.standing.typed.1)) }
-    ensures lines { IfOk result (λ r. (r.0.lines ≡ ready.lines) × (r.0.accepted ≡ ready.standing.accepted)) }
-    ensures asks { IfOk result (λ r. (r.0.workers.primary_contests ≡ planned watched next.primary_contests)
-        × (r.0.workers.backup_contests ≡ planned watched next.backup_contests)) }
+    ensures origin { IfOk result (λ r. (r.0.origin ≡ ready.origin) × (r.0.generation ≡ ready.generation)) }
+    ensures settled { IfOk result (λ r. IsSettled B.state D.records
+        (machine_at B.machine (B.state ready.origin.boot) ready.origin.records) r.0.standing) }
+    ensures over { (typed0 typed1 : List ℕ) (lines : Lines) (screens : List (List ℕ))
+        → IsSettledOver typed0 typed1 lines screens ready.standing ready.lines
+        → IfOk result (λ r. IsSettledOver typed0 typed1 lines screens r.0.standing r.0.lines) }
+    ensures copied { IfOk result (λ r. IfSome r.1 (λ backup. B.state backup.board ≡ B.state r.0.standing.board)) }
+    ensures asks { IfOk result (λ r. IfSome r.1 (λ backup. (backup.orders.primary_contests ≡ next.primary_contests)
+        × (backup.orders.backup_contests ≡ next.backup_contests))) }
     ensures refused { IfErr result IsEnding }
 {
     let Next {
@@ -87,6 +95,12 @@ pub(crate) fn follow<B: Copies<H> + Drop, H: Drop, D: SectorStore>(
         primary_contests,
         backup_contests,
     } = next;
+    let orders = Orders {
+        fates,
+        primary_contests,
+        backup_contests,
+        steps: limits.steps,
+    };
     let copy = copy_to(
         alloc,
         &mut ready.standing.board,
@@ -94,21 +108,46 @@ pub(crate) fn follow<B: Copies<H> + Drop, H: Drop, D: SectorStore>(
         ready.generation,
         &copy_fates,
         limits.rounds,
-    )?;
+    );
+    match copy {
+        Ok(board) => Ok((ready, Some(Backup { board, orders }))),
+        Err(Fault::Stalled) => Ok((ready, None)),
+        Err(fault) => Err(fault),
+    }
+}
+
+/// The workers of the generation that follows: both guests begin where the run was settled.
+pub(crate) fn follow<B: Copies<H> + Drop, H: Drop, D: SectorStore>(
+    alloc: Global,
+    ready: Ready<B, D>,
+    backup: Backup<B>,
+    watched: bool,
+) -> R<(Resumed<B, D>, Origin<B>)>
+    requires guest { IsGuest B.state B.copied (machine_at B.machine (B.state ready.origin.boot) ready.origin.records) }
+    requires settled { IsSettled B.state D.records
+        (machine_at B.machine (B.state ready.origin.boot) ready.origin.records) ready.standing }
+    requires copied { B.state backup.board ≡ B.state ready.standing.board }
+    ensures origin { IfOk result (λ r. r.1 ≡ ready.origin) }
+    ensures begins { IfOk result (λ r. MayResume B.state D.records B.machine (B.state ready.origin.boot)
+        ready.origin.records r.0) }
+    ensures typed { IfOk result (λ r. (r.0.workers.typed0 ≡ ready.standing.typed.0)
+        × (r.0.workers.typed1 ≡ ready.standing.typed.1)) }
+    ensures lines { IfOk result (λ r. (r.0.lines ≡ ready.lines) × (r.0.accepted ≡ ready.standing.accepted)) }
+    ensures asks { IfOk result (λ r. (r.0.workers.primary_contests ≡ planned watched backup.orders.primary_contests)
+        × (r.0.workers.backup_contests ≡ planned watched backup.orders.backup_contests)) }
+    ensures refused { IfErr result IsEnding }
+{
     let known = known_at(&ready);
-    let orders = Orders {
-        fates,
-        primary_contests: planned(watched, primary_contests),
-        backup_contests: planned(watched, backup_contests),
-        steps: limits.steps,
-    };
     let Ready {
         standing,
         lines,
         origin,
         generation,
     } = ready;
-    let resumed = resumed_at(alloc, standing, lines, known, copy, generation, orders)?;
+    let Backup { board, mut orders } = backup;
+    orders.primary_contests = planned(watched, orders.primary_contests);
+    orders.backup_contests = planned(watched, orders.backup_contests);
+    let resumed = resumed_at(alloc, standing, lines, known, board, generation, orders)?;
     Ok((resumed, origin))
 }
 

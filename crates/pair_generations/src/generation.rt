@@ -1,13 +1,12 @@
 //! One generation of a pair after another.
-ghost use Rattle.std.specs.Prelude.{◌≡◌, ◌+◌, ◌∷◌, [], ℕ, List, false, map, IfErr, IfOk};
-ghost use Rattle.pair_generations.specs.Generations.{HasEnded, IsSettled, machine_at};
+ghost use Rattle.std.specs.Prelude.{◌≡◌, ◌+◌, ◌<◌, ◌∷◌, [], ℕ, List, false, IfErr, IfOk};
+ghost use Rattle.pair_generations.specs.Generations.{HasEnded, IsSettled, IsSettledOver, machine_at};
 ghost use Rattle.pair_generations.specs.Guests.{IsGuest};
 ghost use Rattle.pair_lines.specs.declared.lines.Lines.{Lines};
-ghost use Rattle.pair_standing.specs.Alone.{ShowsOver};
 ghost use Rattle.pair_threads.specs.Ending.{IsEnding, WonBy};
 ghost use Rattle.pair_threads.specs.Typing.{IsOver};
 
-use crate::following::{Orders, Ready, follow};
+use crate::following::{Backup, Orders, Ready, copied, follow};
 use crate::origin::Origin;
 use crate::steward::{PairEvent, Steward};
 use clone_state::Copies;
@@ -54,8 +53,8 @@ pub(crate) struct Going<B: Drop, D: SectorStore> {
     pub(crate) generation: u32,
 }
 
-// Whoever goes on finishes what is outstanding.
-fn settle<B: Copies<H> + Drop, H: Drop, D: SectorStore, C: Clock>(
+/// Whoever goes on finishes what is outstanding.
+pub(crate) fn settle<B: Copies<H> + Drop, H: Drop, D: SectorStore, C: Clock>(
     clock: &C,
     going: Going<B, D>,
     tries: u64,
@@ -65,14 +64,11 @@ fn settle<B: Copies<H> + Drop, H: Drop, D: SectorStore, C: Clock>(
         going.end }
     ensures origin { IfOk result (λ ready. ready.origin ≡ going.origin) }
     ensures next { IfOk result (λ ready. ready.generation ≡ going.generation + 1) }
-    ensures typed { IfOk result (λ ready. (ready.standing.typed.0 ≡ going.end.typed0)
-        × (ready.standing.typed.1 ≡ going.end.typed1)) }
-    ensures keyboards { IfOk result (λ ready. (ready.lines.keyboard0 ≡ going.end.lines.keyboard0)
-        × (ready.lines.keyboard1 ≡ going.end.lines.keyboard1)) }
-    ensures shown { IfOk result (λ ready. ShowsOver going.end.lines.screen (map (λ v. v.items) going.end.accepted)
-        ready.lines.screen (ready.standing.accepted.0.items ∷ ready.standing.accepted.1.items ∷ [])) }
     ensures settled { IfOk result (λ ready. IsSettled B.state D.records
         (machine_at B.machine (B.state going.origin.boot) going.origin.records) ready.standing) }
+    ensures over { (typed0 typed1 : List ℕ) (lines : Lines) (screens : List (List ℕ))
+        → IsOver typed0 typed1 lines screens going.end
+        → IfOk result (λ ready. IsSettledOver typed0 typed1 lines screens ready.standing ready.lines) }
     ensures refused { IfErr result IsEnding }
 {
     let Going {
@@ -87,6 +83,50 @@ fn settle<B: Copies<H> + Drop, H: Drop, D: SectorStore, C: Clock>(
     Ok(Ready {
         standing,
         lines,
+        origin,
+        generation,
+    })
+}
+
+/// The generation that follows a settled run, once the guest was copied: both run. The steward hears that it begins.
+pub(crate) fn begin_next<
+    B: Copies<H> + Send + Drop,
+    H: Drop,
+    D: SectorStore + Send,
+    G: Gate + Sync,
+    S: Steward,
+    T: Threads + Clock + Sync,
+>(
+    rt: &T,
+    alloc: Global,
+    ready: Ready<B, D>,
+    backup: Backup<B>,
+    watched: bool,
+    gate: &G,
+    steward: &mut S,
+    limits: Limits,
+) -> R<Going<B, D>>
+    requires guest { IsGuest B.state B.copied (machine_at B.machine (B.state ready.origin.boot) ready.origin.records) }
+    requires settled { IsSettled B.state D.records
+        (machine_at B.machine (B.state ready.origin.boot) ready.origin.records) ready.standing }
+    requires copied { B.state backup.board ≡ B.state ready.standing.board }
+    ensures origin { IfOk result (λ new. new.origin ≡ ready.origin) }
+    ensures number { IfOk result (λ new. new.generation ≡ ready.generation) }
+    ensures ended { IfOk result (λ new. HasEnded B.state D.records
+        (machine_at B.machine (B.state ready.origin.boot) ready.origin.records) new.end) }
+    ensures over { (typed0 typed1 : List ℕ) (lines : Lines) (screens : List (List ℕ))
+        → IsSettledOver typed0 typed1 lines screens ready.standing ready.lines
+        → IfOk result (λ new. IsOver typed0 typed1 lines screens new.end) }
+    ensures won { watched ≡ false
+        → IfOk result (λ new. WonBy backup.orders.primary_contests backup.orders.backup_contests new.end.winner) }
+    ensures refused { IfErr result IsEnding }
+{
+    let generation = ready.generation;
+    let (resumed, origin) = follow(alloc, ready, backup, watched)?;
+    steward.hears(PairEvent::Begins(generation));
+    let end = run_generation_at(rt, alloc, resumed, watched, gate, limits.turns)?;
+    Ok(Going {
+        end,
         origin,
         generation,
     })
@@ -124,14 +164,10 @@ pub(crate) fn advance<
         → IfOk result (λ new. WonBy next.primary_contests next.backup_contests new.end.winner) }
     ensures refused { IfErr result IsEnding }
 {
-    let ready = settle(rt, going, limits.tries)?;
-    let generation = ready.generation;
-    let (resumed, origin) = follow(alloc, ready, next, watched, limits)?;
-    steward.hears(PairEvent::Begins(generation));
-    let end = run_generation_at(rt, alloc, resumed, watched, gate, limits.turns)?;
-    Ok(Going {
-        end,
-        origin,
-        generation,
-    })
+    let settled = settle(rt, going, limits.tries)?;
+    let (ready, backup) = copied(alloc, settled, next, limits)?;
+    let Some(backup) = backup else {
+        return Err(Fault::Stalled);
+    };
+    begin_next(rt, alloc, ready, backup, watched, gate, steward, limits)
 }

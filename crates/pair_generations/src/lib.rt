@@ -6,6 +6,7 @@ mod generation;
 mod laws;
 mod origin;
 mod run;
+mod running_alone;
 mod steward;
 mod until_over;
 

@@ -28,8 +28,9 @@ pub struct PairEnd<B: Drop, D: SectorStore> {
     pub generations: u32,
 }
 
-// Whether no further generation is to begin: there is no spare host, or a watched pair is over.
-fn is_last<S: Steward>(spares: usize, watched: bool, steward: &mut S) -> bool
+/// Whether no further generation is to begin: there is no spare host, or a watched pair is over, or its next spare host has not
+/// come.
+pub(crate) fn is_last<S: Steward>(spares: usize, watched: bool, steward: &mut S) -> bool
     ensures some { result ≡ false → 0 < spares }
     ensures none { watched ≡ false → result ≡ true → spares ≡ 0 }
 {
@@ -39,11 +40,57 @@ fn is_last<S: Steward>(spares: usize, watched: bool, steward: &mut S) -> bool
     if !watched {
         return false;
     }
-    steward.is_over()
+    if steward.is_over() {
+        return true;
+    }
+    !steward.has_spare()
 }
 
-// The further generations, as long as somebody has gone on alone in the last one, there is a spare host, and the pair, if it is
-// watched, is not over. The steward hears who goes on alone.
+/// The first generation of a pair, which begins at boot. The steward hears that it begins.
+pub(crate) fn begin<
+    B: Copies<H> + Send + Drop,
+    H: Drop,
+    D: SectorStore + Send,
+    G: Gate + Sync,
+    S: Steward,
+    T: Threads + Clock + Sync,
+>(
+    rt: &T,
+    alloc: Global,
+    mut workers: Workers<B, D>,
+    lines: Lines,
+    watched: bool,
+    gate: &G,
+    steward: &mut S,
+    limits: Limits,
+) -> R<Going<B, D>>
+    requires guest { IsGuest B.state B.copied (machine_at B.machine (B.state workers.primary) (D.records workers.disk)) }
+    requires alike { B.state workers.backup ≡ B.state workers.primary }
+    requires unwritten { IsUnwritten (D.records workers.disk) }
+    ensures origin { IfOk result (λ first. (first.origin.boot ≡ workers.primary)
+        × (first.origin.records ≡ D.records workers.disk)) }
+    ensures number { IfOk result (λ first. first.generation ≡ 1) }
+    ensures ended { IfOk result (λ first. HasEnded B.state D.records
+        (machine_at B.machine (B.state workers.primary) (D.records workers.disk)) first.end) }
+    ensures over { IfOk result (λ first. IsOver workers.typed0.items workers.typed1.items lines ([] ∷ [] ∷ []) first.end) }
+    ensures won { watched ≡ false
+        → IfOk result (λ first. WonBy workers.primary_contests workers.backup_contests first.end.winner) }
+    ensures refused { IfErr result IsEnding }
+{
+    let origin = origin_of(&workers);
+    workers.primary_contests = planned(watched, workers.primary_contests);
+    workers.backup_contests = planned(watched, workers.backup_contests);
+    steward.hears(PairEvent::Begins(1));
+    let end = run_generation_over(rt, alloc, workers, lines, watched, gate, limits.turns)?;
+    Ok(Going {
+        end,
+        origin,
+        generation: 1,
+    })
+}
+
+// The further generations, as long as somebody has gone on alone in the last one and there is a spare host; in a watched pair, as
+// long as the next one has come, and it is not over. The steward hears who goes on alone.
 fn go_on<
     B: Copies<H> + Send + Drop,
     H: Drop,
@@ -90,10 +137,10 @@ fn go_on<
 /// goes on alone it takes what is outstanding, its machine is copied to the next spare host of `later`, and both begin the next
 /// generation where the run was settled, over the same lines. The steward hears of each generation that begins and of each node
 /// that goes on alone. If the pair is watched, its hosts fail when the gate says so, and at no turn, and no further generation
-/// begins once the steward says that the pair is over. It ends with the first generation in which nobody goes on alone, or with
-/// the last that begins. Its end is that of one machine, the one that booted first, on one list, over all generations. `Stalled`
-/// if a generation ends in no such way, a disk fails too often or a copy does not arrive; `OutOfMemory` if memory or a thread is
-/// refused.
+/// begins once the steward says that the pair is over, or before it says that the next spare host has come. It ends with the first
+/// generation in which nobody goes on alone, or with the last that begins. Its end is that of one machine, the one that booted
+/// first, on one list, over all generations. `Stalled` if a generation ends in no such way, a disk fails too often or a copy does
+/// not arrive; `OutOfMemory` if memory or a thread is refused.
 pub fn run_pair_over<
     B: Copies<H> + Send + Drop,
     H: Drop,
@@ -104,7 +151,7 @@ pub fn run_pair_over<
 >(
     rt: &T,
     alloc: Global,
-    mut workers: Workers<B, D>,
+    workers: Workers<B, D>,
     lines: Lines,
     watched: bool,
     later: Vec<Next<H>>,
@@ -124,16 +171,7 @@ pub fn run_pair_over<
         → IfOk result (λ e. (e.end.winner ≡ None) ⊎ (e.generations ≡ 1 + length later.items)) }
     ensures refused { IfErr result IsEnding }
 {
-    let origin = origin_of(&workers);
-    workers.primary_contests = planned(watched, workers.primary_contests);
-    workers.backup_contests = planned(watched, workers.backup_contests);
-    steward.hears(PairEvent::Begins(1));
-    let end = run_generation_over(rt, alloc, workers, lines, watched, gate, limits.turns)?;
-    let first = Going {
-        end,
-        origin,
-        generation: 1,
-    };
+    let first = begin(rt, alloc, workers, lines, watched, gate, steward, limits)?;
     let last = go_on(rt, alloc, first, later, watched, gate, steward, limits)?;
     Ok(PairEnd {
         end: last.end,

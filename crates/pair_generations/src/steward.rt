@@ -9,7 +9,7 @@ pub enum PairEvent {
     Won(Who),
     /// The generation of this number begins: both its hosts have the guest.
     Begins(u32),
-    /// No spare host is left: the guest runs on alone.
+    /// No spare host is there: the guest runs on alone.
     Alone,
 }
 
@@ -18,6 +18,17 @@ pub enum PairEvent {
 pub trait Steward {
     /// Whether the pair is to end once a node goes on alone. A pair that is over stays so.
     fn is_over(&mut self) -> bool;
+
+    /// Whether the next spare host has come. One that has come stays until the guest is copied to it.
+    fn has_spare(&mut self) -> bool {
+        true
+    }
+
+    /// May hold a guest that runs alone before its next turn, if it is to be slower. It has made so many steps since it is alone.
+    fn holds(&mut self, _steps: u64) {}
+
+    /// The next spare host has failed while the guest was copied to it, and is not used again.
+    fn loses_spare(&mut self) {}
 
     fn hears(&mut self, event: PairEvent);
 }

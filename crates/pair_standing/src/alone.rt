@@ -35,8 +35,8 @@ pub struct Bounds {
 
 /// A caller's hold on a guest that runs alone.
 pub trait Until {
-    /// Whether it is to stop before its turn of this number, counted from 0.
-    fn is_over(&mut self, turn: u64) -> bool;
+    /// Whether it is to stop before its turn of this number, counted from 0. It has made so many steps since it is alone.
+    fn is_over(&mut self, turn: u64, steps: u64) -> bool;
 }
 
 /// What a guest leaves that ran alone: a settled run again, with the keyboards and the screen.

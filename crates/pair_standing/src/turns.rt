@@ -237,8 +237,10 @@ impl<B: Lockstep + Drop, D: SectorStore> Alone<B, D> {
             (D.records self.new.winner.disk) (B.state self.new.winner.board)))) }
         ensures refused { IfErr result IsEnding }
     {
+        let first = self.winner.board.count();
         for turn in 0..bounds.turns {
-            if until.is_over(turn) {
+            let steps = self.winner.board.count().saturating_sub(first);
+            if until.is_over(turn, steps) {
                 return Ok(());
             }
             if self.is_over() {

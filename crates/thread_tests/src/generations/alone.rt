@@ -19,7 +19,7 @@ use std::time::Clock;
 struct Never;
 
 impl Until for Never {
-    fn is_over(&mut self, _turn: u64) -> bool {
+    fn is_over(&mut self, _turn: u64, _steps: u64) -> bool {
         false
     }
 }

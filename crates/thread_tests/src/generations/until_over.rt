@@ -1,4 +1,4 @@
-//! An Altair that echoes its keys, on two hosts and a spare one that fail one after another, and then alone.
+//! An Altair that echoes its keys, on two hosts and spare ones that fail one after another, and between them alone.
 ghost use Rattle.std.specs.Prelude.{◌≡◌, ◌<◌, ◌^◌, [], IfOk, length};
 ghost use Rattle.event_callbacks.specs.declared.devices.TheConstants.{SENT, SECTOR, WRITTEN};
 ghost use Rattle.event_callbacks.specs.Keeping.{Keeps};
@@ -14,7 +14,7 @@ use i8080_words::R;
 use pair_generations::{Limits, Next, PairEvent, Steward, altairs_may_go_on, run_pair_until_over};
 use pair_lines::{Keyboard, Lines, Screen, Shown, Stroke};
 use pair_standing::{AloneEnd, Standing};
-use pair_threads::{Gate, Who, Workers};
+use pair_threads::{Fate, Gate, Who, Workers};
 use rtrb::{Consumer, Producer, RingBuffer};
 use shared_disk::{MemoryStore, SectorStore, SharedDisk};
 use std::alloc::Global;
@@ -35,19 +35,26 @@ const LIMITS: Limits = Limits {
 const ROOM: usize = 8;
 
 // The key that is typed as the steward hears the first event, the second, and so on.
-static KEYS: [u8; 5] = [0x41, 0x42, 0x43, 0x44, 0x45];
+static KEYS: [u8; 9] = [0x41, 0x42, 0x43, 0x44, 0x45, 0x46, 0x47, 0x48, 0x49];
 
 // How a pair runs: whether a host fails in each generation once all that was typed is echoed, whether no key comes after the first,
-// and what its steward hears.
+// how many spare hosts there are, how many of them fail before they have the guest, whether each of them comes only once the guest
+// has run alone and echoed all that was typed, and what its steward hears.
 struct Case {
     fails: bool,
     closes: bool,
+    spares: u32,
+    lost: u32,
+    is_late: bool,
     events: &'static [PairEvent],
 }
 
 static FAILING: Case = Case {
     fails: true,
     closes: false,
+    spares: 1,
+    lost: 0,
+    is_late: false,
     events: &[
         PairEvent::Begins(1),
         PairEvent::Won(Who::Backup),
@@ -57,9 +64,48 @@ static FAILING: Case = Case {
     ],
 };
 
+static WAITING: Case = Case {
+    fails: true,
+    closes: false,
+    spares: 2,
+    lost: 0,
+    is_late: true,
+    events: &[
+        PairEvent::Begins(1),
+        PairEvent::Won(Who::Backup),
+        PairEvent::Alone,
+        PairEvent::Begins(2),
+        PairEvent::Won(Who::Primary),
+        PairEvent::Alone,
+        PairEvent::Begins(3),
+        PairEvent::Won(Who::Primary),
+        PairEvent::Alone,
+    ],
+};
+
+static LOSING: Case = Case {
+    fails: true,
+    closes: false,
+    spares: 2,
+    lost: 1,
+    is_late: true,
+    events: &[
+        PairEvent::Begins(1),
+        PairEvent::Won(Who::Backup),
+        PairEvent::Alone,
+        PairEvent::Alone,
+        PairEvent::Begins(2),
+        PairEvent::Won(Who::Primary),
+        PairEvent::Alone,
+    ],
+};
+
 static RESTING: Case = Case {
     fails: false,
     closes: true,
+    spares: 1,
+    lost: 0,
+    is_late: false,
     events: &[PairEvent::Begins(1)],
 };
 
@@ -109,29 +155,45 @@ impl Gate for Hosts {
     }
 }
 
-// Types a key at each event, and notes the event. The pair is over once each key is echoed.
+// Types a key at each event, and notes the event. The pair is over once all events are heard and each key is echoed.
 #[derive(Drop)]
 struct Typist<'a> {
     hosts: &'a Hosts,
-    closes: bool,
+    case: &'a Case,
     keys: Producer<Stroke>,
+    has_come: bool,
     events: Vec<PairEvent>,
 }
 
 impl Steward for Typist<'_> {
     fn is_over(&mut self) -> bool {
-        self.hosts.are_echoed()
+        self.events.len() >= self.case.events.len() && self.hosts.are_echoed()
+    }
+
+    fn has_spare(&mut self) -> bool {
+        self.has_come
+    }
+
+    fn holds(&mut self, steps: u64) {
+        if steps > 0 && self.hosts.are_echoed() {
+            self.has_come = true;
+        }
+    }
+
+    fn loses_spare(&mut self) {
+        self.has_come = !self.case.is_late;
     }
 
     fn hears(&mut self, event: PairEvent) {
         if let PairEvent::Begins(generation) = event {
             self.hosts.generation.store(generation, Ordering::SeqCst);
+            self.has_come = !self.case.is_late;
         }
         if let Some(key) = KEYS.get(self.events.len()) {
             let _ = self.keys.push(Stroke::Key(*key));
             let _ = self.hosts.typed.fetch_add(1, Ordering::SeqCst);
         }
-        if self.closes {
+        if self.case.closes {
             let _ = self.keys.push(Stroke::End);
         }
         let _ = self.events.push(event);
@@ -214,15 +276,38 @@ fn workers_of<T: Completes + Drop + Copy, S: Completes + Drop + Copy, W: Complet
     })
 }
 
-// A spare host.
-fn spare<H: Drop>(alloc: Global, host: H) -> Next<H> {
-    Next {
-        host,
-        copy_fates: Vec::new(alloc),
-        fates: Vec::new(alloc),
-        primary_contests: None,
-        backup_contests: None,
+// The fates of the packets that bring a copy, if it arrives or not.
+fn copy_fates(alloc: Global, is_lost: bool) -> R<Vec<Fate>> {
+    let mut fates = Vec::new(alloc);
+    if is_lost {
+        fates.push(Fate::Drop)?;
     }
+    Ok(fates)
+}
+
+// The spare hosts of a case.
+fn spares_of<T: Completes + Drop + Copy, S: Completes + Drop + Copy, W: Completes + Drop + Copy>(
+    alloc: Global,
+    case: &Case,
+    sent: T,
+    sector: S,
+    written: W,
+) -> R<Vec<Next<Callbacks<T, S, W>>>>
+    requires sent { Keeps (T.may sent) (T.gives sent) SENT }
+    requires sector { Keeps (S.may sector) (S.gives sector) SECTOR }
+    requires written { Keeps (W.may written) (W.gives written) WRITTEN }
+{
+    let mut later = Vec::new(alloc);
+    for spare in 0..case.spares {
+        later.push(Next {
+            host: Callbacks::of(sent, sector, written),
+            copy_fates: copy_fates(alloc, spare < case.lost)?,
+            fates: Vec::new(alloc),
+            primary_contests: None,
+            backup_contests: None,
+        })?;
+    }
+    Ok(later)
 }
 
 // What is looked at of a pair that has ended.
@@ -244,7 +329,7 @@ fn look_at<B: Drop>(end: AloneEnd<B, MemoryStore>, events: Vec<PairEvent>) -> En
     }
 }
 
-// Runs a pair of Altairs of a setup with one spare host, with these closures as completions.
+// Runs a pair of Altairs of a setup with its spare hosts, with these closures as completions.
 fn run_with<
     T: Completes + Drop + Copy + Send,
     S: Completes + Drop + Copy + Send,
@@ -267,8 +352,7 @@ fn run_with<
     altairs_may_go_on();
     sizes(&setup.levels, setup.sense);
     let workers = workers_of(alloc, setup, sent, sector, written)?;
-    let mut later = Vec::new(alloc);
-    later.push(spare(alloc, Callbacks::of(sent, sector, written)))?;
+    let later = spares_of(alloc, typist.case, sent, sector, written)?;
     let hosts = typist.hosts;
     let end = run_pair_until_over(rt, alloc, workers, lines, later, hosts, &mut typist, LIMITS)?;
     Ok(look_at(end, typist.events))
@@ -281,13 +365,14 @@ fn run_to_end<H: Threads + Clock + Sync>(
     setup: &Setup,
     lines: Lines,
     keys: Producer<Stroke>,
-    closes: bool,
+    case: &Case,
     hosts: &Hosts,
 ) -> R<Ended> {
     let typist = Typist {
         hosts,
-        closes,
+        case,
         keys,
+        has_come: !case.is_late,
         events: Vec::new(alloc),
     };
     let end = run_with(
@@ -319,11 +404,10 @@ fn run_shown<H: Threads + Clock + Sync>(
         keyboard1: Keyboard::closed(),
         screen: Screen::of(to),
     };
-    let closes = case.closes;
     Ok(thread::join(
         rt,
         move || taken_from(alloc, screen, hosts),
-        move || run_to_end(rt, alloc, setup, lines, keys, closes, hosts),
+        move || run_to_end(rt, alloc, setup, lines, keys, case, hosts),
     ))
 }
 
@@ -345,6 +429,16 @@ fn expect<H: Threads + Clock + Sync + Abort>(rt: &H, alloc: Global, case: &Case)
 #[test]
 fn a_pair_whose_hosts_fail_goes_on_until_it_is_over(rt: HostRuntime) -> R<()> {
     expect(&rt, rt.alloc(), &FAILING)
+}
+
+#[test]
+fn a_pair_without_a_spare_host_goes_on_alone_until_one_comes(rt: HostRuntime) -> R<()> {
+    expect(&rt, rt.alloc(), &WAITING)
+}
+
+#[test]
+fn a_pair_goes_on_alone_if_a_spare_host_fails_before_it_has_the_guest(rt: HostRuntime) -> R<()> {
+    expect(&rt, rt.alloc(), &LOSING)
 }
 
 #[test]
