@@ -19,6 +19,14 @@ pub trait Steward {
     /// Whether the pair is to end once a node goes on alone. A pair that is over stays so.
     fn is_over(&mut self) -> bool;
 
+    /// Whether the next spare host has come. One that has come stays until the guest is copied to it.
+    fn has_spare(&mut self) -> bool {
+        true
+    }
+
+    /// May hold a guest that runs alone before its next turn, if it is to be slower. It has made so many steps since it is alone.
+    fn holds(&mut self, _steps: u64) {}
+
     fn hears(&mut self, event: PairEvent);
 }
 
