@@ -1,5 +1,7 @@
 pub mod Roles
 pub mod Links
+pub mod Spares
+pub mod Speed
 pub mod Rings
 pub mod Sitting
 pub mod Session

@@ -3,8 +3,12 @@ ghost use Rattle.std.specs.Prelude.{◌≡◌};
 
 use crate::link::Link;
 use crate::roles::{Roles, is_told};
-use pair_threads::{Gate, Progress, Who};
+use crate::spares::{next_spare, spares_left};
+use crate::speed::Speed;
+use pair_threads::{Progress, Who};
 use std::sync::atomic::{AtomicBool, AtomicU32, AtomicU64, Ordering};
+use std::thread;
+use std::time::Clock;
 
 // The number of a host that is not there.
 const NO_HOST: u32 = u32::MAX;
@@ -41,17 +45,20 @@ impl Mark {
     }
 }
 
-/// Which hosts run the machine and how far they have come, which of them have failed, what their link does, and whether the console is
-/// to end.
+/// Which hosts run the machine, how far they have come and how fast they may go, which of them have failed, how many have come, what
+/// their link does, and whether the console is to end.
 #[derive(Drop)]
 pub(crate) struct Hosts {
     link: Link,
+    speed: Speed,
     first: Mark,
     second: Mark,
     generation: AtomicU32,
     primary: AtomicU32,
     backup: AtomicU32,
-    spares: AtomicU64,
+    // How many spare hosts have come. The thread that carries out commands adds to it, and the one that runs the pair counts generations,
+    // so a host that comes as a generation takes one is not lost.
+    come: AtomicU64,
     primary_failed: AtomicBool,
     backup_failed: AtomicBool,
     over: AtomicBool,
@@ -74,12 +81,13 @@ impl Hosts {
         let roles = Roles::at_boot();
         Hosts {
             link: Link::new(),
+            speed: Speed::new(),
             first: Mark::new(),
             second: Mark::new(),
             generation: AtomicU32::new(roles.generation),
             primary: AtomicU32::new(roles.primary),
             backup: AtomicU32::new(roles.backup.unwrap_or(NO_HOST)),
-            spares: AtomicU64::new(spares),
+            come: AtomicU64::new(spares),
             primary_failed: AtomicBool::new(false),
             backup_failed: AtomicBool::new(false),
             over: AtomicBool::new(false),
@@ -96,13 +104,12 @@ impl Hosts {
         }
     }
 
-    /// Other hosts run the machine; so many spare hosts are left.
-    pub(crate) fn change(&self, roles: Roles, spares: u64) {
+    /// Other hosts run the machine.
+    pub(crate) fn change(&self, roles: Roles) {
         self.generation.store(roles.generation, Ordering::SeqCst);
         self.primary.store(roles.primary, Ordering::SeqCst);
         self.backup
             .store(roles.backup.unwrap_or(NO_HOST), Ordering::SeqCst);
-        self.spares.store(spares, Ordering::SeqCst);
     }
 
     /// No host of those that run the machine now has failed.
@@ -118,14 +125,37 @@ impl Hosts {
         &self.link
     }
 
+    /// How fast the guest may run.
+    pub(crate) fn speed(&self) -> &Speed
+        ensures { result.now ≡ self.now.speed }
+    {
+        &self.speed
+    }
+
     /// How far the primary and the backup of this generation have come, as they noted it last.
     pub(crate) fn progress(&self) -> (Progress, Progress) {
         (self.first.get(), self.second.get())
     }
 
-    /// How many spare hosts are left.
+    /// Notes how far a node has come.
+    pub(crate) fn note(&self, who: Who, progress: Progress) {
+        match who {
+            Who::Primary => self.first.set(progress),
+            _ => self.second.set(progress),
+        }
+    }
+
+    /// How many spare hosts have come and are left.
     pub(crate) fn spares(&self) -> u64 {
-        self.spares.load(Ordering::SeqCst)
+        let come = self.come.load(Ordering::SeqCst);
+        spares_left(come, self.generation.load(Ordering::SeqCst))
+    }
+
+    /// One more spare host comes, of this number, unless all have come.
+    pub(crate) fn add_spare(&self) -> Option<u64> {
+        let host = next_spare(self.come.load(Ordering::SeqCst))?;
+        let _ = self.come.fetch_add(1, Ordering::SeqCst);
+        Some(host)
     }
 
     /// A host fails, and its peer is told.
@@ -153,28 +183,8 @@ impl Hosts {
         Stopped::Elsewhere
     }
 
-    /// The console is to end.
-    pub(crate) fn end(&self) {
-        self.over.store(true, Ordering::SeqCst);
-    }
-
-    /// Whether it is to.
-    pub(crate) fn is_over(&self) -> bool {
-        self.over.load(Ordering::SeqCst)
-    }
-}
-
-impl Gate for Hosts {
-    fn enter(&self, _who: Who, _turn: u64) -> bool {
-        true
-    }
-
-    fn leave(&self, _who: Who, _turn: u64) {}
-
-    fn suspects(&self, who: Who) -> bool {
-        if who == Who::Link {
-            return self.link.loses();
-        }
+    /// Whether a worker is told that its peer has failed.
+    pub(crate) fn is_told(&self, who: Who) -> bool {
         is_told(
             who,
             self.primary_failed.load(Ordering::SeqCst),
@@ -183,10 +193,30 @@ impl Gate for Hosts {
         )
     }
 
-    fn notes(&self, who: Who, progress: Progress) {
-        match who {
-            Who::Primary => self.first.set(progress),
-            _ => self.second.set(progress),
+    /// Holds the guest before its next turn until it is no faster than it may be. It has made so many steps.
+    pub(crate) fn hold<C: Clock>(&self, clock: &C, steps: u64) {
+        for _ in 0..u64::MAX {
+            match self.speed.wait(clock, steps) {
+                Some(wait) if !self.is_urgent() => thread::sleep(clock, wait),
+                _ => return,
+            }
         }
+    }
+
+    // Whether the guest is not held, since a host has failed or the console is to end.
+    fn is_urgent(&self) -> bool {
+        self.primary_failed.load(Ordering::SeqCst)
+            || self.backup_failed.load(Ordering::SeqCst)
+            || self.is_over()
+    }
+
+    /// The console is to end.
+    pub(crate) fn end(&self) {
+        self.over.store(true, Ordering::SeqCst);
+    }
+
+    /// Whether it is to.
+    pub(crate) fn is_over(&self) -> bool {
+        self.over.load(Ordering::SeqCst)
     }
 }

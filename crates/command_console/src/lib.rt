@@ -2,6 +2,7 @@
 #![tactic(auto)]
 
 mod console;
+mod gatekeeper;
 mod hosts;
 mod link;
 mod operator;
@@ -10,6 +11,8 @@ mod rings;
 mod roles;
 mod session;
 mod sitting;
+mod spares;
+mod speed;
 mod steward;
 
 pub use console::{Streams, run_console};

@@ -1,11 +1,12 @@
 //! What carries out the commands of a console.
-ghost use Rattle.std.specs.Prelude.{None};
+ghost use Rattle.std.specs.Prelude.{◌≡◌, None};
+ghost use Rattle.command_console.specs.Links.{percent_of};
 
 use crate::hosts::{Hosts, Stopped};
 use console_terminal::{Command, HELP, Interpreter};
 use std::alloc::{AllocError, Global};
 
-/// Has hosts fail and packets get lost, says how the pair is, and ends the console.
+/// Has hosts fail and come and packets get lost, says how fast the guest runs and how the pair is, and ends the console.
 #[derive(Drop)]
 pub(crate) struct Operator<'a> {
     alloc: Global,
@@ -17,8 +18,18 @@ impl<'a> Operator<'a> {
         Operator { alloc, hosts }
     }
 
-    // How the pair is.
+    // How the pair is, and how fast the guest may run if that is bounded.
     fn status(&self) -> Result<String, AllocError> {
+        let mut text = self.state()?;
+        if self.hosts.speed().bound().is_some() {
+            text.push_str("\r\n")?;
+            text.push_str(self.speed()?.as_str())?;
+        }
+        Ok(text)
+    }
+
+    // How the pair is.
+    fn state(&self) -> Result<String, AllocError> {
         let roles = self.hosts.roles();
         let (generation, primary, spares) = (roles.generation, roles.primary, self.hosts.spares());
         let Some(backup) = roles.backup else {
@@ -37,6 +48,31 @@ impl<'a> Operator<'a> {
         )
     }
 
+    // How fast the guest may run.
+    fn speed(&self) -> Result<String, AllocError> {
+        match self.hosts.speed().bound() {
+            Some(bound) => {
+                format!(in self.alloc; "the machine makes at most {bound} steps a second")
+            }
+            None => format!(in self.alloc; "the machine runs as fast as it can"),
+        }
+    }
+
+    // The guest makes at most so many steps a second from now on.
+    fn set_speed(&self, bound: u32) -> Result<String, AllocError> {
+        self.hosts.speed().set(u64::from(bound));
+        self.speed()
+    }
+
+    // One more spare host comes.
+    fn add_spare(&self) -> Result<String, AllocError> {
+        let Some(host) = self.hosts.add_spare() else {
+            return format!(in self.alloc; "no more than 100 hosts");
+        };
+        let spares = self.hosts.spares();
+        format!(in self.alloc; "host {host} has come; spare hosts: {spares}")
+    }
+
     // The link loses so many of 100 packets from now on.
     fn drop_of_100(&self, percent: u64) -> Option<String> {
         self.hosts.link().drop_of_100(percent);
@@ -51,7 +87,7 @@ impl<'a> Operator<'a> {
             }
             Stopped::Last => {
                 format!(in self.alloc;
-                    "host {host} is the only one that runs the machine: `quit` ends it"
+                    "host {host} is the only one that runs the machine: `spare` brings another, `quit` ends it"
                 )
             }
             Stopped::Elsewhere => format!(in self.alloc; "host {host} does not run the machine"),
@@ -66,9 +102,8 @@ impl Interpreter for Operator<'_> {
     fn carry_out(&mut self, command: Command) -> Option<String> {
         match command {
             Command::Stop(host) => self.stop(u32::from(host)).ok(),
-            Command::Cut => self.drop_of_100(100),
-            Command::Mend => self.drop_of_100(0),
-            Command::Drop(percent) => self.drop_of_100(u64::from(percent)),
+            Command::Spare => self.add_spare().ok(),
+            Command::Speed(bound) => self.set_speed(bound).ok(),
             Command::Status => self.status().ok(),
             Command::Terminal(_) => None,
             Command::Help => String::from_str(self.alloc, HELP).ok(),
@@ -76,6 +111,19 @@ impl Interpreter for Operator<'_> {
                 self.hosts.end();
                 None
             }
+            _ => self.drop_of_100(percent_of(command)?),
         }
+    }
+}
+
+// How many of 100 packets the link loses after a command about it.
+fn percent_of(command: Command) -> Option<u64>
+    ensures { result ≡ percent_of command }
+{
+    match command {
+        Command::Cut => Some(100),
+        Command::Mend => Some(0),
+        Command::Drop(percent) => Some(u64::from(percent)),
+        _ => None,
     }
 }

@@ -14,7 +14,6 @@ use crate::hosts::Hosts;
 use crate::operator::Operator;
 use crate::rings::{Ends, compare};
 use crate::sitting::{Machine, Sat, sit};
-use crate::steward::Announcer;
 use clone_state::Copies;
 use command_ending::Failure;
 use command_line::ConsoleOrder;
@@ -84,14 +83,13 @@ pub(crate) fn session<
         notes_from,
         lines_from,
     );
-    let announcer = Announcer::new(alloc, &hosts, lines_to);
     let Sat {
         listener,
         display,
         written,
         end,
     } = sit(
-        rt, alloc, machine, listener, display, announcer, &hosts, &signs,
+        rt, alloc, machine, listener, display, lines_to, &hosts, &signs,
     );
     let Listener {
         source,

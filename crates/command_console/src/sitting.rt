@@ -8,6 +8,7 @@ ghost use Rattle.console_terminal.specs.Screen.{IsClear, Wrote};
 ghost use Rattle.pair_generations.specs.Generations.{machine_at};
 ghost use Rattle.rtrb.specs.Ring.{known_free};
 
+use crate::gatekeeper::Gatekeeper;
 use crate::hosts::Hosts;
 use crate::steward::Announcer;
 use clone_state::Copies;
@@ -19,6 +20,7 @@ use pair_generations::{Limits, Next, run_pair_until_over};
 use pair_lines::Lines;
 use pair_standing::AloneEnd;
 use pair_threads::Workers;
+use rtrb::Producer;
 use shared_disk::SectorStore;
 use std::alloc::Global;
 use std::io::{self, Write};
@@ -80,13 +82,13 @@ fn rest<C: Clock>(clock: &C, signs: &Signs) {
     }
 }
 
-// Runs the pair until it is over.
+// Runs the pair until it is over. Lines about it go through a ring.
 fn run<B: Copies<K> + Send + Drop, K: Drop, D: SectorStore + Send, T: Threads + Clock + Sync>(
     rt: &T,
     alloc: Global,
     machine: Machine<B, K, D>,
     hosts: &Hosts,
-    announcer: Announcer<'_>,
+    told: Producer<String>,
     signs: &Signs,
 ) -> R<AloneEnd<B, D>>
     requires { MayRun B.state B.copied B.machine D.records machine }
@@ -100,14 +102,15 @@ fn run<B: Copies<K> + Send + Drop, K: Drop, D: SectorStore + Send, T: Threads + 
         later,
         limits,
     } = machine;
-    let mut steward = announcer;
+    let gate = Gatekeeper::new(hosts, rt);
+    let mut steward = Announcer::new(alloc, hosts, rt, told);
     let end = run_pair_until_over(
         rt,
         alloc,
         workers,
         lines,
         later,
-        hosts,
+        &gate,
         &mut steward,
         limits,
     );
@@ -129,7 +132,7 @@ fn run_and_show<
     alloc: Global,
     machine: Machine<B, K, D>,
     display: Display<W, N>,
-    announcer: Announcer<'_>,
+    told: Producer<String>,
     hosts: &Hosts,
     signs: &Signs,
 ) -> (R<AloneEnd<B, D>>, (Display<W, N>, io::Result<()>))
@@ -147,7 +150,7 @@ fn run_and_show<
             ensures { IfOk result (HasRun B.state D.records
                 (machine_at B.machine (B.state machine.workers.primary) (D.records machine.workers.disk))
                 machine.workers.typed0.items machine.workers.typed1.items machine.lines) }
-        { run(rt, alloc, machine, hosts, announcer, signs) },
+        { run(rt, alloc, machine, hosts, told, signs) },
         move || -> (Display<W, N>, io::Result<()>)
             requires { IsClear display }
             ensures { OnOk result.1 (Wrote W.contents N.contents display result.0) }
@@ -155,8 +158,8 @@ fn run_and_show<
     )
 }
 
-/// Runs a pair at a console until it is over: its keys are those that the listener hears, and what its terminals accept appears on the
-/// display.
+/// Runs a pair at a console until it is over: its keys are those that the listener hears, what its terminals accept appears on the
+/// display, and lines about it go through a ring.
 pub(crate) fn sit<
     B: Copies<K> + Send + Drop,
     K: Drop + Send,
@@ -172,7 +175,7 @@ pub(crate) fn sit<
     machine: Machine<B, K, D>,
     listener: Listener<S, I>,
     display: Display<W, N>,
-    announcer: Announcer<'_>,
+    told: Producer<String>,
     hosts: &Hosts,
     signs: &Signs,
 ) -> Sat<B, D, S, I, W, N>
@@ -197,7 +200,7 @@ pub(crate) fn sit<
                 (machine_at B.machine (B.state machine.workers.primary) (D.records machine.workers.disk))
                 machine.workers.typed0.items machine.workers.typed1.items machine.lines)
                 × OnOk result.1.1 (Wrote W.contents N.contents display result.1.0) }
-        { run_and_show(rt, alloc, machine, display, announcer, hosts, signs) },
+        { run_and_show(rt, alloc, machine, display, told, hosts, signs) },
     );
     Sat {
         listener,

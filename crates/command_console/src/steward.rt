@@ -5,39 +5,65 @@ use crate::roles::Roles;
 use pair_generations::{PairEvent, Steward};
 use rtrb::Producer;
 use std::alloc::{AllocError, Global};
+use std::time::Clock;
 
 /// Notes which hosts run the machine, and tells each change in a line.
-#[derive(Drop)]
-pub(crate) struct Announcer<'a> {
+pub(crate) struct Announcer<'a, C> {
     alloc: Global,
     hosts: &'a Hosts,
+    clock: &'a C,
     lines: Producer<String>,
 }
 
-impl<'a> Announcer<'a> {
+impl<C> Drop for Announcer<'_, C> {
+    fn drop(self) {
+        let Announcer {
+            alloc: _,
+            hosts: _,
+            clock: _,
+            lines: _lines,
+        } = self;
+    }
+}
+
+impl<'a, C> Announcer<'a, C> {
     /// It tells its lines through this ring.
-    pub(crate) fn new(alloc: Global, hosts: &'a Hosts, lines: Producer<String>) -> Announcer<'a> {
+    pub(crate) fn new(
+        alloc: Global,
+        hosts: &'a Hosts,
+        clock: &'a C,
+        lines: Producer<String>,
+    ) -> Announcer<'a, C> {
         Announcer {
             alloc,
             hosts,
+            clock,
             lines,
         }
     }
 }
 
-impl Steward for Announcer<'_> {
+impl<C: Clock> Steward for Announcer<'_, C> {
     fn is_over(&mut self) -> bool {
         self.hosts.is_over()
+    }
+
+    fn has_spare(&mut self) -> bool {
+        self.hosts.spares() > 0
+    }
+
+    fn holds(&mut self, steps: u64) {
+        self.hosts.hold(self.clock, steps);
     }
 
     // A line is lost if memory is refused for it, or if the ring is full, which has room for all that a run can have. Nothing is
     // told of how a console ends.
     fn hears(&mut self, event: PairEvent) {
-        let spares = self.hosts.spares();
         let roles = self.hosts.roles().after(event);
-        self.hosts.change(roles, spares_after(spares, event));
+        self.hosts.change(roles);
         if matches!(event, PairEvent::Won(_)) {
             self.hosts.forget_failures();
+            self.hosts.speed().count_anew();
         }
         if self.hosts.is_over() {
             return;
@@ -45,14 +71,6 @@ impl Steward for Announcer<'_> {
         if let Ok(line) = line_of(self.alloc, event, roles) {
             let _ = self.lines.push(line);
         }
-    }
-}
-
-// How many spare hosts are left after an event: a further generation takes one.
-fn spares_after(spares: u64, event: PairEvent) -> u64 {
-    match event {
-        PairEvent::Begins(generation) if generation > 1 => spares.saturating_sub(1),
-        _ => spares,
     }
 }
 
@@ -70,7 +88,7 @@ fn line_of(alloc: Global, event: PairEvent, roles: Roles) -> Result<String, Allo
         }
         (PairEvent::Begins(_), None) | (PairEvent::Alone, _) => {
             format!(in alloc;
-                "\r\npair: no spare host is left; host {primary} goes on without a backup\r\n"
+                "\r\npair: no spare host is left; host {primary} goes on without a backup until `spare` brings one\r\n"
             )
         }
     }

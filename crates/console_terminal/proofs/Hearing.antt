@@ -82,9 +82,11 @@ quit_by_order : (order : Order) → was_quit (ending_of Act.HandsOn order) ≡ l
 quit_by_order Order.Nothing = refl
 quit_by_order (Order.Mistake mistake) = refl
 quit_by_order (Order.Command (Command.Stop host)) = refl
+quit_by_order (Order.Command Command.Spare) = refl
 quit_by_order (Order.Command Command.Cut) = refl
 quit_by_order (Order.Command Command.Mend) = refl
 quit_by_order (Order.Command (Command.Drop percent)) = refl
+quit_by_order (Order.Command (Command.Speed steps)) = refl
 quit_by_order (Order.Command Command.Status) = refl
 quit_by_order (Order.Command (Command.Terminal port)) = refl
 quit_by_order (Order.Command Command.Help) = refl

@@ -1,7 +1,7 @@
 -- The commands of a console, and how a line spells them.
-use Rattle.std.specs.Prelude.{◌≡◌, ◌++◌, ℕ, ◌+◌, ◌*◌, ◌-◌, ◌==◌, ◌&&◌, nat_le, Bool, if◌then◌else◌, List, [], ◌∷◌, take, drop, length, map, Option, None, Some, bytes_eq, codes}
+use Rattle.std.specs.Prelude.{◌≡◌, ◌++◌, ℕ, ◌+◌, ◌*◌, ◌-◌, ◌==◌, ◌&&◌, ◌||◌, nat_le, nat_lt, Bool, if◌then◌else◌, List, [], ◌∷◌, take, drop, length, map, Option, None, Some, bytes_eq, codes}
 use Rattle.std.specs.List.{position_or_len, prefix_len}
-use Rattle.std.specs.Option.{option_map}
+use Rattle.std.specs.Option.{option_and_then, option_map}
 use Rattle.std.specs.Char.{to_ascii_lowercase}
 use Rattle.console_terminal.specs.declared.command.Command.{Command}
 use Rattle.console_terminal.specs.declared.command.Keyword.{Keyword}
@@ -41,9 +41,9 @@ after_word line = drop (bytes_before_space (without_spaces line)) (without_space
 -- each command's word
 abbrev pub keywords : List (List ℕ × Keyword)
 keywords =
-    (codes "stop", Keyword.Stop) ∷ (codes "cut", Keyword.Cut) ∷ (codes "mend", Keyword.Mend) ∷ (codes "drop", Keyword.Drop)
-    ∷ (codes "status", Keyword.Status) ∷ (codes "terminal", Keyword.Terminal) ∷ (codes "help", Keyword.Help)
-    ∷ (codes "quit", Keyword.Quit) ∷ []
+    (codes "stop", Keyword.Stop) ∷ (codes "spare", Keyword.Spare) ∷ (codes "cut", Keyword.Cut) ∷ (codes "mend", Keyword.Mend)
+    ∷ (codes "drop", Keyword.Drop) ∷ (codes "speed", Keyword.Speed) ∷ (codes "status", Keyword.Status)
+    ∷ (codes "terminal", Keyword.Terminal) ∷ (codes "help", Keyword.Help) ∷ (codes "quit", Keyword.Quit) ∷ []
 
 -- the two are the same but for the case of letters
 abbrev pub is_same_word : List ℕ → List ℕ → Bool
@@ -72,26 +72,51 @@ number_of (units ∷ []) = digit_of units
 number_of (tens ∷ units ∷ []) = two_digits (digit_of tens) (digit_of units)
 number_of _ = None
 
+-- the number, 999,999,999 at most, that one digit more spells after those of a number
+abbrev pub longer : ℕ → ℕ → Option ℕ
+longer number byte =
+    if nat_lt number 100000000 then option_map (λ (digit : ℕ). number * 10 + digit) (digit_of byte) else None
+
+-- what these digits spell after those of a number
+abbrev pub number_after : ℕ → List ℕ → Option ℕ
+number_after number [] = Some number
+number_after number (byte ∷ bytes) = option_and_then (λ (more : ℕ). number_after more bytes) (longer number byte)
+
+-- the number, 999,999,999 at most, that one digit or more spell
+abbrev pub long_number_of : List ℕ → Option ℕ
+long_number_of word = if is_empty word then None else number_after 0 word
+
+abbrev as_speed : ℕ → Option ℕ
+as_speed number = if (number == 0) || nat_le 10000 number then Some number else None
+
+-- a speed: 0, or a number from 10,000 on
+abbrev pub speed_of : List ℕ → Option ℕ
+speed_of word = option_and_then as_speed (long_number_of word)
+
 -- the number of a port: 0 or 1
 abbrev pub port_of : List ℕ → Option Port
 port_of (digit ∷ []) = if digit == 48 then Some Port.Zero else (if digit == 49 then Some Port.One else None)
 port_of _ = None
 
-abbrev alone : Command → List ℕ → Option Command
-alone command value = if is_empty value then Some command else None
+-- the command of a keyword with nothing after it
+abbrev pub plain_command : Keyword → Option Command
+plain_command Keyword.Spare = Some Command.Spare
+plain_command Keyword.Cut = Some Command.Cut
+plain_command Keyword.Mend = Some Command.Mend
+plain_command Keyword.Status = Some Command.Status
+plain_command Keyword.Help = Some Command.Help
+plain_command Keyword.Quit = Some Command.Quit
+plain_command _ = None
 
 -- the command of a keyword with the word after it
 abbrev pub command_by : Keyword → List ℕ → Option Command
 command_by Keyword.Stop value = option_map (λ (host : ℕ). Command.Stop host) (number_of value)
-command_by Keyword.Cut value = alone Command.Cut value
-command_by Keyword.Mend value = alone Command.Mend value
 command_by Keyword.Drop value = option_map (λ (percent : ℕ). Command.Drop percent) (number_of value)
-command_by Keyword.Status value = alone Command.Status value
+command_by Keyword.Speed value = option_map (λ (steps : ℕ). Command.Speed steps) (speed_of value)
 command_by Keyword.Terminal value = option_map (λ port. Command.Terminal port) (port_of value)
-command_by Keyword.Help value = alone Command.Help value
-command_by Keyword.Quit value = alone Command.Quit value
+command_by keyword value = if is_empty value then plain_command keyword else None
 
--- a command with nothing after it, or what is wrong
+-- a command and no more words, or what is wrong
 abbrev judged : Keyword → Option Command → List ℕ → Order
 judged keyword None more = Order.Mistake (Mistake.Unfit keyword)
 judged keyword (Some command) more =
@@ -116,5 +141,6 @@ abbrev pub mistake_text : Mistake → List ℕ
 mistake_text Mistake.Unknown = codes "no such command; `help` lists them"
 mistake_text (Mistake.Unfit Keyword.Stop) = codes "`stop` is followed by the number of a host"
 mistake_text (Mistake.Unfit Keyword.Drop) = codes "`drop` is followed by a number from 0 to 99"
+mistake_text (Mistake.Unfit Keyword.Speed) = codes "`speed` is followed by 0, or by a number from 10000 to 999999999"
 mistake_text (Mistake.Unfit Keyword.Terminal) = codes "`terminal` is followed by 0 or 1"
 mistake_text (Mistake.Unfit _) = codes "nothing comes after that word"

@@ -1,6 +1,6 @@
 //! The commands of a console, and how a line spells them.
 ghost use Rattle.std.specs.Prelude.{◌≡◌, ◌≤◌, length, map};
-ghost use Rattle.console_terminal.specs.Commands.{after_word, bytes_before_space, command_by, digit_of, first_word, number_of, is_same_word, keyword_among, keyword_of, mistake_text, order_of, port_of, spaces_before};
+ghost use Rattle.console_terminal.specs.Commands.{after_word, bytes_before_space, command_by, digit_of, first_word, is_same_word, keyword_among, keyword_of, long_number_of, longer, mistake_text, number_of, order_of, plain_command, port_of, spaces_before, speed_of};
 
 use crate::port::Port;
 
@@ -9,12 +9,16 @@ use crate::port::Port;
 pub enum Command {
     /// The host of this number fails, and its peer is told so.
     Stop(u8),
+    /// One more spare host comes.
+    Spare,
     /// The link loses every packet.
     Cut,
     /// It delivers each.
     Mend,
     /// Of 100 packets it loses so many.
     Drop(u8),
+    /// The guest makes at most so many steps a second; with 0 it runs as fast as it can.
+    Speed(u32),
     /// How the pair is.
     Status,
     /// One turns to the terminal of this port.
@@ -29,9 +33,11 @@ pub enum Command {
 #[derive(Debug, Clone, Copy, PartialEq, Eq)]
 pub enum Keyword {
     Stop,
+    Spare,
     Cut,
     Mend,
     Drop,
+    Speed,
     Status,
     Terminal,
     Help,
@@ -56,12 +62,17 @@ pub enum Order {
     Mistake(Mistake),
 }
 
+// The least speed above 0. A guest makes up to so many steps in one turn, so a slower one would stand still for seconds.
+const LEAST_SPEED: u32 = 10_000;
+
 /// The commands, a line each.
 pub const HELP: &str = "\
 stop N       host N fails, and its peer is told\r\n\
+spare        one more spare host comes\r\n\
 cut          the link loses every packet\r\n\
 mend         the link delivers every packet\r\n\
 drop N       the link loses N of 100 packets\r\n\
+speed N      at most N steps a second (2 MHz: about 300000); 0 is no limit\r\n\
 status       how the pair is\r\n\
 terminal P   turns to the terminal of port 0 or 1\r\n\
 help         these lines\r\n\
@@ -69,11 +80,13 @@ quit         ends the console\r\n\
 The escape key once more types that key itself; ESC or Ctrl-C leaves the line.";
 
 // Each keyword with its word.
-static KEYWORDS: [(&[u8], Keyword); 8] = [
+static KEYWORDS: [(&[u8], Keyword); 10] = [
     (b"stop", Keyword::Stop),
+    (b"spare", Keyword::Spare),
     (b"cut", Keyword::Cut),
     (b"mend", Keyword::Mend),
     (b"drop", Keyword::Drop),
+    (b"speed", Keyword::Speed),
     (b"status", Keyword::Status),
     (b"terminal", Keyword::Terminal),
     (b"help", Keyword::Help),
@@ -159,12 +172,24 @@ fn command_by(keyword: Keyword, value: &[u8]) -> Option<Command>
     match keyword {
         Keyword::Stop => Some(Command::Stop(number_of(value)?)),
         Keyword::Drop => Some(Command::Drop(number_of(value)?)),
+        Keyword::Speed => Some(Command::Speed(speed_of(value)?)),
         Keyword::Terminal => Some(Command::Terminal(port_of(value)?)),
-        Keyword::Cut if value.is_empty() => Some(Command::Cut),
-        Keyword::Mend if value.is_empty() => Some(Command::Mend),
-        Keyword::Status if value.is_empty() => Some(Command::Status),
-        Keyword::Help if value.is_empty() => Some(Command::Help),
-        Keyword::Quit if value.is_empty() => Some(Command::Quit),
+        _ if value.is_empty() => plain_command(keyword),
+        _ => None,
+    }
+}
+
+// The command of a keyword with nothing after it.
+fn plain_command(keyword: Keyword) -> Option<Command>
+    ensures { result ≡ plain_command keyword }
+{
+    match keyword {
+        Keyword::Spare => Some(Command::Spare),
+        Keyword::Cut => Some(Command::Cut),
+        Keyword::Mend => Some(Command::Mend),
+        Keyword::Status => Some(Command::Status),
+        Keyword::Help => Some(Command::Help),
+        Keyword::Quit => Some(Command::Quit),
         _ => None,
     }
 }
@@ -191,6 +216,41 @@ fn number_of(word: &[u8]) -> Option<u8>
     }
 }
 
+// The speed that a word spells: 0, or a number from 10,000 to 999,999,999.
+fn speed_of(word: &[u8]) -> Option<u32>
+    ensures { result ≡ speed_of word.now }
+{
+    let speed = long_number_of(word)?;
+    (speed == 0 || speed >= LEAST_SPEED).then_some(speed)
+}
+
+// The number that decimal digits spell, 999,999,999 at most.
+fn long_number_of(word: &[u8]) -> Option<u32>
+    ensures { result ≡ long_number_of word.now }
+{
+    if word.is_empty() {
+        return None;
+    }
+    let mut number = 0;
+    let mut rest = word;
+    'digits: while let [byte, after @ ..] = rest {
+        number = longer(number, *byte)?;
+        rest = after;
+    }
+    Some(number)
+}
+
+// The number that one digit more spells after those of a number, 999,999,999 at most.
+fn longer(number: u32, byte: u8) -> Option<u32>
+    ensures { result ≡ longer number byte }
+{
+    let digit = digit_of(byte)?;
+    if number >= 100_000_000 {
+        return None;
+    }
+    Some(number * 10 + u32::from(digit))
+}
+
 // The number that a decimal digit is.
 fn digit_of(byte: u8) -> Option<u8>
     ensures { result ≡ digit_of byte }
@@ -210,6 +270,9 @@ impl Mistake {
             Mistake::Unknown => "no such command; `help` lists them",
             Mistake::Unfit(Keyword::Stop) => "`stop` is followed by the number of a host",
             Mistake::Unfit(Keyword::Drop) => "`drop` is followed by a number from 0 to 99",
+            Mistake::Unfit(Keyword::Speed) => {
+                "`speed` is followed by 0, or by a number from 10000 to 999999999"
+            }
             Mistake::Unfit(Keyword::Terminal) => "`terminal` is followed by 0 or 1",
             Mistake::Unfit(_) => "nothing comes after that word",
         }

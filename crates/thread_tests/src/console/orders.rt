@@ -2,7 +2,7 @@
 
 use console_terminal::{Command, Keyword, Mistake, Order, Port, order_of};
 
-static LINES: [(&[u8], Order); 28] = [
+static LINES: [(&[u8], Order); 38] = [
     (b"", Order::Nothing),
     (b"   ", Order::Nothing),
     (b"stop 0", Order::Command(Command::Stop(0))),
@@ -15,6 +15,31 @@ static LINES: [(&[u8], Order); 28] = [
     (b"stop x1", Order::Mistake(Mistake::Unfit(Keyword::Stop))),
     (b"stop -1", Order::Mistake(Mistake::Unfit(Keyword::Stop))),
     (b"stop 1 2", Order::Mistake(Mistake::Unfit(Keyword::Stop))),
+    (b"spare", Order::Command(Command::Spare)),
+    (b"spare 1", Order::Mistake(Mistake::Unfit(Keyword::Spare))),
+    (b"speed 0", Order::Command(Command::Speed(0))),
+    (b"speed 10000", Order::Command(Command::Speed(10_000))),
+    (
+        b"speed 0999999999",
+        Order::Command(Command::Speed(999_999_999)),
+    ),
+    (b"speed", Order::Mistake(Mistake::Unfit(Keyword::Speed))),
+    (
+        b"speed 9999",
+        Order::Mistake(Mistake::Unfit(Keyword::Speed)),
+    ),
+    (
+        b"speed 1000000000",
+        Order::Mistake(Mistake::Unfit(Keyword::Speed)),
+    ),
+    (
+        b"speed 4294977296",
+        Order::Mistake(Mistake::Unfit(Keyword::Speed)),
+    ),
+    (
+        b"speed 20000x",
+        Order::Mistake(Mistake::Unfit(Keyword::Speed)),
+    ),
     (b"status", Order::Command(Command::Status)),
     (b"STATUS", Order::Command(Command::Status)),
     (b"status 1", Order::Mistake(Mistake::Unfit(Keyword::Status))),
