@@ -1,5 +1,5 @@
 -- Which hosts run the machine of a pair.
-use Rattle.std.specs.Prelude.{ℕ, nat_lt, Bool, false, ◌||◌, if◌then◌else◌, Some, None, unwrap_or}
+use Rattle.std.specs.Prelude.{ℕ, ◌+◌, ◌-◌, ◌^◌, min, nat_lt, Bool, false, ◌||◌, if◌then◌else◌, Some, None, unwrap_or}
 use Rattle.command_console.specs.declared.roles.Roles.{Roles}
 use Rattle.pair_generations.specs.declared.steward.PairEvent.{PairEvent}
 use Rattle.pair_generations.specs.declared.steward.PairEvent.TheVariants.{Won, Begins, Alone}
@@ -8,18 +8,22 @@ use Rattle.pair_threads.specs.declared.gate.Who.TheVariants.{Primary, Backup, Li
 
 -- hosts 0 and 1 begin
 abbrev pub roles_at_boot : Roles
-roles_at_boot = record { generation = 1; primary = 0; backup = Some 1 }
+roles_at_boot = record { generation = 1; primary = 0; backup = Some 1; next = 2 }
+
+-- the next spare host is used up
+abbrev pub without_spare : Roles → Roles
+without_spare r = record r { next = min (r.next + 1) (2 ^ 32 - 1) }
 
 -- the host of a node
 abbrev pub host_of : Who → Roles → ℕ
 host_of Backup r = unwrap_or r.backup r.primary
 host_of who r = r.primary
 
--- after this event these hosts run the machine: whoever has won, alone; in a further generation also the spare host that has its number
+-- after this event these hosts run the machine: whoever has won, alone; in a further generation also the next spare host
 abbrev pub roles_after : PairEvent → Roles → Roles
-roles_after (Won who) r = record { generation = r.generation; primary = host_of who r; backup = None }
+roles_after (Won who) r = record r { primary = host_of who r; backup = None }
 roles_after (Begins generation) r =
-    if nat_lt 1 generation then record { generation = generation; primary = r.primary; backup = Some generation } else r
+    if nat_lt 1 generation then record (without_spare r) { generation = generation; backup = Some r.next } else r
 roles_after Alone r = r
 
 -- whose peer has failed, or who is to end the run

@@ -7,9 +7,9 @@ use Rattle.pair_threads.specs.declared.link.Fate.{Fate}
 abbrev pub next_spare : ℕ → Option ℕ
 next_spare come = if nat_lt come 98 then Some (come + 2) else None
 
--- how many of so many that have come are left in a generation: each generation after the first has taken one
+-- how many of so many that have come are left, if this one is used next: those from host 2 on that come before it are used up
 abbrev pub spares_left : ℕ → ℕ → ℕ
-spares_left come generation = come - (generation - 1)
+spares_left come next = come - (next - 2)
 
 -- a host to which links of these fates lead; nobody asks at a turn in its generation
 pub record IsSpare {H : Type 0} (fates : List Fate) (next : Next H) : Type 0 where

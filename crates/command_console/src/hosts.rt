@@ -56,8 +56,9 @@ pub(crate) struct Hosts {
     generation: AtomicU32,
     primary: AtomicU32,
     backup: AtomicU32,
-    // How many spare hosts have come. The thread that carries out commands adds to it, and the one that runs the pair counts generations,
-    // so a host that comes as a generation takes one is not lost.
+    next: AtomicU32,
+    // How many spare hosts have come. The thread that carries out commands adds to it, and the one that runs the pair counts those that
+    // are used up, so a host that comes as a generation takes one is not lost.
     come: AtomicU64,
     primary_failed: AtomicBool,
     backup_failed: AtomicBool,
@@ -87,6 +88,7 @@ impl Hosts {
             generation: AtomicU32::new(roles.generation),
             primary: AtomicU32::new(roles.primary),
             backup: AtomicU32::new(roles.backup.unwrap_or(NO_HOST)),
+            next: AtomicU32::new(roles.next),
             come: AtomicU64::new(spares),
             primary_failed: AtomicBool::new(false),
             backup_failed: AtomicBool::new(false),
@@ -101,6 +103,7 @@ impl Hosts {
             generation: self.generation.load(Ordering::SeqCst),
             primary: self.primary.load(Ordering::SeqCst),
             backup: (backup != NO_HOST).then_some(backup),
+            next: self.next.load(Ordering::SeqCst),
         }
     }
 
@@ -110,6 +113,7 @@ impl Hosts {
         self.primary.store(roles.primary, Ordering::SeqCst);
         self.backup
             .store(roles.backup.unwrap_or(NO_HOST), Ordering::SeqCst);
+        self.next.store(roles.next, Ordering::SeqCst);
     }
 
     /// No host of those that run the machine now has failed.
@@ -148,7 +152,7 @@ impl Hosts {
     /// How many spare hosts have come and are left.
     pub(crate) fn spares(&self) -> u64 {
         let come = self.come.load(Ordering::SeqCst);
-        spares_left(come, self.generation.load(Ordering::SeqCst))
+        spares_left(come, self.next.load(Ordering::SeqCst))
     }
 
     /// One more spare host comes, of this number, unless all have come.

@@ -1,17 +1,19 @@
 //! Which hosts run the machine.
 ghost use Rattle.std.specs.Prelude.{◌≡◌};
-ghost use Rattle.command_console.specs.Roles.{host_of, is_told, roles_after, roles_at_boot};
+ghost use Rattle.command_console.specs.Roles.{host_of, is_told, roles_after, roles_at_boot, without_spare};
 
 use pair_generations::PairEvent;
 use pair_threads::Who;
 
-/// The hosts of a generation, by their numbers. Hosts 0 and 1 begin, and host K is the spare host of generation K.
+/// The hosts of a generation, by their numbers. Hosts 0 and 1 begin; spare hosts are used one after another, from host 2 on.
 #[derive(Clone, Copy, PartialEq, Eq)]
 pub(crate) struct Roles {
     pub(crate) generation: u32,
     pub(crate) primary: u32,
     /// None if the primary is alone.
     pub(crate) backup: Option<u32>,
+    /// The spare host that is used next.
+    pub(crate) next: u32,
 }
 
 impl Roles {
@@ -23,6 +25,7 @@ impl Roles {
             generation: 1,
             primary: 0,
             backup: Some(1),
+            next: 2,
         }
     }
 
@@ -32,16 +35,26 @@ impl Roles {
     {
         match event {
             PairEvent::Won(who) => Roles {
-                generation: self.generation,
                 primary: self.host_of(who),
                 backup: None,
+                ..self
             },
             PairEvent::Begins(generation) if generation > 1 => Roles {
                 generation,
-                primary: self.primary,
-                backup: Some(generation),
+                backup: Some(self.next),
+                ..self.without_spare()
             },
             PairEvent::Begins(_) | PairEvent::Alone => self,
+        }
+    }
+
+    /// What they are once the next spare host is used up.
+    pub(crate) fn without_spare(self) -> Roles
+        ensures { result ≡ without_spare self }
+    {
+        Roles {
+            next: self.next.saturating_add(1),
+            ..self
         }
     }
 

@@ -24,11 +24,11 @@ pub(crate) fn next_spare(come: u64) -> Option<u64>
     }
 }
 
-/// How many of so many that have come are left in a generation. Each generation after the first has taken one.
-pub(crate) fn spares_left(come: u64, generation: u32) -> u64
-    ensures { result ≡ spares_left come generation }
+/// How many of so many that have come are left, if this one is used next.
+pub(crate) fn spares_left(come: u64, next: u32) -> u64
+    ensures { result ≡ spares_left come next }
 {
-    come.saturating_sub(u64::from(generation.saturating_sub(1)))
+    come.saturating_sub(u64::from(next.saturating_sub(2)))
 }
 
 /// All that may ever come, to which links of these fates lead.

@@ -41,6 +41,18 @@ impl<'a, C> Announcer<'a, C> {
             lines,
         }
     }
+
+    // A line is lost if memory is refused for it, or if the ring is full, which has room for all that a run can have.
+    fn tell(&mut self, line: Result<String, AllocError>) {
+        if let Ok(line) = line {
+            let _ = self.lines.push(line);
+        }
+    }
+}
+
+// What is told of a spare host that has failed while the guest was copied to it.
+fn lost_line(alloc: Global, host: u32) -> Result<String, AllocError> {
+    format!(in alloc; "\r\npair: host {host} has failed before it had the machine\r\n")
 }
 
 impl<C: Clock> Steward for Announcer<'_, C> {
@@ -56,8 +68,13 @@ impl<C: Clock> Steward for Announcer<'_, C> {
         self.hosts.hold(self.clock, steps);
     }
 
-    // A line is lost if memory is refused for it, or if the ring is full, which has room for all that a run can have. Nothing is
-    // told of how a console ends.
+    fn loses_spare(&mut self) {
+        let roles = self.hosts.roles();
+        self.hosts.change(roles.without_spare());
+        self.tell(lost_line(self.alloc, roles.next));
+    }
+
+    // Nothing is told of how a console ends.
     fn hears(&mut self, event: PairEvent) {
         let roles = self.hosts.roles().after(event);
         self.hosts.change(roles);
@@ -68,9 +85,7 @@ impl<C: Clock> Steward for Announcer<'_, C> {
         if self.hosts.is_over() {
             return;
         }
-        if let Ok(line) = line_of(self.alloc, event, roles) {
-            let _ = self.lines.push(line);
-        }
+        self.tell(line_of(self.alloc, event, roles));
     }
 }
 
