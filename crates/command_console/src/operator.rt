@@ -111,7 +111,9 @@ impl Interpreter for Operator<'_> {
                 self.hosts.end();
                 None
             }
-            _ => self.drop_of_100(percent_of(command)?),
+            Command::Cut | Command::Mend | Command::Drop(_) => {
+                self.drop_of_100(percent_of(command)?)
+            }
         }
     }
 }

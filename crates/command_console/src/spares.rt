@@ -59,10 +59,12 @@ pub(crate) fn spare_hosts<
 fn spare_host<H: Drop>(link: &Vec<Fate>, host: H) -> R<Next<H>>
     ensures { IfOk result (IsSpare link.now.items) }
 {
+    let copy_fates = link.clone()?;
+    let fates = link.clone()?;
     Ok(Next {
         host,
-        copy_fates: link.clone()?,
-        fates: link.clone()?,
+        copy_fates,
+        fates,
         primary_contests: None,
         backup_contests: None,
     })
