@@ -1,4 +1,4 @@
-//! What the threads of a console know of the hosts.
+//! What the threads of a console know of each other and of the hosts.
 ghost use Rattle.std.specs.Prelude.{◌≡◌};
 
 use crate::link::Link;
@@ -63,6 +63,8 @@ pub(crate) struct Hosts {
     primary_failed: AtomicBool,
     backup_failed: AtomicBool,
     over: AtomicBool,
+    // How many threads of the console have begun.
+    begun: AtomicU32,
 }
 
 /// What comes of a command that has a host fail.
@@ -93,6 +95,7 @@ impl Hosts {
             primary_failed: AtomicBool::new(false),
             backup_failed: AtomicBool::new(false),
             over: AtomicBool::new(false),
+            begun: AtomicU32::new(0),
         }
     }
 
@@ -212,6 +215,16 @@ impl Hosts {
         self.primary_failed.load(Ordering::SeqCst)
             || self.backup_failed.load(Ordering::SeqCst)
             || self.is_over()
+    }
+
+    /// One more thread of the console begins.
+    pub(crate) fn begin(&self) {
+        let _ = self.begun.fetch_add(1, Ordering::SeqCst);
+    }
+
+    /// How many have begun.
+    pub(crate) fn begun(&self) -> u32 {
+        self.begun.load(Ordering::SeqCst)
     }
 
     /// The console is to end.

@@ -15,7 +15,7 @@ use clone_state::Copies;
 use console_terminal::{
     Display, Ending, Interpreter, KeySource, Listener, Signs, listen, show_all,
 };
-use i8080_words::R;
+use i8080_words::{Fault, R};
 use pair_generations::{Limits, Next, run_pair_until_over};
 use pair_lines::Lines;
 use pair_standing::AloneEnd;
@@ -49,6 +49,28 @@ pub(crate) struct Sat<B: Drop, D: SectorStore, S, I, W, N> {
     pub(crate) end: R<AloneEnd<B, D>>,
 }
 
+// The threads of a console: one hears keys, one runs the pair, and one writes what appears.
+const THREADS: u32 = 3;
+
+// For how many milliseconds one of them waits for the others.
+const PATIENCE: u32 = 10_000;
+
+// A thread begins, and waits for the others. If one of them does not begin, since memory is refused for it, the console is to end, and
+// nobody waits for anybody.
+fn begin<C: Clock>(clock: &C, hosts: &Hosts, signs: &Signs) {
+    hosts.begin();
+    for _ in 0..PATIENCE {
+        if hosts.begun() >= THREADS || signs.is_stopped() {
+            return;
+        }
+        thread::sleep(clock, Duration::from_millis(1));
+    }
+    hosts.end();
+    signs.stop();
+    signs.hear_all();
+    signs.show_all();
+}
+
 // Hears keys until the console is to end.
 fn hear<C: Clock, S: KeySource + Drop, I: Interpreter + Drop>(
     clock: &C,
@@ -59,6 +81,7 @@ fn hear<C: Clock, S: KeySource + Drop, I: Interpreter + Drop>(
     requires { 3 ≤ known_free listener.notes }
     ensures { Listens S.left I.given (Some result.1) listener result.0 }
 {
+    begin(clock, hosts, signs);
     let (listener, ending) = listen(clock, listener, signs);
     if ending == Ending::EndOfInput {
         rest(clock, signs);
@@ -82,7 +105,7 @@ fn rest<C: Clock>(clock: &C, signs: &Signs) {
     }
 }
 
-// Runs the pair until it is over. Lines about it go through a ring.
+// Runs the pair until it is over, if all threads of the console have begun.
 fn run<B: Copies<K> + Send + Drop, K: Drop, D: SectorStore + Send, T: Threads + Clock + Sync>(
     rt: &T,
     alloc: Global,
@@ -90,6 +113,29 @@ fn run<B: Copies<K> + Send + Drop, K: Drop, D: SectorStore + Send, T: Threads + 
     hosts: &Hosts,
     told: Producer<String>,
     signs: &Signs,
+) -> R<AloneEnd<B, D>>
+    requires { MayRun B.state B.copied B.machine D.records machine }
+    ensures { IfOk result (HasRun B.state D.records
+        (machine_at B.machine (B.state machine.workers.primary) (D.records machine.workers.disk))
+        machine.workers.typed0.items machine.workers.typed1.items machine.lines) }
+{
+    begin(rt, hosts, signs);
+    if signs.is_stopped() {
+        return Err(Fault::OutOfMemory);
+    }
+    let end = run_pair(rt, alloc, machine, hosts, told);
+    signs.stop();
+    signs.show_all();
+    end
+}
+
+// Runs the pair until it is over. Lines about it go through a ring.
+fn run_pair<B: Copies<K> + Send + Drop, K: Drop, D: SectorStore + Send, T: Threads + Clock + Sync>(
+    rt: &T,
+    alloc: Global,
+    machine: Machine<B, K, D>,
+    hosts: &Hosts,
+    told: Producer<String>,
 ) -> R<AloneEnd<B, D>>
     requires { MayRun B.state B.copied B.machine D.records machine }
     ensures { IfOk result (HasRun B.state D.records
@@ -104,7 +150,7 @@ fn run<B: Copies<K> + Send + Drop, K: Drop, D: SectorStore + Send, T: Threads + 
     } = machine;
     let gate = Gatekeeper::new(hosts, rt);
     let mut steward = Announcer::new(alloc, hosts, rt, told);
-    let end = run_pair_until_over(
+    run_pair_until_over(
         rt,
         alloc,
         workers,
@@ -113,10 +159,21 @@ fn run<B: Copies<K> + Send + Drop, K: Drop, D: SectorStore + Send, T: Threads + 
         &gate,
         &mut steward,
         limits,
-    );
-    signs.stop();
-    signs.show_all();
-    end
+    )
+}
+
+// Writes what appears until the console is to end.
+fn show<C: Clock, W: Write + Drop, N: Write + Drop>(
+    clock: &C,
+    display: Display<W, N>,
+    hosts: &Hosts,
+    signs: &Signs,
+) -> (Display<W, N>, io::Result<()>)
+    requires { IsClear display }
+    ensures { OnOk result.1 (Wrote W.contents N.contents display result.0) }
+{
+    begin(clock, hosts, signs);
+    show_all(clock, display, signs)
 }
 
 // Runs the pair until it is over, and meanwhile writes what appears.
@@ -154,7 +211,7 @@ fn run_and_show<
         move || -> (Display<W, N>, io::Result<()>)
             requires { IsClear display }
             ensures { OnOk result.1 (Wrote W.contents N.contents display result.0) }
-        { show_all(rt, display, signs) },
+        { show(rt, display, hosts, signs) },
     )
 }
 
