@@ -1,9 +1,10 @@
 -- Where the run of a pair is settled: something is known there, and the image of its guest makes the guest again.
-use Rattle.std.proofs.Common.{◌≡◌, ℕ, List, Some}
+use Rattle.std.proofs.Common.{◌≡◌, ℕ, List, Some, subst}
 use Rattle.guest_lockstep.specs.Machine.{Machine}
 use Rattle.guest_parts.specs.Guest.{Guest}
 use Rattle.pair_generations.specs.Generations.{IsSettled, MayBeKnownAt, machine_at}
 use Rattle.pair_generations.specs.Guests.{IsGuest}
+use Rattle.pair_generations.specs.declared.origin.Origin.{Origin}
 use Rattle.pair_protocol.proofs.Promises.Growth.{row_grows}
 use Rattle.pair_protocol.proofs.Promises.Runs.{always_faithful, changes_reach}
 use Rattle.pair_protocol.proofs.RowActions.{row_changes}
@@ -23,6 +24,13 @@ threads_faithful = runs_shown row_changes changes_reach always_faithful row_grow
 
 shown : {S : Type 0} → SettledRunsAreShown S
 shown = settled_shown threads_faithful
+
+-- it is so of the machine of any origin that is the same
+pub settled_at : {B D S : Type 0} (state : B → S) (records : D → List Record) (N : Machine S) (here there : Origin B)
+    (st : Standing B D) → here ≡ there → IsSettled state records (machine_at N (state here.boot) here.records) st
+    → IsSettled state records (machine_at N (state there.boot) there.records) st
+settled_at state records N here there st same settled =
+    subst (λ (o : Origin _). IsSettled state records (machine_at N (state o.boot) o.records) st) same settled
 
 module _ {B D S : Type 0} (state : B → S) (copied : B → Guest) (records : D → List Record) (N : Machine S) (boot : S)
     (first : List Record) (guest : IsGuest state copied (machine_at N boot first)) (st : Standing B D)
