@@ -3,8 +3,8 @@
 
 usage: tools/console.py PROGRAM console [OPTION ..]
 
-The options are those of tools/options.py that are for `console`, and the program's own --spares and --link. Without --load, --disk and
---setup the guest is the monitor of examples/guests.
+The options are those of tools/options.py that are for `console`, and the program's own --spares and --link. Without --load, --disk,
+--memory and --setup the guest is the monitor of examples/guests.
 
 A terminal gives each key as it is typed, Ctrl-C among them, and is set back as it was however the command ends. If it hangs up, no
 more keys come, and a program that goes on for half a minute is ended. If the input is a file or a pipe, its end is that of the keys.
@@ -28,7 +28,7 @@ import tty
 sys.path.insert(0, os.path.dirname(os.path.realpath(__file__)))
 import disks
 from files import hex_lines, image_in, place_in, read, save
-from options import complain, count_in, drives_in, key_lines, numbered, spelled, taken
+from options import complain, count_in, drives_in, key_lines, memory_line, numbered, sense_line, spelled, taken
 from screen import Screen
 
 MONITOR = os.path.join(os.path.dirname(os.path.dirname(os.path.realpath(__file__))), "examples/guests/monitor.hex")
@@ -87,6 +87,8 @@ class Asked:
     def take(self, option, value):
         if option in HANDED_ON:
             self.own += [option, HANDED_ON[option](value)]
+        elif option == "--sense":
+            self.setup += spelled([sense_line(value)])
         elif option == "--type":
             self.keys += key_lines(*numbered(option, value, 1))
         elif option == "--save-disk":
@@ -96,10 +98,12 @@ class Asked:
             self.take_guest(option, value)
 
     def take_guest(self, option, value):
-        """A file of which the guest is made."""
+        """What the guest is made of."""
         self.memory = self.memory or []
         if option == "--load":
             self.memory += hex_lines(value)
+        elif option == "--memory":
+            self.memory.append(memory_line(value))
         elif option == "--setup":
             self.setup += b"".join(line + b"\n" for line in read(value).splitlines())
         else:

@@ -11,6 +11,8 @@ usage: tools/options.py [COMMAND]     prints those of a command; without one, al
   --spares K            for `live`: how many spare hosts there are to copy the guest to; as many as --stop is given, if it is not said
   --generations N       for `live`: how many generations there are at most
   --setup FILE          for `console`: lines of a setup, as a script has them, before those of --load
+  --memory AAAA=HH..    for `console`: bytes from this address on, in hexadecimal digits, in memory at boot
+  --sense HH            for `console`: the sense switches, in two hexadecimal digits
   --escape KEY          for `console`: the key that opens a command line, as ^E, or as two hexadecimal digits
 """
 
@@ -29,6 +31,8 @@ OPTIONS = {
     "--spares": ("live",),
     "--generations": ("live",),
     "--setup": ("console",),
+    "--memory": ("console",),
+    "--sense": ("console",),
     "--escape": ("console",),
 }
 # The lines above that say what these options are, each with its option.
@@ -82,6 +86,21 @@ def count_in(option, word, least):
     if not re.fullmatch(r"[0-9]{1,9}", word) or int(word) < least:
         complain(f"{option} {word}: expected a number from {least}")
     return int(word)
+
+
+def memory_line(word):
+    """The line of a setup that puts bytes into memory."""
+    if not re.fullmatch(r"[0-9A-Fa-f]{4}=([0-9A-Fa-f]{2})+", word):
+        complain(f"--memory {word}: expected four hexadecimal digits, `=`, and two for each byte")
+    address, _, digits = word.partition("=")
+    return f"mem {address} {bytes.fromhex(digits).hex(' ').upper()}"
+
+
+def sense_line(word):
+    """The line of a setup that sets the sense switches."""
+    if not re.fullmatch(r"[0-9A-Fa-f]{2}", word):
+        complain(f"--sense {word}: expected two hexadecimal digits")
+    return f"sense {word}"
 
 
 def key_lines(port, text):
