@@ -1,5 +1,5 @@
 -- What a command line asks for: the command that its second word names, with the options that clap has found after it.
-use Rattle.std.specs.Prelude.{◌≡◌, ◌≢◌, ◌⊎◌, ℕ, ◌^◌, ◌<◌, if◌then◌else◌, List, [], ◌∷◌, Option, Some, None, bytes_eq, codes, map, string_bytes, unwrap_or}
+use Rattle.std.specs.Prelude.{◌≡◌, ◌≢◌, ◌⊎◌, ℕ, ◌^◌, ◌<◌, if◌then◌else◌, List, [], ◌∷◌, Bool, true, false, Option, Some, None, bytes_eq, codes, map, string_bytes, unwrap_or}
 use Rattle.std.specs.Option.{option_map, option_map_or}
 use Rattle.std.specs.Str.Parse.{IsNumeral, digits_value, without_leading_plus}
 use Rattle.clap.specs.Words.{first_value, found_of, matched_of, one_text, raw_values, rows_of, subcommand_name_of, subcommand_rows_of}
@@ -42,6 +42,11 @@ IsGiven bits (Some text) given = IsNumber bits text given
 abbrev pub IsGivenOr : ℕ → ℕ → Option (List ℕ) → ℕ → Type 0
 IsGivenOr bits default text number = (given : Option ℕ) × (IsGiven bits text given × (number ≡ unwrap_or given default))
 
+-- an option without a value is false if it was not given; clap gives it the value `true` if it was
+abbrev pub IsFlag : Option (List ℕ) → Bool → Type 0
+IsFlag text given = (text ≡ None → given ≡ false)
+    × ((text ≡ Some (codes "true") → given ≡ true) × (text ≡ Some (codes "false") → given ≡ false))
+
 -- the turns that words say, 0 for a word that is no number
 abbrev pub AreTurns : List (List ℕ) → List ℕ → Type 0
 AreTurns [] [] = Unit {0}
@@ -58,7 +63,7 @@ abbrev pub drives_in : Found → List ℕ → List ℕ
 drives_in found option = map drive_of (values_of found option)
 
 -- each option of `live` sets what it says: how many turns, when somebody asks, these fates in this order, who asks in further
--- generations and when, and the drives whose disks are saved; the drives with images are given
+-- generations and when, the drives whose disks are saved, and whether the pair is told of; the drives with images are given
 pub record IsOrdered (found : Found) (images : List ℕ) (order : LiveOrder) : Type 0 where
   pub turns : IsGivenOr 64 1000000 (one_text found (codes "turns")) order.turns
   pub primary_asks : IsGiven 64 (one_text found (codes "primary-asks")) order.primary_asks
@@ -68,6 +73,7 @@ pub record IsOrdered (found : Found) (images : List ℕ) (order : LiveOrder) : T
   pub next_at : AreTurns (values_of found (codes "next-at")) order.next_at.items
   pub images_are : order.images.items ≡ images
   pub saved : order.saved.items ≡ drives_in found (codes "saved")
+  pub told : IsFlag (one_text found (codes "told")) order.told
 
 -- the text that an option was given; [] if it was not
 abbrev pub text_given : Found → List ℕ → List ℕ

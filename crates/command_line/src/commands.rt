@@ -1,7 +1,7 @@
 //! The program's commands and their options, as clap takes them.
 
 use clap::builder::ValueParser;
-use clap::{Arg, Command};
+use clap::{Arg, ArgAction, Command};
 use std::alloc::{AllocError, Global};
 
 const EXAMPLE: &str = "\
@@ -44,6 +44,9 @@ const IMAGES: &str =
 
 const SAVED: &str =
     "The drives whose disks are written as images at the end; ./pair keeps them for --save-disk";
+
+const TOLD: &str =
+    "Tells of each failure, takeover, copy and generation in a line on standard error";
 
 // How many turns there are at most.
 const MOST_TURNS: u64 = 1_000_000_000;
@@ -224,9 +227,16 @@ fn with_turns<'a>(alloc: Global, live: Command<'a>) -> Result<Command<'a>, Alloc
     Ok(command)
 }
 
-// The command with its options whose values are words.
+// The command with its options whose values are words, and the one without a value.
 fn with_words<'a>(alloc: Global, live: Command<'a>) -> Result<Command<'a>, AllocError> {
-    with_next(alloc, with_link_and_disks(alloc, live)?)
+    with_next(alloc, with_link_and_disks(alloc, live)?)?.arg(told(alloc))
+}
+
+fn told<'a>(alloc: Global) -> Arg<'a> {
+    Arg::new(alloc, "told")
+        .long("told")
+        .action(ArgAction::SetTrue)
+        .help(TOLD)
 }
 
 // The command with its options for the link and the disks.

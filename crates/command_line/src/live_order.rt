@@ -27,4 +27,6 @@ pub struct LiveOrder {
     pub images: Vec<u8>,
     /// The drives whose images are written after what is printed.
     pub saved: Vec<u8>,
+    /// Whether what becomes of the pair is told on standard error.
+    pub told: bool,
 }

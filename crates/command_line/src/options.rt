@@ -2,7 +2,7 @@
 ghost use Rattle.std.specs.Prelude.{◌≡◌, IfErr, IfOk, Some, codes, map, string_bytes, true};
 ghost use Rattle.clap.specs.Words.{found_of, one_text};
 ghost use Rattle.command_ending.specs.Statuses.{is_of_command_line};
-ghost use Rattle.command_line.specs.Orders.{AreTurns, Asks, AsksHelp, AsksIn, HasFound, IsAsked, IsConsoleOrdered, IsGiven, IsGivenOr, IsOrdered, command_word, asker_of, drive_of, drives_in, fate_of, text_given, values_of};
+ghost use Rattle.command_line.specs.Orders.{AreTurns, Asks, AsksHelp, AsksIn, HasFound, IsAsked, IsConsoleOrdered, IsFlag, IsGiven, IsGivenOr, IsOrdered, command_word, asker_of, drive_of, drives_in, fate_of, text_given, values_of};
 
 use crate::commands::pair_command;
 use crate::console_order::ConsoleOrder;
@@ -174,6 +174,7 @@ fn live_order(alloc: Global, matches: &ArgMatches<'_>, images: Vec<u8>) -> Resul
     let link = link_in(alloc, matches)?;
     let saved = saved_in(alloc, matches)?;
     let (next, next_at) = next_of(alloc, matches)?;
+    let told = flag(matches, "told");
     Ok(LiveOrder {
         turns,
         primary_asks,
@@ -183,6 +184,7 @@ fn live_order(alloc: Global, matches: &ArgMatches<'_>, images: Vec<u8>) -> Resul
         next_at,
         images,
         saved,
+        told,
     })
 }
 
@@ -217,6 +219,13 @@ fn number(matches: &ArgMatches<'_>, option: &str) -> Option<u64>
     ensures { IsGiven 64 (one_text (found_of matches.now) option.now) result }
 {
     matches.get_one(option)
+}
+
+// Whether an option without a value was given.
+fn flag(matches: &ArgMatches<'_>, option: &str) -> bool
+    ensures { IsFlag (one_text (found_of matches.now) option.now) result }
+{
+    matches.get_flag(option)
 }
 
 // The byte that an option was given as a number, if it was.

@@ -1,5 +1,5 @@
 -- What happens in the further generations of a pair on threads.
-use Rattle.std.specs.Prelude.{◌≡◌, ℕ, List, [], ◌∷◌, Option, Some, None}
+use Rattle.std.specs.Prelude.{◌≡◌, ℕ, ◌-◌, nat_lt, if◌then◌else◌, List, [], ◌∷◌, slice_get, Option, Some, None}
 use Rattle.command_line.specs.declared.live_order.Asker.{Asker}
 use Rattle.command_line.specs.declared.live_order.Asker.TheVariants.{Primary, Backup}
 use Rattle.pair_generations.specs.declared.generation.Next.{Next}
@@ -22,3 +22,14 @@ abbrev pub AreLater : {H : Type 0} → List Asker → List ℕ → List (Next H)
 AreLater (asker ∷ askers) (turn ∷ turns) (next ∷ later) = IsNext asker turn next × AreLater askers turns later
 AreLater (asker ∷ askers) (turn ∷ turns) [] = ⊥
 AreLater askers turns later = later ≡ []
+
+-- when the backup asks in a further generation, for which an order has these two
+abbrev pub backup_turn : Option Asker → Option ℕ → Option ℕ
+backup_turn (Some asker) (Some turn) = backup_at asker turn
+backup_turn asker turn = None
+
+-- the same in the generation of this number, from 1
+abbrev pub turn_in : Option ℕ → List Asker → List ℕ → ℕ → Option ℕ
+turn_in first next next_at generation =
+    if nat_lt generation 2 then first
+    else backup_turn (slice_get next (generation - 2)) (slice_get next_at (generation - 2))

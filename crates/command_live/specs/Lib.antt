@@ -1,3 +1,5 @@
 pub mod Living
 pub mod Saving
 pub mod Later
+pub mod Lines
+pub mod Roles

@@ -1,5 +1,5 @@
 //! A pair on threads that is run, and told of.
-ghost use Rattle.std.specs.Prelude.{◌≡◌, IfErr, OnOk};
+ghost use Rattle.std.specs.Prelude.{◌≡◌, IfErr, OnOk, false};
 ghost use Rattle.std.specs.Io.KnownBytes.{Appends};
 ghost use Rattle.command_ending.specs.declared.failure.Failure.TheVariants as failure;
 ghost use Rattle.command_live.specs.Living.{PrintsLive, typed_in};
@@ -14,16 +14,19 @@ use std::io::Write;
 use std::thread::Threads;
 use std::time::Clock;
 
-/// Runs a pair on threads, and writes what it prints and the images of the disks that are saved.
+/// Runs a pair on threads, and writes what it prints and the images of the disks that are saved. If the order asks for it, what becomes
+/// of the pair is told on `notes`.
 #[tactic(auto, using(crate::proofs::Living::settled_live, crate::proofs::Living::settled_residual))]
-pub fn run_live<H: Threads + Clock + Sync, W: Write + Drop>(
+pub fn run_live<H: Threads + Clock + Sync, W: Write + Drop, N: Write + Drop>(
     rt: &H,
     alloc: Global,
     order: LiveOrder,
     input: &Input,
     writer: &mut W,
+    notes: &mut N,
 ) -> Result<(), Failure>
-    ensures { PrintsLive input.now.script.setup input.now.sectors.items (typed_in 0 input.now.script.lines.items)
+    ensures silent { order.told ≡ false → N.contents notes.new ≡ N.contents notes.old }
+    ensures printed { PrintsLive input.now.script.setup input.now.sectors.items (typed_in 0 input.now.script.lines.items)
         (typed_in 1 input.now.script.lines.items) order result (W.contents writer.old) (W.contents writer.new) }
 {
     let mut printed = Report::new(alloc);
@@ -34,6 +37,7 @@ pub fn run_live<H: Threads + Clock + Sync, W: Write + Drop>(
         input,
         &mut printed,
         writer,
+        notes,
         plain_completions::sent,
         plain_completions::sector,
         plain_completions::written,

@@ -14,8 +14,8 @@ use command_line::{Asker, LiveOrder};
 use event_callbacks::{Callbacks, Completes};
 use guest_board::Board;
 use i8080_words::R;
-use pair_generations::{Limits, Next, altairs_may_go_on, run_pair};
-use pair_threads::{Fate, GenerationEnd, OpenGate, Workers};
+use pair_generations::{Limits, Next, Steward, altairs_may_go_on, run_pair};
+use pair_threads::{Fate, Gate, GenerationEnd, Workers};
 use shared_disk::MemoryStore;
 use std::alloc::Global;
 use std::thread::Threads;
@@ -117,6 +117,8 @@ fn run_generations<
     T: Completes + Drop + Copy + Send,
     S: Completes + Drop + Copy + Send,
     W: Completes + Drop + Copy + Send,
+    G: Gate + Sync,
+    P: Steward,
 >(
     rt: &H,
     alloc: Global,
@@ -124,6 +126,8 @@ fn run_generations<
     link: Vec<Fate>,
     later: Vec<Next<Callbacks<T, S, W>>>,
     input: &Input,
+    gate: &G,
+    steward: &mut P,
     sent: T,
     sector: S,
     written: W,
@@ -147,23 +151,27 @@ fn run_generations<
         rounds: TRIES,
     };
     let workers = workers_of(alloc, asked, link, input, sent, sector, written)?;
-    let last = run_pair(rt, alloc, drafted(workers), later, &OpenGate, limits)?;
+    let last = run_pair(rt, alloc, drafted(workers), later, gate, steward, limits)?;
     Ok(last.end)
 }
 
-/// The pair at the end of its last generation.
+/// The pair at the end of its last generation. The steward hears what becomes of it.
 #[tactic(auto, using(crate::proofs::Later::won_among))]
 pub(crate) fn generations<
     H: Threads + Clock + Sync,
     T: Completes + Drop + Copy + Send,
     S: Completes + Drop + Copy + Send,
     W: Completes + Drop + Copy + Send,
+    G: Gate + Sync,
+    P: Steward,
 >(
     rt: &H,
     alloc: Global,
     asked: Asked,
     order: &LiveOrder,
     input: &Input,
+    gate: &G,
+    steward: &mut P,
     sent: T,
     sector: S,
     written: W,
@@ -186,5 +194,7 @@ pub(crate) fn generations<
         sector,
         written,
     )?;
-    run_generations(rt, alloc, asked, link, later, input, sent, sector, written)
+    run_generations(
+        rt, alloc, asked, link, later, input, gate, steward, sent, sector, written,
+    )
 }

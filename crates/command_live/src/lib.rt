@@ -4,10 +4,18 @@
 mod beginning;
 mod command;
 mod generations;
+mod line;
 mod live;
+mod roles;
 mod saving;
+mod takeover;
+mod teller;
+mod watch;
 
 pub use beginning::{Asked, STEPS, workers_of};
 pub use command::run_live;
 pub use generations::{TRIES, drafted, sizes};
+pub use line::{Line, first_line, line_of};
+pub use roles::Roles;
 pub use saving::images_of;
+pub use takeover::{Reached, Replay, Takeover};

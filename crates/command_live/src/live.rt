@@ -1,5 +1,5 @@
 //! A pair on threads, from its boot to its end.
-ghost use Rattle.std.specs.Prelude.{◌≡◌, ◌∷◌, [], ℕ, IfOk, List, Option, map};
+ghost use Rattle.std.specs.Prelude.{◌≡◌, ◌∷◌, [], ℕ, IfOk, List, Option, false, map};
 ghost use Rattle.event_callbacks.specs.declared.devices.TheConstants.{SENT, SECTOR, WRITTEN};
 ghost use Rattle.event_callbacks.specs.Keeping.{Keeps};
 ghost use Rattle.command_ending.specs.Reports.{handed};
@@ -9,6 +9,8 @@ ghost use Rattle.pair_threads.specs.Ending.{WonBy};
 use crate::beginning::{Asked, workers_of};
 use crate::generations::generations;
 use crate::saving::images_of;
+use crate::teller::{BackupAsks, Teller};
+use crate::watch::{Watch, Watcher};
 use altair_laws::altairs_are_lawful;
 use command_ending::{Failure, Report};
 use command_input::Input;
@@ -18,7 +20,8 @@ use guest_board::Board;
 use guest_lockstep::Lockstep;
 use i8080_words::{Fault, R};
 use pair_events::Answer;
-use pair_threads::{Fate, GenerationEnd, OpenGate, Who, run_generation};
+use pair_generations::{Steward, Unattended};
+use pair_threads::{Fate, Gate, GenerationEnd, OpenGate, Who, run_generation};
 use shared_disk::MemoryStore;
 use std::alloc::Global;
 use std::fmt;
@@ -60,13 +63,14 @@ impl fmt::Display for EndText<'_> {
 
 /// Boots a pair whose completions are these closures, runs it on threads until it is at its end, and prints what its
 /// terminals have accepted. Nothing is printed of a pair that stalls. What is returned are the images of the disks that
-/// are saved; input or output has failed if one of them is not attached.
+/// are saved; input or output has failed if one of them is not attached. Notes are written only if the order asks for them.
 pub fn run<
     H: Threads + Clock + Sync,
     T: Completes + Drop + Copy + Send,
     S: Completes + Drop + Copy + Send,
     W: Completes + Drop + Copy + Send,
     O: Write + Drop,
+    N: Write + Drop,
 >(
     rt: &H,
     alloc: Global,
@@ -74,6 +78,7 @@ pub fn run<
     input: &Input,
     report: &mut Report,
     writer: &mut O,
+    notes: &mut N,
     sent: T,
     sector: S,
     written: W,
@@ -81,7 +86,8 @@ pub fn run<
     requires sent { Keeps (T.may sent) (T.gives sent) SENT }
     requires sector { Keeps (S.may sector) (S.gives sector) SECTOR }
     requires written { Keeps (W.may written) (W.gives written) WRITTEN }
-    ensures { Tells input.now.script.setup input.now.sectors.items (typed_in 0 input.now.script.lines.items)
+    ensures silent { order.told ≡ false → N.contents notes.new ≡ N.contents notes.old }
+    ensures told { Tells input.now.script.setup input.now.sectors.items (typed_in 0 input.now.script.lines.items)
         (typed_in 1 input.now.script.lines.items) order result
         (handed (O.contents writer.old) report.old) (handed (O.contents writer.new) report.new) }
 {
@@ -90,13 +96,29 @@ pub fn run<
         primary: order.primary_asks,
         backup: order.backup_asks,
     };
+    if order.told {
+        return run_told(
+            rt, alloc, asked, &order, input, report, writer, notes, sent, sector, written,
+        );
+    }
     if order.next.is_empty() {
         return run_one(
             rt, alloc, asked, order, input, report, writer, sent, sector, written,
         );
     }
     run_several(
-        rt, alloc, asked, order, input, report, writer, sent, sector, written,
+        rt,
+        alloc,
+        asked,
+        &order,
+        input,
+        report,
+        writer,
+        &OpenGate,
+        &mut Unattended,
+        sent,
+        sector,
+        written,
     )
 }
 
@@ -142,30 +164,89 @@ fn run_several<
     S: Completes + Drop + Copy + Send,
     W: Completes + Drop + Copy + Send,
     O: Write + Drop,
+    G: Gate + Sync,
+    P: Steward,
 >(
     rt: &H,
     alloc: Global,
     asked: Asked,
-    order: LiveOrder,
+    order: &LiveOrder,
     input: &Input,
     report: &mut Report,
     writer: &mut O,
+    gate: &G,
+    steward: &mut P,
     sent: T,
     sector: S,
     written: W,
 ) -> Result<Vec<u8>, Failure>
-    requires asked { (asked.primary ≡ order.primary_asks) × (asked.backup ≡ order.backup_asks) }
+    requires asked { (asked.primary ≡ order.now.primary_asks) × (asked.backup ≡ order.now.backup_asks) }
     requires sent { Keeps (T.may sent) (T.gives sent) SENT }
     requires sector { Keeps (S.may sector) (S.gives sector) SECTOR }
     requires written { Keeps (W.may written) (W.gives written) WRITTEN }
     ensures { Tells input.now.script.setup input.now.sectors.items (typed_in 0 input.now.script.lines.items)
-        (typed_in 1 input.now.script.lines.items) order result
+        (typed_in 1 input.now.script.lines.items) order.now result
         (handed (O.contents writer.old) report.old) (handed (O.contents writer.new) report.new) }
 {
-    match generations(rt, alloc, asked, &order, input, sent, sector, written) {
+    match generations(
+        rt, alloc, asked, order, input, gate, steward, sent, sector, written,
+    ) {
         Ok(mut last) => tell(alloc, &mut last, &order.saved, report, writer),
         Err(why) => Err(failure_of(why)),
     }
+}
+
+// The same, and what becomes of the pair is told.
+fn run_told<
+    H: Threads + Clock + Sync,
+    T: Completes + Drop + Copy + Send,
+    S: Completes + Drop + Copy + Send,
+    W: Completes + Drop + Copy + Send,
+    O: Write + Drop,
+    N: Write + Drop,
+>(
+    rt: &H,
+    alloc: Global,
+    asked: Asked,
+    order: &LiveOrder,
+    input: &Input,
+    report: &mut Report,
+    writer: &mut O,
+    notes: &mut N,
+    sent: T,
+    sector: S,
+    written: W,
+) -> Result<Vec<u8>, Failure>
+    requires asked { (asked.primary ≡ order.now.primary_asks) × (asked.backup ≡ order.now.backup_asks) }
+    requires sent { Keeps (T.may sent) (T.gives sent) SENT }
+    requires sector { Keeps (S.may sector) (S.gives sector) SECTOR }
+    requires written { Keeps (W.may written) (W.gives written) WRITTEN }
+    ensures { Tells input.now.script.setup input.now.sectors.items (typed_in 0 input.now.script.lines.items)
+        (typed_in 1 input.now.script.lines.items) order.now result
+        (handed (O.contents writer.old) report.old) (handed (O.contents writer.new) report.new) }
+{
+    let watch = Watch::new();
+    let gate = Watcher::new(&watch, rt);
+    let asks = BackupAsks {
+        first: asked.backup,
+        next: &order.next,
+        next_at: &order.next_at,
+    };
+    let mut teller = Teller::new(alloc, rt, &watch, asks, notes);
+    run_several(
+        rt,
+        alloc,
+        asked,
+        order,
+        input,
+        report,
+        writer,
+        &gate,
+        &mut teller,
+        sent,
+        sector,
+        written,
+    )
 }
 
 // Why nothing is printed.

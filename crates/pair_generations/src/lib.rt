@@ -14,5 +14,5 @@ pub use generation::{Limits, Next};
 pub use laws::altairs_may_go_on;
 pub use origin::Origin;
 pub use run::{PairEnd, run_pair, run_pair_over};
-pub use steward::{PairEvent, Steward};
+pub use steward::{PairEvent, Steward, Unattended};
 pub use until_over::run_pair_until_over;

@@ -10,7 +10,7 @@ ghost use Rattle.shared_disk.specs.Records.{IsUnwritten};
 use crate::following::planned;
 use crate::generation::{Going, Limits, Next, advance};
 use crate::origin::origin_of;
-use crate::steward::{PairEvent, Steward, Unattended};
+use crate::steward::{PairEvent, Steward};
 use clone_state::Copies;
 use i8080_words::R;
 use pair_lines::Lines;
@@ -180,12 +180,13 @@ pub fn run_pair_over<
 }
 
 /// Runs a pair over generations, in which hosts ask at the turns that are planned, without lines: its keys are those that were
-/// typed before.
+/// typed before. The steward hears what `run_pair_over` says.
 pub fn run_pair<
     B: Copies<H> + Send + Drop,
     H: Drop,
     D: SectorStore + Send,
     G: Gate + Sync,
+    S: Steward,
     T: Threads + Clock + Sync,
 >(
     rt: &T,
@@ -193,6 +194,7 @@ pub fn run_pair<
     workers: Workers<B, D>,
     later: Vec<Next<H>>,
     gate: &G,
+    steward: &mut S,
     limits: Limits,
 ) -> R<PairEnd<B, D>>
     requires guest { IsGuest B.state B.copied (machine_at B.machine (B.state workers.primary) (D.records workers.disk)) }
@@ -215,7 +217,7 @@ pub fn run_pair<
         false,
         later,
         gate,
-        &mut Unattended,
+        steward,
         limits,
     )
 }
