@@ -2,7 +2,7 @@
 -- one state.
 use Rattle.std.proofs.Common.{◌≡◌, ℕ, ◌≤◌, false, length, take, List, [], Option, sym, subst, ◌∙◌, arith, vec_len, Vec, Global}
 use Rattle.guest_lockstep.specs.Machine.{Machine}
-use Rattle.log_entry.specs.declared.entry.Entry.{Entry}
+use Rattle.log_journal.specs.Written.{Written}
 use Rattle.pair_generations.specs.Generations.{MayBeKnownAt, MayResume}
 use Rattle.pair_lines.specs.declared.lines.Lines.{Lines}
 use Rattle.pair_rule.specs.Rules.{IsStart}
@@ -23,11 +23,11 @@ within n long many le is = omega (arith, le, is)
 module _ {B D S : Type 0} (state : B → S) (records : D → List Record) (N : Machine S) (boot : S) (first : List Record)
     (st : Standing B D) (known : Known) (generation : ℕ) (copy : B) (copied : state copy ≡ state st.board)
     (may : MayBeKnownAt state records N boot first st generation known.known) where
-  starts : IsStart generation (vec_len st.list) (vec_len st.accepted.0) (vec_len st.accepted.1) known.known
-  starts = subst (λ n. IsStart generation n (vec_len st.accepted.0) (vec_len st.accepted.1) known.known) (how_long st.list)
-      (subst (λ n. IsStart generation (length st.list.items) n (vec_len st.accepted.1) known.known) (how_long st.accepted.0)
+  starts : IsStart generation (length st.list.items) (vec_len st.accepted.0) (vec_len st.accepted.1) known.known
+  starts = subst (λ n. IsStart generation (length st.list.items) n (vec_len st.accepted.1) known.known)
+      (how_long st.accepted.0)
       (subst (λ n. IsStart generation (length st.list.items) (length st.accepted.0.items) n known.known)
-      (how_long st.accepted.1) may.starts))
+      (how_long st.accepted.1) may.starts)
 
   begins : BeginsAt N false boot (bytes_in first) st.typed.0.items st.typed.1.items known.known
       (by_port (take st.taken.0 st.typed.0.items) (take st.taken.1 st.typed.1.items) [])
@@ -39,7 +39,7 @@ module _ {B D S : Type 0} (state : B → S) (records : D → List Record) (N : M
       (by_port (take st.taken.0 st.typed.0.items) (take st.taken.1 st.typed.1.items) []) f (state st.board) (state st.board)
       (records st.disk)) (λ i. by_port (how_long st.accepted.0 i) (how_long st.accepted.1 i) 0) may.begins)
 
-  pub resumes : (list : Vec Entry Global) → list.items ≡ st.list.items → (fates : Vec Fate Global)
+  pub resumes : (list : Written) → list.items ≡ st.list.items → (fates : Vec Fate Global)
       (primary backup : Option ℕ) (steps : ℕ) (lines : Lines) → MayResume state records N boot first (record {
         workers = record {
           primary = st.board;
@@ -54,7 +54,7 @@ module _ {B D S : Type 0} (state : B → S) (records : D → List Record) (N : M
         };
         start = record {
           generation = generation;
-          entries = vec_len st.list;
+          entries = length st.list.items;
           accepted0 = vec_len st.accepted.0;
           accepted1 = vec_len st.accepted.1;
           known = known;
@@ -67,7 +67,7 @@ module _ {B D S : Type 0} (state : B → S) (records : D → List Record) (N : M
       })
   resumes list same fates primary backup steps lines = record {
     start = starts;
-    lists = (may.primary_list, same ∙ may.backup_list, sym (how_long st.list) ∙ may.seen);
+    lists = (may.primary_list, same ∙ may.backup_list, may.seen);
     counted = (sym (how_long st.accepted.0) ∙ may.counted0, sym (how_long st.accepted.1) ∙ may.counted1);
     screens = (may.shown0, may.shown1);
     none_under_way = may.under_way;

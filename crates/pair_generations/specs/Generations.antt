@@ -74,7 +74,7 @@ pub record MayResume {B D S : Type 0} (state : B → S) (records : D → List Re
   pub start : IsStart r.start.generation r.start.entries r.start.accepted0 r.start.accepted1 r.start.known.known
   pub lists : (r.primary_list.items ≡ r.start.known.known.primary.list)
       × (r.backup_list.items ≡ r.start.known.known.backup.list)
-      × (vec_len r.primary_list ≡ r.start.known.known.primary.seen)
+      × (length r.primary_list.items ≡ r.start.known.known.primary.seen)
   pub counted : (r.start.accepted0 ≡ r.start.known.known.primary.counted0)
       × (r.start.accepted1 ≡ r.start.known.known.primary.counted1)
   pub screens : (r.accepted.0.items ≡ bytes_accepted 0 r.start.known.known)

@@ -1,5 +1,5 @@
 //! What a generation begins with that follows another.
-ghost use Rattle.std.specs.Prelude.{◌≡◌, ◌<◌, ℕ, IfErr, IfOk, IfSome, List, vec_len};
+ghost use Rattle.std.specs.Prelude.{◌≡◌, ◌<◌, ℕ, IfErr, IfOk, IfSome, List, length, vec_len};
 ghost use Rattle.pair_generations.specs.Generations.{IsSettled, IsSettledOver, MayBeKnownAt, MayResume, machine_at, planned};
 ghost use Rattle.pair_generations.specs.Guests.{IsGuest};
 ghost use Rattle.pair_lines.specs.declared.lines.Lines.{Lines};
@@ -12,7 +12,6 @@ use crate::origin::Origin;
 use clone_state::Copies;
 use guest_lockstep::Lockstep;
 use i8080_words::{Fault, R};
-use log_entry::Entry;
 use pair_lines::Lines;
 use pair_rule::{Known, Recalls, Start, known_by};
 use pair_standing::{Standing, copy_to};
@@ -147,7 +146,7 @@ pub(crate) fn follow<B: Copies<H> + Drop, H: Drop, D: SectorStore>(
     let Backup { board, mut orders } = backup;
     orders.primary_contests = planned(watched, orders.primary_contests);
     orders.backup_contests = planned(watched, orders.backup_contests);
-    let resumed = resumed_at(alloc, standing, lines, known, board, generation, orders)?;
+    let resumed = resumed_at(alloc, standing, lines, known, board, generation, orders);
     Ok((resumed, origin))
 }
 
@@ -170,18 +169,17 @@ fn resumed_at<B: Lockstep + Drop, D: SectorStore>(
     copy: B,
     generation: u32,
     orders: Orders,
-) -> R<Resumed<B, D>>
+) -> Resumed<B, D>
     ensures begins { (boot : B) (first : List Record) → B.state copy ≡ B.state standing.board
         → MayBeKnownAt B.state D.records B.machine (B.state boot) first standing generation known.known
-        → IfOk result (MayResume B.state D.records B.machine (B.state boot) first) }
-    ensures typed { IfOk result (λ r. (r.workers.typed0 ≡ standing.typed.0) × (r.workers.typed1 ≡ standing.typed.1)) }
-    ensures lines { IfOk result (λ r. (r.lines ≡ lines) × (r.accepted ≡ standing.accepted)) }
-    ensures orders { IfOk result (λ r. (r.workers.primary_contests ≡ orders.primary_contests)
-        × (r.workers.backup_contests ≡ orders.backup_contests)) }
-    ensures refused { IfErr result IsEnding }
+        → MayResume B.state D.records B.machine (B.state boot) first result }
+    ensures typed { (result.workers.typed0 ≡ standing.typed.0) × (result.workers.typed1 ≡ standing.typed.1) }
+    ensures lines { (result.lines ≡ lines) × (result.accepted ≡ standing.accepted) }
+    ensures orders { (result.workers.primary_contests ≡ orders.primary_contests)
+        × (result.workers.backup_contests ≡ orders.backup_contests) }
 {
     let start = start_at(&standing, known, generation);
-    let backup_list = copy_of(alloc, &standing.list)?;
+    let backup_list = standing.list.remembered(alloc);
     let Standing {
         board,
         list,
@@ -192,7 +190,7 @@ fn resumed_at<B: Lockstep + Drop, D: SectorStore>(
     } = standing;
     let (typed0, typed1) = typed;
     let workers = workers_at(board, copy, disk, typed0, typed1, orders);
-    Ok(Resumed {
+    Resumed {
         workers,
         start,
         primary_list: list,
@@ -200,17 +198,7 @@ fn resumed_at<B: Lockstep + Drop, D: SectorStore>(
         taken: (taken.0 as usize, taken.1 as usize),
         accepted,
         lines,
-    })
-}
-
-// A copy of a list.
-fn copy_of(alloc: Global, list: &[Entry]) -> R<Vec<Entry>>
-    ensures same { IfOk result (λ copy. copy.items ≡ list.now) }
-    ensures refused { IfErr result IsEnding }
-{
-    let mut copy = Vec::with_capacity(alloc, list.len())?;
-    copy.extend_from_slice(list)?;
-    Ok(copy)
+    }
 }
 
 // How its table begins.
@@ -221,7 +209,7 @@ fn start_at<B: Lockstep + Drop, D: SectorStore>(
 ) -> Start
     ensures { result ≡ record {
       generation = generation;
-      entries = vec_len standing.now.list;
+      entries = length standing.now.list.items;
       accepted0 = vec_len standing.now.accepted.0;
       accepted1 = vec_len standing.now.accepted.1;
       known = known;

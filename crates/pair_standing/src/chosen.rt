@@ -6,13 +6,14 @@ ghost use Rattle.pair_threads.specs.Leading.{with_waiting};
 
 use i8080_words::R;
 use log_entry::Entry;
+use log_journal::Journal;
 use pair_threads::Who;
 
 /// A guest with its list, and with the entry that waits for it.
 #[derive(Drop)]
 pub(crate) struct Guest<B> {
     pub(crate) board: B,
-    pub(crate) list: Vec<Entry>,
+    pub(crate) list: Journal,
     pub(crate) waiting: Option<Entry>,
 }
 
@@ -27,12 +28,13 @@ pub(crate) fn chosen<B: Drop>(winner: Option<Who>, primary: Guest<B>, backup: Gu
 }
 
 /// Appends the entry that waits.
-pub(crate) fn append(list: &mut Vec<Entry>, waiting: Option<Entry>) -> R<()>
+pub(crate) fn append(list: &mut Journal, waiting: Option<Entry>) -> R<()>
     ensures list { OnOk result (list.new.items ≡ with_waiting list.old.items waiting) }
     ensures refused { IfErr result IsEnding }
 {
     if let Some(entry) = waiting {
-        list.push(entry)?;
+        list.reserve()?;
+        list.push_reserved(entry);
     }
     Ok(())
 }

@@ -1,5 +1,5 @@
 //! How a winner finishes alone.
-ghost use Rattle.std.specs.Prelude.{◌≡◌, ◌<◌, ◌≤◌, ◌∷◌, ℕ, List, [], None, true, IfOk, IfErr, OnOk, map, vec_len};
+ghost use Rattle.std.specs.Prelude.{◌≡◌, ◌<◌, ◌≤◌, ◌∷◌, ℕ, List, [], None, true, IfOk, IfErr, OnOk, map, length};
 ghost use Rattle.disk_dcdd.specs.declared.address.SectorAddress.{SectorAddress};
 ghost use Rattle.event_callbacks.specs.declared.devices.TheConstants.{PORTS};
 ghost use Rattle.event_callbacks.specs.declared.operations.OpId.TheVariants as id;
@@ -42,7 +42,7 @@ impl<B: Lockstep + Drop, D: SectorStore> Winner<B, D> {
         ensures goes_on { OnOk result (GoesOn B.machine (held self.old.list.items self.old.accepted0.items
             self.old.accepted1.items (D.records self.old.disk) (B.state self.old.board)) (held self.new.list.items
             self.new.accepted0.items self.new.accepted1.items (D.records self.new.disk) (B.state self.new.board))) }
-        ensures gone { OnOk result ((number : ℕ) → number ≤ vec_len self.old.list
+        ensures gone { OnOk result ((number : ℕ) → number ≤ length self.old.list.items
             → B.machine.find (B.state self.new.board) (id.Write number) ≡ None) }
         ensures screens { (self.new.accepted0 ≡ self.old.accepted0) × (self.new.accepted1 ≡ self.old.accepted1) }
         ensures refused { IfErr result IsEnding }
@@ -58,7 +58,7 @@ impl<B: Lockstep + Drop, D: SectorStore> Winner<B, D> {
     pub(crate) fn is_done(&self) -> bool
         ensures due { result ≡ true → (B.machine.due_byte (B.state self.now.board) 0 ≡ None)
             × (B.machine.due_byte (B.state self.now.board) 1 ≡ None) }
-        ensures few { result ≡ true → vec_len self.now.list ≤ GREATEST_NUMBER }
+        ensures few { result ≡ true → length self.now.list.items ≤ GREATEST_NUMBER }
     {
         self.board.due_byte(0).is_none()
             && self.board.due_byte(1).is_none()
@@ -70,11 +70,11 @@ impl<B: Lockstep + Drop, D: SectorStore> Winner<B, D> {
         ensures goes_on { OnOk result (GoesOn B.machine (held self.old.list.items self.old.accepted0.items
             self.old.accepted1.items (D.records self.old.disk) (B.state self.old.board)) (held self.new.list.items
             self.new.accepted0.items self.new.accepted1.items (D.records self.new.disk) (B.state self.new.board))) }
-        ensures gone { OnOk result ((number : ℕ) → number ≤ vec_len self.old.list
+        ensures gone { OnOk result ((number : ℕ) → number ≤ length self.old.list.items
             → B.machine.find (B.state self.new.board) (id.Write number) ≡ None) }
         ensures due { OnOk result ((B.machine.due_byte (B.state self.new.board) 0 ≡ None)
             × (B.machine.due_byte (B.state self.new.board) 1 ≡ None)) }
-        ensures few { OnOk result (vec_len self.new.list ≤ GREATEST_NUMBER) }
+        ensures few { OnOk result (length self.new.list.items ≤ GREATEST_NUMBER) }
         ensures refused { IfErr result IsEnding }
     {
         self.give_all(0)?;
@@ -149,6 +149,7 @@ pub(crate) fn winner_of<B: Lockstep + Drop, D: SectorStore>(
         waiting,
     } = chosen(winner, first, second);
     append(&mut list, waiting)?;
+    list.forget_all();
     let (accepted0, accepted1) = accepted;
     let winner = Winner {
         board,

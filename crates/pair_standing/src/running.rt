@@ -49,13 +49,14 @@ impl<B: Lockstep + Drop, D: SectorStore> Winner<B, D> {
             × (self.new.disk ≡ self.old.disk) }
         ensures refused { IfErr result IsEnding }
     {
-        self.list.reserve(1)?;
+        self.list.reserve()?;
         match run(&mut self.board, steps).reason {
             StopReason::Turns => Ok(Pause::Steps),
             StopReason::Operation(id) => {
                 self.list.push_reserved(Entry::Mark {
                     count: self.board.count(),
                 });
+                self.list.forget_all();
                 Ok(Pause::Gave(id))
             }
             StopReason::Refused(Fault::Idle) => Ok(Pause::Idles),

@@ -1,5 +1,5 @@
 //! What the terminals of a guest that runs alone accept is shown on a screen.
-ghost use Rattle.std.specs.Prelude.{◌≡◌, ◌<◌, ◌≤◌, ◌==◌, ℕ, nat_lt, if◌then◌else◌, List, None, length, vec_len, IfErr, OnOk};
+ghost use Rattle.std.specs.Prelude.{◌≡◌, ◌<◌, ◌≤◌, ◌==◌, ℕ, nat_lt, if◌then◌else◌, List, None, length, IfErr, OnOk};
 ghost use Rattle.event_callbacks.specs.declared.devices.TheConstants.{PORTS};
 ghost use Rattle.event_callbacks.specs.declared.operations.OpId.TheVariants as id;
 ghost use Rattle.i8080_words.specs.declared.limits.TheConstants.{GREATEST_NUMBER};
@@ -132,11 +132,11 @@ impl<B: Lockstep + Drop, D: SectorStore> Winner<B, D> {
             self.new.accepted0.items self.new.accepted1.items (D.records self.new.disk) (B.state self.new.board))) }
         ensures shows { OnOk result (Shows screen.old screen.new self.old.accepted0.items self.old.accepted1.items
             self.new.accepted0.items self.new.accepted1.items) }
-        ensures gone { OnOk result ((number : ℕ) → number ≤ vec_len self.old.list
+        ensures gone { OnOk result ((number : ℕ) → number ≤ length self.old.list.items
             → B.machine.find (B.state self.new.board) (id.Write number) ≡ None) }
         ensures due { OnOk result ((B.machine.due_byte (B.state self.new.board) 0 ≡ None)
             × (B.machine.due_byte (B.state self.new.board) 1 ≡ None)) }
-        ensures few { OnOk result (vec_len self.new.list ≤ GREATEST_NUMBER) }
+        ensures few { OnOk result (length self.new.list.items ≤ GREATEST_NUMBER) }
         ensures refused { IfErr result IsEnding }
     {
         self.give_all_shown(clock, screen, 0)?;

@@ -1,5 +1,5 @@
 //! The guest of a winner, which takes what is outstanding and makes no steps.
-ghost use Rattle.std.specs.Prelude.{◌≡◌, ◌<◌, ◌++◌, ◌∷◌, [], Some, None, IfErr, IfOk, IfSome, OnOk};
+ghost use Rattle.std.specs.Prelude.{◌≡◌, ◌<◌, ◌++◌, ◌∷◌, [], Some, None, length, IfErr, IfOk, IfSome, OnOk};
 ghost use Rattle.disk_dcdd.specs.Address.{address_of};
 ghost use Rattle.event_callbacks.specs.declared.devices.TheConstants.{PORTS};
 ghost use Rattle.event_callbacks.specs.declared.operations.OpId.TheVariants as id;
@@ -18,16 +18,18 @@ use event_callbacks::{OpId, Operation};
 use guest_lockstep::{Input, Lockstep, Reads};
 use i8080_words::{Fault, R};
 use log_entry::Entry;
+use log_journal::Journal;
 use shared_disk::{SectorStore, SharedDisk};
 
-/// A guest with the list of its run, and what terminals and disk have of it.
+/// A guest with the list of its run, of which it keeps nothing, and what terminals and disk have of it.
 #[derive(Drop)]
 pub(crate) struct Winner<B: Drop, D: SectorStore> {
     pub(crate) board: B,
-    pub(crate) list: Vec<Entry>,
+    pub(crate) list: Journal,
     pub(crate) accepted0: Vec<u8>,
     pub(crate) accepted1: Vec<u8>,
     pub(crate) disk: SharedDisk<D>,
+    ghost forgets: { list.forgotten ≡ length list.items },
 }
 
 impl<B: Lockstep + Drop, D: SectorStore> Winner<B, D> {
@@ -42,12 +44,13 @@ impl<B: Lockstep + Drop, D: SectorStore> Winner<B, D> {
             × (self.new.disk ≡ self.old.disk) }
         ensures refused { IfErr result IsEnding }
     {
-        self.list.reserve(1)?;
+        self.list.reserve()?;
         let entry = Entry::of_input(Reads::Logged, self.board.count(), input);
         if self.board.take(input).is_err() {
             return Err(Fault::Stalled);
         }
         self.list.push_reserved(entry);
+        self.list.forget_all();
         Ok(())
     }
 

@@ -117,13 +117,13 @@ how_long v = omega (arith, v.ok.0)
 
 -- a guest that has repeated the whole list is between no two entries
 all_repeated : {B S : Type 0} (state : B → S) (N : Machine S) (exact : Bool) (boot : S) (b : BackupWorker B)
-    → IsAt state N exact boot b.guest → b.guest.replayed ≡ vec_len b.guest.list
+    → IsAt state N exact boot b.guest → b.guest.replayed ≡ length b.guest.list.items
     → Repeats N exact boot b.guest.list.items false (state b.guest.board)
 all_repeated state N exact boot b at all = go b.guest.between refl
   where
     whole : Repeats N exact boot b.guest.list.items b.guest.between (state b.guest.board)
     whole = subst (λ l. Repeats N exact boot l b.guest.between (state b.guest.board))
-        (ap (λ n. take n b.guest.list.items) (all ∙ how_long b.guest.list) ∙ take-length b.guest.list.items) at
+        (ap (λ n. take n b.guest.list.items) all ∙ take-length b.guest.list.items) at
 
     go : (between : Bool) → b.guest.between ≡ between → Repeats N exact boot b.guest.list.items false (state b.guest.board)
     go false is = subst (λ between. Repeats N exact boot b.guest.list.items between (state b.guest.board)) is whole
@@ -135,7 +135,7 @@ module _ {B S : Type 0} (state : B → S) (N : Machine S) (counts : Counts N) (l
     (settled : Settled p.seat.core.known.primary b.seat.core.known.backup terminal disk tail held winner)
     (records : List Record) (leads : WorkerLeads state N boot p) (at : IsAt state N exact boot b.guest)
     (store : IsStore (bytes_in first) records disk) (contested : Bool) (rests : contested ≡ false → IsAtRest state N p)
-    (repeated : (contested ≡ false) ⊎ (b.seat.core.known.backup.winner ≡ 2) → b.guest.replayed ≡ vec_len b.guest.list) where
+    (repeated : (contested ≡ false) ⊎ (b.seat.core.known.backup.winner ≡ 2) → b.guest.replayed ≡ length b.guest.list.items) where
   abbrev M : Machine S
   M = booted_from N boot (bytes_in first)
 
@@ -152,7 +152,7 @@ module _ {B S : Type 0} (state : B → S) (N : Machine S) (counts : Counts N) (l
   known = leads_there N boot (bytes_in first) boot (with_waiting primary.list p.guest.waiting) p.guest.given.items primary
       (state p.guest.board) leads.0
 
-  repeats : b.guest.replayed ≡ vec_len b.guest.list → Repeats M exact boot backup.list false (state b.guest.board)
+  repeats : b.guest.replayed ≡ length b.guest.list.items → Repeats M exact boot backup.list false (state b.guest.board)
   repeats all = subst (λ l. Repeats M exact boot l false (state b.guest.board)) b.same
       (repeats_there N boot (bytes_in first) exact boot b.guest.list.items false (state b.guest.board)
       (all_repeated state N exact boot b at all))
@@ -180,7 +180,7 @@ module _ {B S : Type 0} (state : B → S) (N : Machine S) (counts : Counts N) (l
       p.guest.waiting p.guest.given.items (state p.guest.board) known p.port0.typed.items p.port1.typed.items
       p.port0.taken p.port1.taken p.port0.accepted p.port1.accepted leads.2 less0 less1 records store
 
-  second_there : b.guest.replayed ≡ vec_len b.guest.list → IsWhereItLeads M exact backup.list (state b.guest.board)
+  second_there : b.guest.replayed ≡ length b.guest.list.items → IsWhereItLeads M exact backup.list (state b.guest.board)
   second_there all = backup_where M lawful (Counts-booted N boot (bytes_in first) counts)
       (ComesAndGoes-booted N boot (bytes_in first) laws) primary backup terminal disk tail held winner settled
       p.guest.waiting p.guest.given.items (state p.guest.board) known p.port0.typed.items p.port1.typed.items
@@ -194,7 +194,7 @@ module _ {B S : Type 0} (state : B → S) (N : Machine S) (counts : Counts N) (l
       p.guest.waiting p.guest.given.items (state p.guest.board) known p.port0.typed.items p.port1.typed.items
       p.port0.taken p.port1.taken p.port0.accepted p.port1.accepted leads.2 less0 less1 records store
 
-  second_left : b.guest.replayed ≡ vec_len b.guest.list
+  second_left : b.guest.replayed ≡ length b.guest.list.items
       → Leaves M p.port0.typed.items p.port1.typed.items backup.list screens records (state b.guest.board)
   second_left all = backup_leaves M lawful (Counts-booted N boot (bytes_in first) counts)
       (ComesAndGoes-booted N boot (bytes_in first) laws) primary backup terminal disk tail held winner settled
@@ -203,7 +203,7 @@ module _ {B S : Type 0} (state : B → S) (N : Machine S) (counts : Counts N) (l
       (state b.guest.board) (repeats all).ran
 
   -- nobody is
-  both_well : IsAtRest state N p → b.guest.replayed ≡ vec_len b.guest.list
+  both_well : IsAtRest state N p → b.guest.replayed ≡ length b.guest.list.items
       → EndsWell M exact p.port0.typed.items p.port1.typed.items primary.list screens records (state p.guest.board)
       (state b.guest.board)
   both_well rest all = well M lawful (Counts-booted N boot (bytes_in first) counts)

@@ -1,9 +1,9 @@
 -- The guest of a primary's worker: each step and each input is one more move of its recorded run, with its entry; what it
 -- gives is named, and what is released while all is acknowledged has its mark among the entries seen.
-use Rattle.std.proofs.Common.{◌≡◌, ◌≢◌, ℕ, zero, suc, ◌+◌, ◌<◌, ◌≤◌, ◌⊎◌, inl, inr, List, [], ◌∷◌, ◌++◌, length, Option, Some, None, refl, sym, ap, subst, ◌∙◌, arith, length-append, append-nil, get_or}
+use Rattle.std.proofs.Common.{◌≡◌, ◌≢◌, ℕ, zero, suc, ◌+◌, ◌≤◌, ◌⊎◌, inl, inr, List, [], ◌∷◌, ◌++◌, length, Option, Some, None, refl, sym, ap, subst, ◌∙◌, arith, length-append, append-nil}
 use mathlib.Core.Option.{some}
 use lib.ListN.{get_elem?}
-use Rattle.std.specs.Prelude.{Contains}
+use Rattle.std.specs.Prelude.{Contains, slice_get}
 use Rattle.std.proofs.lemmas.List.Elements.{Contains-append_left, Contains-push}
 use Rattle.event_callbacks.specs.Operations.{id_of}
 use Rattle.event_callbacks.specs.declared.operations.OpId.{OpId}
@@ -305,7 +305,11 @@ refused_there M s t turns _ fault (IsRefused lt q) is =
 
 -- ---- an entry of a list, by its index
 
-pub at_index : (list : List Entry) (i : ℕ) (e : Entry) → i < length list → e ≡ get_or list i e → get_elem? list i ≡ some e
-at_index [] i e within is = absurd (omega (arith, within))
-at_index (x ∷ list) zero e within is = ap some (sym is)
-at_index (x ∷ list) (suc i) e within is = at_index list i e (let w = within in omega (arith, w)) is
+pub at_index : (list known : List Entry) → list ≡ known → (i : ℕ) (e : Entry) → slice_get list i ≡ Some e
+    → get_elem? known i ≡ some e
+at_index list known same i e is = subst (λ l. get_elem? l i ≡ some e) same (there list i is)
+  where
+    there : (l : List Entry) (n : ℕ) → slice_get l n ≡ Some e → get_elem? l n ≡ some e
+    there [] n at = absurd cc
+    there (x ∷ l) zero at = ap some cc
+    there (x ∷ l) (suc n) at = there l n at

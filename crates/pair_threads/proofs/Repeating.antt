@@ -1,9 +1,10 @@
 -- The guest of a backup's worker: entries that arrive leave what it has repeated as it was; steps towards an entry keep it,
 -- and the entry's own move adds the entry.
-use Rattle.std.proofs.Common.{◌≡◌, ◌⊎◌, inl, inr, ℕ, zero, suc, ◌+◌, ◌<◌, ◌≤◌, Bool, true, false, Option, Some, None, Ok, Err, List, [], ◌∷◌, ◌++◌, length, take, get_or, refl, sym, ap, subst, ◌∙◌, arith}
+use Rattle.std.proofs.Common.{◌≡◌, ◌⊎◌, inl, inr, ℕ, suc, ◌+◌, ◌≤◌, Bool, true, false, Option, Some, None, Ok, Err, List, [], ◌∷◌, ◌++◌, length, take, refl, sym, ap, subst, ◌∙◌, arith}
 use Rattle.std.specs.Prelude.{is_some, slice_get}
 use Rattle.std.proofs.Math.Seq.{take-suc}
 use Rattle.std.proofs.lemmas.List.{take-append-le}
+use Rattle.std.proofs.lemmas.Option.{get_or_from_slice_get, slice_get_within}
 use Rattle.guest_lockstep.specs.Lockstep.{StepsUnless, step_refusal}
 use Rattle.guest_lockstep.specs.Machine.{Machine}
 use Rattle.guest_lockstep.specs.Recorded.{Counts}
@@ -53,30 +54,24 @@ module _ {S : Type 0} (M : Machine S) (exact : Bool) (boot s : S) (list : List E
         record { ran = made.0; at = λ stands here. made.1 ∙ sym (last_more (M.count boot) list e) }
 
 -- the entries repeated after one more
-pub one_more : (list : List Entry) (replayed : ℕ) (e : Entry) → replayed < length list → e ≡ get_or list replayed e
+pub one_more : (list : List Entry) (replayed : ℕ) (e : Entry) → slice_get list replayed ≡ Some e
     → take (replayed + 1) list ≡ take replayed list ++ e ∷ []
-one_more list replayed e within is =
+one_more list replayed e is =
     let next : replayed + 1 ≡ suc replayed = omega arith in
-    ap (λ n. take n list) next ∙ take-suc list replayed e within ∙ ap (λ z. take replayed list ++ z ∷ []) (sym is)
-
--- the entry at an index
-pub entry_at : (list : List Entry) (i : ℕ) (e : Entry) → i < length list → e ≡ get_or list i e → slice_get list i ≡ Some e
-entry_at [] i e within is = absurd (omega (arith, within))
-entry_at (x ∷ list) zero e within is = ap Some (sym is)
-entry_at (x ∷ list) (suc i) e within is = entry_at list i e (let w = within in omega (arith, w)) is
+    ap (λ n. take n list) next ∙ take-suc list replayed e (slice_get_within list replayed e is)
+    ∙ ap (λ z. take replayed list ++ z ∷ []) (get_or_from_slice_get list replayed e e is)
 
 -- the next entry is followed
 pub follows_on : {B S : Type 0} (state : B → S) (M : Machine S) (steps : ℕ) (old new : Repeater B) (e : Entry)
-    (followed : Followed) → old.replayed < length old.list.items → e ≡ get_or old.list.items old.replayed e
+    (followed : Followed) → slice_get old.list.items old.replayed ≡ Some e
     → Follows M (state old.board) e steps (Ok followed) (state new.board) → FollowsFor state M steps old new
-follows_on state M steps old new e followed within is follows =
-    inr (e, entry_at old.list.items old.replayed e within is, (followed, follows))
+follows_on state M steps old new e followed is follows = inr (e, is, (followed, follows))
 
 -- an entry from which the guest strays can never be reached
 pub strayed_there : {B S : Type 0} (state : B → S) (M : Machine S) (r : Repeater B) (e : Entry) (turns : ℕ) (t : S)
-    → r.replayed < length r.list.items → e ≡ get_or r.list.items r.replayed e
+    → slice_get r.list.items r.replayed ≡ Some e
     → Follows M (state r.board) e turns (Ok Differs) t → IsStuck state M r
-strayed_there state M r e turns t within is follows = inl (e, entry_at r.list.items r.replayed e within is, follows.1)
+strayed_there state M r e turns t is follows = inl (e, is, follows.1)
 
 -- a guest that is refused a step is out of memory, or stuck
 pub refused_there : {B S : Type 0} (state : B → S) (M : Machine S) (r : Repeater B) (e : Entry) (turns : ℕ) (fault : Fault) (t : S)

@@ -10,6 +10,7 @@ pub mod Screens
 pub mod Showing
 pub mod Stores
 pub mod Repeating
+pub mod Keeping
 pub mod Leading
 pub mod Ending
 pub mod Left

@@ -1,5 +1,5 @@
 -- How far the guest of a backup's worker is.
-use Rattle.std.specs.Prelude.{◌≡◌, ◌⊎◌, ℕ, ◌-◌, ◌==◌, nat_lt, Bool, true, false, List, length, take, vec_len, slice_get, Option, Some, None, IsSome, Ok}
+use Rattle.std.specs.Prelude.{◌≡◌, ◌⊎◌, ℕ, ◌-◌, ◌==◌, ◌&&◌, not, nat_lt, Bool, true, false, List, length, take, slice_get, Option, Some, None, IsSome, Ok}
 use Rattle.guest_lockstep.specs.Lockstep.{step_refusal}
 use Rattle.guest_lockstep.specs.Machine.{Machine}
 use Rattle.log_entry.specs.Entries.{count_of, last_count}
@@ -25,15 +25,16 @@ GoesOn {B} {S} state M old new = (exact : Bool) (boot : S) → IsAt state M exac
 
 -- it has repeated its whole list
 abbrev pub has_all : {B : Type 0} → Repeater B → Bool
-has_all r = r.replayed == vec_len r.list
+has_all r = r.replayed == length r.list.items
 
--- its guest has to make more than so many steps up to the last entry of its list
+-- its guest has to make more than so many steps up to the last entry of its list, and has not repeated all of them
 abbrev pub is_far_from : Option Entry → ℕ → Bool
 is_far_from None count = false
 is_far_from (Some e) count = nat_lt 10_000_000 (count_of e - count)
 
 abbrev pub is_far_behind : {B S : Type 0} → (B → S) → Machine S → Repeater B → Bool
-is_far_behind state M r = is_far_from (slice_get r.list.items (length r.list.items - 1)) (M.count (state r.board))
+is_far_behind state M r =
+    not (has_all r) && is_far_from (slice_get r.list.items (length r.list.items - 1)) (M.count (state r.board))
 
 -- it follows its next entry, with as many steps as it may make; without one it stays as it was
 abbrev pub FollowsFor : {B S : Type 0} → (B → S) → Machine S → ℕ → Repeater B → Repeater B → Type 0

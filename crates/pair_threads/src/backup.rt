@@ -1,5 +1,5 @@
 //! The backup's worker: it takes packets, acknowledges its list, repeats its entries, and may go on alone.
-ghost use Rattle.std.specs.Prelude.{◌≡◌, ◌≢◌, ◌<◌, ◌≤◌, Bool, cond, if◌then◌else◌, min, [], false, true, length, vec_len, is_some, option_map, Option, IfErr, IfOk, IsTrue, OnOk};
+ghost use Rattle.std.specs.Prelude.{◌≡◌, ◌≢◌, ◌<◌, ◌≤◌, Bool, cond, if◌then◌else◌, min, [], false, true, length, is_some, option_map, Option, IfErr, IfOk, IsTrue, OnOk};
 ghost use Rattle.pair_rule.specs.declared.mailbox.Mailbox.TheVariants.{Inbox};
 ghost use Rattle.pair_rule.specs.declared.payload.Packet.{Packet};
 ghost use Rattle.pair_rule.specs.declared.payload.Payload.TheVariants.{Log};
@@ -19,7 +19,7 @@ use crate::signals::Told;
 use crate::worker::{Turn, Worker};
 use guest_lockstep::Lockstep;
 use i8080_words::{Fault, R};
-use log_entry::Entry;
+use log_journal::Journal;
 use pair_rule::{BackupSeat, Fabric};
 use std::alloc::Global;
 
@@ -60,6 +60,7 @@ pub(crate) struct BackupWorker<B> {
     stride: u64,
     plan: Plan,
     ghost same: { guest.list.items ≡ seat.core.known.backup.list },
+    ghost keeps: { guest.keeps ≡ plan.keeps },
     ghost strides: { 1000 ≤ stride },
 }
 
@@ -74,7 +75,7 @@ impl<B: Lockstep> BackupWorker<B> {
     {
         BackupWorker {
             seat,
-            guest: Repeater::new(alloc, board),
+            guest: Repeater::new(alloc, board, plan.keeps),
             held: 0,
             won: false,
             chore: Chore::Take,
@@ -84,13 +85,9 @@ impl<B: Lockstep> BackupWorker<B> {
     }
 
     /// A backup that goes on where its guest has repeated this list.
-    pub(crate) fn resume(
-        seat: BackupSeat,
-        list: Vec<Entry>,
-        board: B,
-        plan: Plan,
-    ) -> BackupWorker<B>
-        requires { list.items ≡ seat.core.known.backup.list }
+    pub(crate) fn resume(seat: BackupSeat, list: Journal, board: B, plan: Plan) -> BackupWorker<B>
+        requires list { list.items ≡ seat.core.known.backup.list }
+        requires forgets { plan.keeps ≡ false }
         ensures seat { result.seat ≡ seat }
         ensures board { result.guest.board ≡ board }
         ensures plan { (result.plan ≡ plan) × (result.won ≡ false) }
@@ -126,7 +123,7 @@ impl<B: Lockstep> BackupWorker<B> {
         if !self.seat.has_swaps_left() {
             return Err(Fault::Stalled);
         }
-        self.guest.list.reserve(1)?;
+        self.guest.list.reserve()?;
         match self.seat.take(fabric) {
             Some(packet) => {
                 if packet.index == self.guest.list.len() as u64 {
@@ -181,7 +178,7 @@ impl<B: Lockstep> BackupWorker<B> {
         ensures seat { self.new.seat ≡ self.old.seat }
         ensures same { (self.new.plan ≡ self.old.plan) × (self.new.won ≡ self.old.won) }
         ensures goes_on { OnOk result (GoesOn B.state B.machine self.old.guest self.new.guest) }
-        ensures leaves { Leaves result (Unit {0}) (self.new.guest.replayed ≡ vec_len self.new.guest.list) }
+        ensures leaves { Leaves result (Unit {0}) (self.new.guest.replayed ≡ length self.new.guest.list.items) }
         ensures steps { OnOk result (FollowsFor B.state B.machine self.old.plan.steps self.old.guest self.new.guest) }
         ensures turn { IfOk result (λ turn. turn ≡ turn_of_draining (has_all self.old.guest)) }
         ensures refused { IfErr result IsEnding }
@@ -241,7 +238,7 @@ impl<B: Lockstep> BackupWorker<B> {
 }
 
 impl<B: Lockstep> Worker for BackupWorker<B> {
-    ghost use Rattle.std.specs.Prelude.{◌≡◌, ◌⊎◌, ◌&&◌, ◌||◌, not, cond, false, Some, vec_len};
+    ghost use Rattle.std.specs.Prelude.{◌≡◌, ◌⊎◌, ◌&&◌, ◌||◌, not, cond, false, Some, length};
     ghost use Rattle.pair_threads.specs.Asking.{AsksAt, HasAsked};
     ghost use Rattle.pair_threads.specs.Repeating.{GoesOn, has_all, is_far_behind};
     ghost use Rattle.pair_threads.specs.BackupTurns.{IsTurn, IsTurnOf};
@@ -254,7 +251,7 @@ impl<B: Lockstep> Worker for BackupWorker<B> {
         × GoesOn B.state B.machine first.guest w.guest };
 
     ghost ended = { λ w. (w.plan.contested ≡ false) ⊎ (w.seat.core.known.backup.winner ≡ 2)
-        → w.guest.replayed ≡ vec_len w.guest.list };
+        → w.guest.replayed ≡ length w.guest.list.items };
 
     ghost asks = { λ old number told new.
         AsksAt old.plan.asking number told old.seat.core.known.backup.winner new.seat.core.known.backup.winner };
@@ -269,7 +266,7 @@ impl<B: Lockstep> Worker for BackupWorker<B> {
     ghost needs_others = { λ w. false };
 
     ghost stands = { λ w. Some (record {
-      entries = vec_len w.guest.list;
+      entries = length w.guest.list.items;
       passed = w.guest.replayed;
       steps = B.machine.count (B.state w.guest.board);
     }) };

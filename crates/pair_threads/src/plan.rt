@@ -1,6 +1,7 @@
 //! What a worker with a guest is told before it begins.
 ghost use Rattle.std.specs.Prelude.{◌≡◌, ◌↔◌, ◌||◌, not, true, false, max, IsTrue, Option};
 ghost use Rattle.pair_threads.specs.Asking.{AsksIn, MayBeWatched, IsUnplanned, MayAsk, asking_of};
+ghost use Rattle.pair_threads.specs.Keeping.{first_kept};
 
 /// When a worker asks to go on alone.
 #[derive(Clone, Copy, PartialEq, Eq)]
@@ -20,6 +21,8 @@ pub(crate) struct Plan {
     pub(crate) contested: bool,
     /// Whether hosts fail when the gate says so, and at no turn.
     pub(crate) watched: bool,
+    /// Whether it keeps its whole list, and not only the entries that it still needs.
+    pub(crate) keeps: bool,
     /// How many steps its guest may make in one turn.
     pub(crate) steps: u64,
     ghost told: { MayAsk asking → contested ≡ true },
@@ -27,17 +30,26 @@ pub(crate) struct Plan {
 }
 
 impl Plan {
-    /// A plan; `contested` says whether this worker or the other one may ask, and `watched` whether they ask when they are told.
-    pub(crate) fn new(asking: Asking, contested: bool, watched: bool, steps: u64) -> Plan
+    /// A plan; `contested` says whether this worker or the other one may ask, `watched` whether they ask when they are told, and
+    /// `keeps` whether it keeps its whole list.
+    pub(crate) fn new(
+        asking: Asking,
+        contested: bool,
+        watched: bool,
+        keeps: bool,
+        steps: u64,
+    ) -> Plan
         requires told { MayAsk asking → contested ≡ true }
         requires unplanned { watched ≡ true → IsUnplanned asking }
         ensures asks { (result.asking ≡ asking) × (result.contested ≡ contested) × (result.watched ≡ watched) }
+        ensures keeps { result.keeps ≡ keeps }
         ensures steps { result.steps ≡ max steps 1 }
     {
         Plan {
             asking,
             contested,
             watched,
+            keeps,
             steps: steps.max(1),
         }
     }
@@ -59,6 +71,13 @@ impl Plan {
     {
         !self.contested || self.watched
     }
+}
+
+// The index of the first entry that a worker keeps that needs the entries from this index on.
+pub(crate) fn first_kept(keeps: bool, needed: usize) -> usize
+    ensures { result ≡ first_kept keeps needed }
+{
+    if keeps { 0 } else { needed }
 }
 
 // When a worker asks that is to ask at this turn; if it is to at none, and the run is watched, it asks when it is told.
@@ -89,15 +108,23 @@ pub(crate) fn plans_of(
     primary: Option<u64>,
     backup: Option<u64>,
     watched: bool,
+    keeps: bool,
     steps: u64,
 ) -> (Plan, Plan)
     requires watched { MayBeWatched watched primary backup }
     ensures primary { (result.0.asking ≡ asking_of primary watched) × (result.0.watched ≡ watched) }
     ensures backup { (result.1.asking ≡ asking_of backup watched) × (result.1.watched ≡ watched) }
     ensures contested { result.1.contested ≡ result.0.contested }
+    ensures keeps { (result.0.keeps ≡ keeps) × (result.1.keeps ≡ keeps) }
 {
     let contested = is_contested(primary, backup, watched);
-    let lead = Plan::new(asking_of(primary, watched), contested, watched, steps);
-    let follow = Plan::new(asking_of(backup, watched), contested, watched, steps);
+    let lead = Plan::new(
+        asking_of(primary, watched),
+        contested,
+        watched,
+        keeps,
+        steps,
+    );
+    let follow = Plan::new(asking_of(backup, watched), contested, watched, keeps, steps);
     (lead, follow)
 }

@@ -2,6 +2,7 @@
 ghost use Rattle.std.specs.Prelude.{◌≡◌, ◌+◌, ◌-◌, ◌<◌, ◌≤◌, cond, Some, length, slice_get};
 ghost use Rattle.disk_dcdd.specs.declared.sector.TheConstants.{SECTORS};
 ghost use Rattle.pair_rule.specs.declared.payload.DiskAnswer.{DiskAnswer};
+ghost use Rattle.pair_threads.specs.Keeping.{first_kept};
 
 mod chores;
 mod requests;
@@ -11,7 +12,7 @@ use crate::chore::Chore;
 use crate::plan::Plan;
 use crate::port_inputs::PortInputs;
 use crate::recording::Recording;
-use log_entry::Entry;
+use log_journal::Journal;
 use pair_rule::{DiskAnswer, PrimarySeat};
 
 /// How many steps a guest makes between two keys, unless it idles: about those of an 8080 between two bytes of a line at
@@ -22,7 +23,7 @@ pub const KEY_STEPS: u64 = 300;
 #[derive(Drop)]
 pub(crate) struct PrimaryWorker<B> {
     pub(crate) seat: PrimarySeat,
-    pub(crate) list: Vec<Entry>,
+    pub(crate) list: Journal,
     pub(crate) guest: Recording<B>,
     pub(crate) port0: PortInputs,
     pub(crate) port1: PortInputs,
@@ -52,6 +53,8 @@ pub(crate) struct PrimaryWorker<B> {
     held_up: bool,
     plan: Plan,
     ghost same: { list.items ≡ seat.core.known.primary.list },
+    ghost forgot: { list.forgotten ≡ first_kept plan.keeps seen },
+    ghost few: { length list.items ≤ seen + 256 },
     ghost saw: { seen ≡ seat.core.known.primary.seen },
     ghost saw_counted: { (counted0 ≡ seat.core.known.primary.counted0) × (counted1 ≡ seat.core.known.primary.counted1) },
     ghost accepted: { (port0.accepted ≤ counted0) × (port1.accepted ≤ counted1) },

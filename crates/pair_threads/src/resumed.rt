@@ -1,5 +1,5 @@
 //! One generation on threads that goes on where a run was settled.
-ghost use Rattle.std.specs.Prelude.{◌≡◌, ◌≤◌, ◌∷◌, Bool, List, ℕ, [], map, take, vec_len, IfErr, IfOk};
+ghost use Rattle.std.specs.Prelude.{◌≡◌, ◌≤◌, ◌∷◌, Bool, List, ℕ, [], false, length, map, take, vec_len, IfErr, IfOk};
 ghost use Rattle.disk_dcdd.specs.declared.address.SectorAddress.{SectorAddress};
 ghost use Rattle.guest_lockstep.specs.Machine.{booted_from};
 ghost use Rattle.pair_protocol.specs.Lawful.{Lawful};
@@ -9,6 +9,7 @@ ghost use Rattle.pair_rule.specs.Threads.{bytes_accepted};
 ghost use Rattle.pair_threads.specs.Asking.{MayBeWatched, WonOver};
 ghost use Rattle.pair_threads.specs.Ending.{EndsBy, IsEnding, NoneUnderWay};
 ghost use Rattle.pair_threads.specs.Leading.{by_port};
+ghost use Rattle.pair_threads.specs.Keeping.{HasKept};
 ghost use Rattle.pair_threads.specs.Left.{LeavesBy};
 ghost use Rattle.pair_threads.specs.Resuming.{BeginsAt};
 ghost use Rattle.pair_threads.specs.Shown.{IsOfRun};
@@ -56,7 +57,7 @@ pub fn run_generation_at<
         resumed.start.known.known }
     requires lists { (resumed.primary_list.items ≡ resumed.start.known.known.primary.list)
         × (resumed.backup_list.items ≡ resumed.start.known.known.backup.list)
-        × (vec_len resumed.primary_list ≡ resumed.start.known.known.primary.seen) }
+        × (length resumed.primary_list.items ≡ resumed.start.known.known.primary.seen) }
     requires counted { (resumed.start.accepted0 ≡ resumed.start.known.known.primary.counted0)
         × (resumed.start.accepted1 ≡ resumed.start.known.known.primary.counted1) }
     requires screens { (resumed.accepted.0.items ≡ bytes_accepted 0 resumed.start.known.known)
@@ -70,6 +71,7 @@ pub fn run_generation_at<
     ensures decided { IfOk result (λ e. WonOver watched resumed.workers.primary_contests resumed.workers.backup_contests
         e.winner) }
     ensures prefix { IfOk result (λ e. StartsWith e.primary.items e.backup.items) }
+    ensures kept { IfOk result (λ e. HasKept false e.primary e.backup) }
     ensures ends { (boot : B.State) (first : List Record) (exact : Bool)
         → Lawful (booted_from B.machine boot (bytes_in first)) → BeginsAt B.machine exact boot (bytes_in first)
         resumed.workers.typed0.items resumed.workers.typed1.items
@@ -129,7 +131,7 @@ pub fn run_generation_at<
         keyboard1,
         screen,
     } = lines;
-    let (lead, follow) = plans_of(primary_contests, backup_contests, watched, steps);
+    let (lead, follow) = plans_of(primary_contests, backup_contests, watched, false, steps);
     let contested = lead.contested;
     let ports = (
         PortInputs::after(typed0, taken.0, start.accepted0, keyboard0),

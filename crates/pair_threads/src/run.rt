@@ -1,5 +1,5 @@
 //! One generation on threads.
-ghost use Rattle.std.specs.Prelude.{◌≡◌, ◌⊎◌, ℕ, List, [], ◌∷◌, Option, None, Some, Bool, true, false, length, map, vec_len, IfErr, IfOk, IsOk, OnOk};
+ghost use Rattle.std.specs.Prelude.{◌≡◌, ◌⊎◌, ℕ, List, [], ◌∷◌, Option, None, Some, Bool, true, false, not, length, map, IfErr, IfOk, IsOk, OnOk};
 ghost use Rattle.guest_lockstep.specs.Machine.{booted_from};
 ghost use Rattle.pair_protocol.specs.Lawful.{Lawful};
 ghost use Rattle.pair_rule.specs.Knowledge.{StartsWith, last_or};
@@ -10,6 +10,7 @@ ghost use Rattle.pair_lines.specs.declared.lines.Lines.{Lines};
 ghost use Rattle.pair_threads.specs.Asking.{HasAsked, MayBeWatched, IsUnplanned, WonAs, WonOver};
 ghost use Rattle.pair_threads.specs.declared.plan.Asking.{Asking};
 ghost use Rattle.pair_threads.specs.Ending.{EachScreen, EndsBy, IsEnding, WonBy, winner_named};
+ghost use Rattle.pair_threads.specs.Keeping.{HasKept};
 ghost use Rattle.pair_threads.specs.Left.{LeavesBy};
 ghost use Rattle.pair_threads.specs.Primary.{IsAtRest, WorkerKeeps, WorkerLeads};
 ghost use Rattle.pair_threads.specs.Repeating.{IsAt};
@@ -35,6 +36,7 @@ use crate::workers::{GenerationEnd, Workers};
 use guest_lockstep::Lockstep;
 use i8080_words::{Fault, R};
 use log_entry::Entry;
+use log_journal::Journal;
 use pair_lines::Lines;
 use pair_rule::{Fabric, FiveSeats};
 use shared_disk::{SectorStore, SharedDisk};
@@ -70,8 +72,8 @@ fn failure_of(one: R<()>, other: R<()>) -> R<()>
 #[derive(Drop)]
 struct Parts<B, D: SectorStore> {
     seats: FiveSeats,
-    primary_list: Vec<Entry>,
-    backup_list: Vec<Entry>,
+    primary_list: Journal,
+    backup_list: Journal,
     primary_board: B,
     backup_board: B,
     waiting: Option<Entry>,
@@ -204,7 +206,7 @@ fn conclude<B: Lockstep + Drop, D: SectorStore>(
     requires asked { HasAsked primary.plan.asking primary.seat.core.known.primary.winner
         × HasAsked backup.plan.asking backup.seat.core.known.backup.winner }
     requires repeated { (undecided ≡ false) ⊎ (backup.seat.core.known.backup.winner ≡ 2)
-        → backup.guest.replayed ≡ vec_len backup.guest.list }
+        → backup.guest.replayed ≡ length backup.guest.list.items }
     ensures refused { IfErr result IsEnding }
     ensures decided { IfOk result (λ e. WonAs primary.plan.asking backup.plan.asking e.winner) }
     ensures lists { IfOk result (λ e. (e.primary ≡ primary.list) × (e.backup ≡ backup.guest.list)
@@ -219,6 +221,8 @@ fn conclude<B: Lockstep + Drop, D: SectorStore>(
         → (EachScreen (HasShown lines.screen) 0 screens → ShowsAll terminal)
         → IfOk result (IsOver typed0 typed1 lines screens) }
     ensures prefix { IfOk result (λ e. StartsWith e.primary.items e.backup.items) }
+    ensures kept { (keeps : Bool) → primary.plan.keeps ≡ keeps → backup.plan.keeps ≡ keeps
+        → IfOk result (λ e. HasKept keeps e.primary e.backup) }
     ensures ends { (boot : B.State) (first : List Record) (exact : Bool)
         → Lawful (booted_from B.machine boot (bytes_in first))
         → WorkerLeads B.state B.machine boot primary → IsAt B.state B.machine exact boot backup.guest
@@ -285,7 +289,7 @@ fn is_undecided<B: Lockstep>(
     watched: bool,
 ) -> bool
     ensures { result ≡ false → (contested ≡ false) ⊎ ((watched ≡ true) × IsAtRest B.state B.machine primary.now
-        × (backup.now.guest.replayed ≡ vec_len backup.now.guest.list)) }
+        × (backup.now.guest.replayed ≡ length backup.now.guest.list.items)) }
 {
     if !contested {
         return false;
@@ -314,7 +318,7 @@ pub(crate) fn finish<B: Lockstep + Drop, D: SectorStore>(
         × (five.backup.0.plan.watched ≡ watched) × HasAsked five.backup.0.plan.asking five.backup.0.seat.core.known.backup.winner) }
     requires backup { (five.backup.0.seat.table ≡ fabric)
         × OnOk five.backup.1 ((contested ≡ false) ⊎ (five.backup.0.seat.core.known.backup.winner ≡ 2)
-        → five.backup.0.guest.replayed ≡ vec_len five.backup.0.guest.list) }
+        → five.backup.0.guest.replayed ≡ length five.backup.0.guest.list.items) }
     requires others { (five.terminal.0.seat.table ≡ fabric) × (five.disk.0.seat.table ≡ fabric) }
     ensures refused { IfErr result IsEnding }
     ensures failed { IfErr (together (together five.primary.1 five.backup.1) (together five.link.1
@@ -322,6 +326,8 @@ pub(crate) fn finish<B: Lockstep + Drop, D: SectorStore>(
     ensures decided { (first second : Asking) → OnOk five.primary.1 (five.primary.0.plan.asking ≡ first)
         → OnOk five.backup.1 (five.backup.0.plan.asking ≡ second) → IfOk result (λ e. WonAs first second e.winner) }
     ensures prefix { IfOk result (λ e. StartsWith e.primary.items e.backup.items) }
+    ensures kept { (keeps : Bool) → OnOk five.primary.1 (five.primary.0.plan.keeps ≡ keeps)
+        → OnOk five.backup.1 (five.backup.0.plan.keeps ≡ keeps) → IfOk result (λ e. HasKept keeps e.primary e.backup) }
     ensures ends { (boot : B.State) (first : List Record) (exact : Bool)
         → Lawful (booted_from B.machine boot (bytes_in first))
         → OnOk five.primary.1 (WorkerLeads B.state B.machine boot five.primary.0)
@@ -397,6 +403,7 @@ pub fn run_generation_over<
     ensures refused { IfErr result IsEnding }
     ensures decided { IfOk result (λ e. WonOver watched workers.primary_contests workers.backup_contests e.winner) }
     ensures prefix { IfOk result (λ e. StartsWith e.primary.items e.backup.items) }
+    ensures kept { IfOk result (λ e. HasKept (not watched) e.primary e.backup) }
     ensures ends { IfOk result (λ e. EndsBy (booted_from B.machine (B.state workers.primary) (bytes_in (D.records workers.disk)))
         true e.typed0.items e.typed1.items e.winner e.primary.items e.backup.items e.held
         (map (λ v. v.items) e.accepted) (D.records e.disk) (B.state e.primary_board) (B.state e.backup_board)) }
@@ -425,7 +432,7 @@ pub fn run_generation_over<
         keyboard1,
         screen,
     } = lines;
-    let (lead, follow) = plans_of(primary_contests, backup_contests, watched, steps);
+    let (lead, follow) = plans_of(primary_contests, backup_contests, watched, !watched, steps);
     let contested = lead.contested;
     let ports = (
         PortInputs::new(typed0, keyboard0),
@@ -456,6 +463,7 @@ pub fn run_generation<
     ensures refused { IfErr result IsEnding }
     ensures decided { IfOk result (λ e. WonBy workers.primary_contests workers.backup_contests e.winner) }
     ensures prefix { IfOk result (λ e. StartsWith e.primary.items e.backup.items) }
+    ensures whole { IfOk result (λ e. (e.primary.forgotten ≡ 0) × (e.backup.forgotten ≡ 0)) }
     ensures typed { IfOk result (λ e. (e.typed0.items ≡ workers.typed0.items) × (e.typed1.items ≡ workers.typed1.items)) }
     ensures ends { IfOk result (λ e. EndsBy (booted_from B.machine (B.state workers.primary) (bytes_in (D.records workers.disk)))
         true e.typed0.items e.typed1.items e.winner e.primary.items e.backup.items e.held

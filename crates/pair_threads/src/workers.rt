@@ -3,6 +3,7 @@
 use crate::gate::Who;
 use crate::link::Fate;
 use log_entry::Entry;
+use log_journal::Journal;
 use pair_lines::Lines;
 use pair_rule::Start;
 use shared_disk::{SectorStore, SharedDisk};
@@ -31,8 +32,8 @@ pub struct Workers<B: Drop, D: SectorStore> {
 #[derive(Drop)]
 pub struct GenerationEnd<B: Drop, D: SectorStore> {
     /// The lists of entries.
-    pub primary: Vec<Entry>,
-    pub backup: Vec<Entry>,
+    pub primary: Journal,
+    pub backup: Journal,
     pub primary_board: B,
     pub backup_board: B,
     /// The entry of the last move of the primary's guest, if it is not in the list yet.
@@ -58,8 +59,8 @@ pub struct Resumed<B: Drop, D: SectorStore> {
     /// What is known.
     pub start: Start,
     /// The lists of entries.
-    pub primary_list: Vec<Entry>,
-    pub backup_list: Vec<Entry>,
+    pub primary_list: Journal,
+    pub backup_list: Journal,
     /// How many of the bytes that are typed at each port were taken.
     pub taken: (usize, usize),
     /// What the terminal of each port has accepted.

@@ -71,7 +71,7 @@ fn run_with<
     let (primary, backup) = boards(alloc, &case.given.setup, sent, sector, written)?;
     let workers = workers_of(alloc, case, primary, backup)?;
     match run_generation(rt, alloc, workers, gate, case.how.turns) {
-        Ok(end) => Ok(without_boards(end)),
+        Ok(end) => without_boards(alloc, end),
         Err(fault) => Err(fault),
     }
 }
@@ -149,7 +149,10 @@ fn workers_of<B: Lockstep + Drop>(
 }
 
 // Lets the boards go.
-fn without_boards<B: Lockstep + Drop>(end: GenerationEnd<B, MemoryStore>) -> PairEnd {
+fn without_boards<B: Lockstep + Drop>(
+    alloc: Global,
+    end: GenerationEnd<B, MemoryStore>,
+) -> R<PairEnd> {
     let steps = end.primary_board.count();
     let GenerationEnd {
         primary,
@@ -160,15 +163,15 @@ fn without_boards<B: Lockstep + Drop>(end: GenerationEnd<B, MemoryStore>) -> Pai
         disk,
         ..
     } = end;
-    PairEnd {
+    Ok(PairEnd {
         steps,
-        primary,
-        backup,
+        primary: primary.kept(alloc)?,
+        backup: backup.kept(alloc)?,
         held,
         winner,
         accepted,
         disk,
-    }
+    })
 }
 
 // The disk at boot.

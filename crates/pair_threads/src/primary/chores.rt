@@ -12,6 +12,7 @@ ghost use Rattle.pair_threads.specs.Primary.{Emits, HasTakenKeys, IsAtRest, Work
 ghost use Rattle.pair_threads.specs.Turns.{RunsFor};
 
 use super::{KEY_STEPS, PrimaryWorker};
+use crate::plan::first_kept;
 use guest_lockstep::Lockstep;
 use i8080_words::{Fault, R};
 use pair_rule::Fabric;
@@ -23,7 +24,6 @@ const SHORT_STEPS: u64 = 2_000;
 impl<B: Lockstep> PrimaryWorker<B> {
     // Posts the next entry that is not acknowledged, and after the last one the first again. Returns whether it was posted
     // for the first time.
-    #[tactic(auto, using(crate::proofs::Leading::at_index))]
     pub(super) fn post(&mut self, fabric: &Fabric) -> bool
         requires table { self.old.seat.table ≡ fabric.now }
         requires before { self.old.seat.core.known.primary.winner ≡ 0 }
@@ -41,14 +41,14 @@ impl<B: Lockstep> PrimaryWorker<B> {
             return false;
         }
         self.seat
-            .post(fabric, self.next, &self.list[self.next as usize]);
+            .post(fabric, self.next, self.list.entry(self.next as usize));
         self.next += 1;
         let is_new = self.next > self.posted;
         self.posted = self.posted.max(self.next);
         is_new
     }
 
-    // Sees how many entries are acknowledged.
+    // Sees how many entries are acknowledged. Nobody needs these again.
     pub(super) fn see(&mut self, fabric: &Fabric) -> bool
         requires table { self.old.seat.table ≡ fabric.now }
         requires before { self.old.seat.core.known.primary.winner ≡ 0 }
@@ -58,6 +58,8 @@ impl<B: Lockstep> PrimaryWorker<B> {
     {
         let before = self.seen;
         self.seen = self.seat.see(fabric);
+        self.list
+            .forget_before(first_kept(self.plan.keeps, self.seen as usize));
         self.full = false;
         self.seen != before
     }

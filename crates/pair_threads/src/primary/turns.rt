@@ -1,5 +1,5 @@
 //! The turns of a primary's worker: it appends the entry that waits, and otherwise does its chores in rotation.
-ghost use Rattle.std.specs.Prelude.{◌≡◌, ◌+◌, ◌<◌, ◌≤◌, ◌⊎◌, ◌↔◌, false, [], length, vec_len, None, Some, IfErr, IfOk, IfSome, IsTrue, OnOk};
+ghost use Rattle.std.specs.Prelude.{◌≡◌, ◌+◌, ◌<◌, ◌≤◌, ◌⊎◌, ◌↔◌, false, [], length, None, Some, IfErr, IfOk, IfSome, IsTrue, OnOk};
 ghost use Rattle.event_callbacks.specs.declared.devices.TheConstants.{PORTS};
 ghost use Rattle.event_callbacks.specs.declared.operations.OpId.{OpId};
 ghost use Rattle.pair_rule.specs.Seats.{HasSwapsLeft};
@@ -23,6 +23,7 @@ use crate::worker::{Turn, Worker};
 use guest_lockstep::Lockstep;
 use i8080_words::{Fault, R};
 use log_entry::Entry;
+use log_journal::Journal;
 use pair_rule::{Fabric, PrimarySeat};
 use std::alloc::Global;
 
@@ -50,7 +51,7 @@ impl<B: Lockstep> PrimaryWorker<B> {
         let (port0, port1) = ports;
         PrimaryWorker {
             seat,
-            list: Vec::new(alloc),
+            list: Journal::new(alloc),
             guest: Recording::new(alloc, board),
             port0,
             port1,
@@ -79,13 +80,14 @@ impl<B: Lockstep> PrimaryWorker<B> {
     pub(crate) fn resume(
         alloc: Global,
         seat: PrimarySeat,
-        list: Vec<Entry>,
+        mut list: Journal,
         board: B,
         ports: (PortInputs, PortInputs),
         plan: Plan,
     ) -> PrimaryWorker<B>
         requires list { list.items ≡ seat.core.known.primary.list }
-        requires seen { vec_len list ≡ seat.core.known.primary.seen }
+        requires seen { length list.items ≡ seat.core.known.primary.seen }
+        requires forgets { plan.keeps ≡ false }
         requires counted { (ports.0.accepted ≡ seat.core.known.primary.counted0)
             × (ports.1.accepted ≡ seat.core.known.primary.counted1) }
         requires answered { seat.core.known.primary.asked ≤ length seat.core.known.primary.answers }
@@ -100,6 +102,7 @@ impl<B: Lockstep> PrimaryWorker<B> {
             (by_port ports.0.accepted ports.1.accepted 0) → WorkerLeads B.state B.machine boot result }
     {
         let (port0, port1) = ports;
+        list.forget_all();
         let length = list.len() as u64;
         let counted0 = port0.accepted;
         let counted1 = port1.accepted;
@@ -141,7 +144,7 @@ impl<B: Lockstep> PrimaryWorker<B> {
         ensures turn { IfOk result (HasAppended self.old self.new) }
         ensures refused { IfErr result IsEnding }
     {
-        self.list.reserve(1)?;
+        self.list.reserve()?;
         match self.seat.append(fabric, entry) {
             Ok(_) => {
                 self.list.push_reserved(entry);
@@ -336,7 +339,7 @@ fn fruitless_after(moved: bool, fruitless: u8) -> u8
 }
 
 impl<B: Lockstep> Worker for PrimaryWorker<B> {
-    ghost use Rattle.std.specs.Prelude.{◌≡◌, ◌&&◌, false, Some, vec_len};
+    ghost use Rattle.std.specs.Prelude.{◌≡◌, ◌&&◌, false, Some, length};
     ghost use Rattle.pair_threads.specs.Asking.{AsksAt, HasAsked};
     ghost use Rattle.pair_threads.specs.Patience.{is_held_up};
     ghost use Rattle.pair_threads.specs.Primary.{HasHadTurn, IsAtRest, WorkerKeeps, WorkerLeads};
@@ -364,7 +367,7 @@ impl<B: Lockstep> Worker for PrimaryWorker<B> {
     ghost needs_others = { λ w. is_held_up w };
 
     ghost stands = { λ w. Some (record {
-      entries = vec_len w.list;
+      entries = length w.list.items;
       passed = w.seen;
       steps = B.machine.count (B.state w.guest.board);
     }) };

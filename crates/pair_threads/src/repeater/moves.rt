@@ -1,12 +1,14 @@
 //! How a backup's guest repeats the entries of its list.
-ghost use Rattle.std.specs.Prelude.{◌≡◌, ◌⊎◌, Bool, ◌<◌, ◌↔◌, ◌++◌, [], ◌∷◌, false, vec_len, vec_capacity, IfErr, IsTrue, OnOk};
+ghost use Rattle.std.specs.Prelude.{◌≡◌, ◌⊎◌, Bool, ◌↔◌, ◌++◌, [], ◌∷◌, false, true, length, IfErr, IsTrue, OnOk};
 ghost use Rattle.i8080_words.specs.declared.refusal.Fault.TheVariants.{OutOfMemory, Stalled};
 ghost use Rattle.pair_threads.specs.Repeating.{FollowsFor, GoesOn, IsAt, IsStuck, Repeats, has_all, is_far_behind};
 
 use super::Repeater;
+use crate::plan::first_kept;
 use guest_lockstep::Lockstep;
 use i8080_words::{Fault, R};
 use log_entry::Entry;
+use log_journal::Journal;
 use replayer::{Followed, follow};
 use std::alloc::Global;
 
@@ -15,39 +17,44 @@ use std::alloc::Global;
 const MOST_BEHIND: u64 = 10_000_000;
 
 impl<B: Lockstep> Repeater<B> {
-    /// A guest at boot, with an empty list.
-    pub(crate) fn new(alloc: Global, board: B) -> Repeater<B>
+    /// A guest at boot, with an empty list; `keeps` says whether it keeps the entries that it has repeated.
+    pub(crate) fn new(alloc: Global, board: B, keeps: bool) -> Repeater<B>
         ensures board { result.board ≡ board }
+        ensures keeps { result.keeps ≡ keeps }
         ensures list { result.list.items ≡ [] }
         ensures at { (exact : Bool) → IsAt B.state B.machine exact (B.state board) result }
     {
         Repeater {
-            list: Vec::new(alloc),
+            list: Journal::new(alloc),
             board,
             replayed: 0,
             between: false,
+            keeps,
         }
     }
 
-    /// A guest that has repeated this list.
-    pub(crate) fn resume(list: Vec<Entry>, board: B) -> Repeater<B>
+    /// A guest that has repeated this list, and keeps none of it.
+    pub(crate) fn resume(mut list: Journal, board: B) -> Repeater<B>
         ensures board { result.board ≡ board }
-        ensures list { result.list ≡ list }
+        ensures list { result.list.items ≡ list.items }
+        ensures keeps { result.keeps ≡ false }
         ensures at { (exact : Bool) (boot : B.State) → Repeats B.machine exact boot list.items false (B.state board)
             → IsAt B.state B.machine exact boot result }
     {
         let replayed = list.len();
+        list.forget_all();
         Repeater {
             list,
             board,
             replayed,
             between: false,
+            keeps: false,
         }
     }
 
     /// Whether it has repeated the whole list.
     pub(crate) fn has_replayed_all(&self) -> bool
-        ensures all { IsTrue result ↔ (self.now.replayed ≡ vec_len self.now.list) }
+        ensures all { IsTrue result ↔ (self.now.replayed ≡ length self.now.list.items) }
         ensures is { result ≡ has_all self.now }
     {
         self.replayed == self.list.len()
@@ -57,16 +64,18 @@ impl<B: Lockstep> Repeater<B> {
     pub(crate) fn is_far_behind(&self) -> bool
         ensures { result ≡ is_far_behind B.state B.machine self.now }
     {
-        match self.list.last() {
-            Some(entry) => entry.count().saturating_sub(self.board.count()) > MOST_BEHIND,
-            None => false,
+        if self.has_replayed_all() {
+            return false;
         }
+        let last = self.list.entry(self.list.len() - 1);
+        last.count().saturating_sub(self.board.count()) > MOST_BEHIND
     }
 
     /// An entry arrives.
     pub(crate) fn hear(&mut self, entry: Entry)
-        requires room { vec_len self.old.list < vec_capacity self.old.list }
+        requires room { self.old.list.ready ≡ true }
         ensures list { self.new.list.items ≡ self.old.list.items ++ entry ∷ [] }
+        ensures keeps { self.new.keeps ≡ self.old.keeps }
         ensures goes_on { GoesOn B.state B.machine self.old self.new }
     {
         self.list.push_reserved(entry);
@@ -74,7 +83,8 @@ impl<B: Lockstep> Repeater<B> {
 
     /// Makes at most `steps` steps towards the next entry, or that entry's move. `Stalled` if it cannot.
     pub(crate) fn replay(&mut self, steps: u64) -> R<()>
-        ensures list { self.new.list ≡ self.old.list }
+        ensures list { self.new.list.items ≡ self.old.list.items }
+        ensures keeps { self.new.keeps ≡ self.old.keeps }
         ensures goes_on { OnOk result (GoesOn B.state B.machine self.old self.new) }
         ensures steps { OnOk result (FollowsFor B.state B.machine steps self.old self.new) }
         ensures refused { IfErr result (λ fault. (fault ≡ OutOfMemory)
@@ -83,7 +93,7 @@ impl<B: Lockstep> Repeater<B> {
         if self.replayed >= self.list.len() {
             return Ok(());
         }
-        let entry = self.list[self.replayed];
+        let entry = *self.list.entry(self.replayed);
         match follow(&mut self.board, &entry, steps) {
             Ok(Followed::Stepped(_)) => {
                 self.between = true;
@@ -92,6 +102,8 @@ impl<B: Lockstep> Repeater<B> {
             Ok(Followed::Done) => {
                 self.between = false;
                 self.replayed += 1;
+                self.list
+                    .forget_before(first_kept(self.keeps, self.replayed));
                 Ok(())
             }
             Err(Fault::OutOfMemory) => Err(Fault::OutOfMemory),

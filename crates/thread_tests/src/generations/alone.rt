@@ -8,6 +8,7 @@ use event_callbacks::{Callbacks, Completes, plain_completions};
 use guest_board::Setup;
 use guest_lockstep::Lockstep;
 use i8080_words::R;
+use log_journal::Journal;
 use pair_lines::{Keyboard, Screen};
 use pair_standing::{AloneEnd, Bounds, Standing, Until, run_alone};
 use rtrb::RingBuffer;
@@ -42,7 +43,7 @@ fn go_on<B: Lockstep + Drop, C: Clock>(
 ) -> R<Gone> {
     let standing = Standing {
         board,
-        list: Vec::new(alloc),
+        list: Journal::new(alloc),
         accepted: (Vec::new(alloc), Vec::new(alloc)),
         disk: unwritten_disk(alloc, 0)?,
         typed: (Vec::new(alloc), Vec::new(alloc)),

@@ -9,6 +9,7 @@ use guest_board::Setup;
 use guest_lockstep::Lockstep;
 use i8080_words::R;
 use log_entry::Entry;
+use log_journal::Journal;
 use pair_lines::Lines;
 use pair_standing::finish_alone;
 use pair_threads::{GenerationEnd, Who};
@@ -36,8 +37,8 @@ fn end_of<B: Lockstep + Drop>(
     }
     let count = primary.count();
     Ok(GenerationEnd {
-        primary: Vec::new(alloc),
-        backup: Vec::new(alloc),
+        primary: Journal::new(alloc),
+        backup: Journal::new(alloc),
         primary_board: primary,
         backup_board: backup,
         waiting: Some(Entry::Mark { count }),

@@ -57,7 +57,7 @@ pub(super) struct Outcome {
 }
 
 // What has come of a pair that is kept.
-fn look_at<B: Lockstep + Drop>(end: &mut GenerationEnd<B, Store>) -> R<Outcome> {
+fn look_at<B: Lockstep + Drop>(alloc: Global, end: &mut GenerationEnd<B, Store>) -> R<Outcome> {
     let sector = end.disk.get(SectorAddress {
         drive: 0,
         track: 0,
@@ -68,7 +68,7 @@ fn look_at<B: Lockstep + Drop>(end: &mut GenerationEnd<B, Store>) -> R<Outcome> 
         winner: end.winner,
         count: end.primary_board.count(),
         entries: end.primary.len(),
-        is_repeated: end.primary == end.backup,
+        is_repeated: end.primary.kept(alloc)? == end.backup.kept(alloc)?,
         held: end.held,
         first: first.first().copied(),
         accepted: [first.len(), second.len()],
@@ -77,8 +77,8 @@ fn look_at<B: Lockstep + Drop>(end: &mut GenerationEnd<B, Store>) -> R<Outcome> 
 }
 
 // What has come of a pair.
-fn outcome_of<B: Lockstep + Drop>(mut end: GenerationEnd<B, Store>) -> R<Outcome> {
-    look_at(&mut end)
+fn outcome_of<B: Lockstep + Drop>(alloc: Global, mut end: GenerationEnd<B, Store>) -> R<Outcome> {
+    look_at(alloc, &mut end)
 }
 
 // A guest with one drive, whose memory begins with this program.
@@ -183,7 +183,7 @@ fn run_with<
     let backup = boot(alloc, setup, Callbacks::of(sent, sector, written))?;
     let workers = workers_of(alloc, case, watched, primary, backup)?;
     match run_generation_over(rt, alloc, workers, lines, watched, gate, case.turns) {
-        Ok(end) => outcome_of(end),
+        Ok(end) => outcome_of(alloc, end),
         Err(fault) => Err(fault),
     }
 }

@@ -13,4 +13,4 @@ known_at-known-requires g c =
 pub returns-clause-begins : goal.returns-clause-begins
 returns-clause-begins g c =
     let origin = c.args.ready.origin in
-    c.in_ok-resumed.ensures.begins origin.boot origin.records c.requires.copied c.known_at-known.ensures
+    c.resumed_at-resumed.ensures.begins origin.boot origin.records c.requires.copied c.known_at-known.ensures

@@ -1,5 +1,6 @@
 -- The workers begin with all that is known where the run is settled.
-use Rattle.std.proofs.Common.{◌≡◌, subst, sym, ◌∙◌}
+use Rattle.std.proofs.Common.{◌≡◌, ap, subst, sym}
+use Rattle.log_journal.specs.Written.{Written}
 use Rattle.pair_generations.specs.Generations.{MayResume}
 use Rattle.pair_generations.proofs.Resuming.{resumes}
 use Rattle.pair_generations.proofs.following.resumed_at.Goals as goal
@@ -11,8 +12,8 @@ returns-clause-begins g c = λ boot first copied may.
     let N = g.B.Lockstep.machine in
     let st = c.args.standing in
     let orders = c.args.orders in
-    let list = c.in_ok-backup_list.backup_list in
-    let same : list.items ≡ st.list.items = c.in_ok-backup_list.ensures.same ∙ c.deref.ensures.value in
+    let list = c.remembered-backup_list.result in
+    let same : list.items ≡ st.list.items = ap (λ (w : Written). w.items) c.remembered-backup_list.ensures in
     subst (λ workers. MayResume state records N (state boot) first (record {
       workers = workers;
       start = c.start_at-start.result;

@@ -26,7 +26,7 @@ returns-clause-stands g c = λ boot sectors lawful dues is_due st.
     let same = c.end.ensures.winner in
     let ends = c.end.ensures.typed in
     let few : length last.list.items ≤ top =
-    (let f = done.few in let l = last.list.ok.0 in let t = top_is in omega (arith, f, l, t)) in
+    (let f = done.few in let t = top_is in omega (arith, f, t)) in
     let left : IsLeft (booted_from N boot sectors) start.port0.typed.items start.port1.typed.items
     (held winner.list.items winner.accepted0.items winner.accepted1.items (records winner.disk) (state winner.board)) =
     left_standing (booted_from N boot sectors) lawful dues start.port0.typed.items start.port1.typed.items winner.list.items
@@ -48,7 +48,7 @@ returns-clause-stands g c = λ boot sectors lawful dues is_due st.
     (held mid.winner.list.items mid.winner.accepted0.items mid.winner.accepted1.items (records mid.winner.disk)
     (state mid.winner.board))
     (held last.list.items last.accepted0.items last.accepted1.items (records last.disk) (state last.board)) done.goes_on
-    (λ number le. done.gone number (let l = mid.winner.list.ok.0 in omega (arith, le, l))) done.due.0 done.due.1 few boot
+    (λ number le. done.gone number le) done.due.0 done.due.1 few boot
     sectors mid.port0.typed.items mid.port1.typed.items lawful is_due
     (c.in_ok-run_turns.ensures.goes.runs.still boot sectors lawful left) result.taken.0 result.taken.1
     (c.end.ensures.taken.0 ∙ ap (λ b. N.keys (state b) 0) same.4)

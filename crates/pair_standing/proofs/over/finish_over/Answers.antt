@@ -19,7 +19,7 @@ returns-clause-stands g c = λ boot sectors typed0 typed1 lawful is_due left.
     let same = c.stand.ensures.same in
     let done = c.in_ok-settle_shown.ensures in
     let few : length new.list.items ≤ top =
-    (let f = done.few in let l = new.list.ok.0 in let t = top_is in omega (arith, f, l, t)) in
+    (let f = done.few in let t = top_is in omega (arith, f, t)) in
     stands_so (booted_from N boot sectors) typed0 typed1 new.list.items result.list.items new.accepted0.items
     result.accepted.0.items new.accepted1.items result.accepted.1.items (records new.disk) (records result.disk)
     result.taken.0 result.taken.1 (state new.board) (state result.board)
@@ -28,7 +28,7 @@ returns-clause-stands g c = λ boot sectors typed0 typed1 lawful is_due left.
     (stands N g.met.B.Lockstep.operations
     (held old.list.items old.accepted0.items old.accepted1.items (records old.disk) (state old.board))
     (held new.list.items new.accepted0.items new.accepted1.items (records new.disk) (state new.board)) done.goes_on
-    (λ number le. done.gone number (let l = old.list.ok.0 in omega (arith, le, l))) done.due.0 done.due.1 few boot sectors
+    (λ number le. done.gone number le) done.due.0 done.due.1 few boot sectors
     typed0 typed1 lawful is_due (c.in_ok-made.ensures.left boot sectors typed0 typed1 left) result.taken.0 result.taken.1
     (c.stand.ensures.taken.0 ∙ ap (λ b. N.keys (state b) 0) same.4)
     (c.stand.ensures.taken.1 ∙ ap (λ b. N.keys (state b) 1) same.4))

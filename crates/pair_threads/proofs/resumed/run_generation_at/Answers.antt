@@ -190,3 +190,12 @@ returns-clause-ran g c = λ boot first exact lawful begins.
     (on_ok served.result.primary.1 (λ end. end.0.5 boot leads kept) served.ensures.primary.1)
     (on_ok served.result.backup.1 (λ end. end.0.2 exact boot (c.resume-2.ensures.at exact boot repeats)) served.ensures.backup.1)
     (on_ok served.result.disk.1 (λ end. end.0 (bytes_in first) store) served.ensures.disk.1)
+
+pub returns-clause-kept : goal.returns-clause-kept
+returns-clause-kept g c =
+    let served = c.work-served in
+    c.finish.ensures.kept false
+    (on_ok served.result.primary.1 (λ end. ap (λ (p : Plan). p.keeps) (end.0.0 ∙ c.resume.ensures.plan.0)
+    ∙ c.plans_of.ensures.keeps.0) served.ensures.primary.1)
+    (on_ok served.result.backup.1 (λ end. ap (λ (p : Plan). p.keeps) (end.0.0 ∙ c.resume-2.ensures.plan.0)
+    ∙ c.plans_of.ensures.keeps.1) served.ensures.backup.1)

@@ -2,7 +2,7 @@
 use Rattle.std.proofs.Common.{ap, sym, ◌∙◌, not, subst, Vec, Global, ℕ, map, arith}
 use Rattle.std.proofs.lemmas.Bool.{false≢true}
 use Rattle.std.specs.Option.{is_some}
-use Rattle.log_entry.specs.declared.entry.Entry.{Entry}
+use Rattle.log_journal.specs.Written.{Written}
 use Rattle.pair_rule.specs.Seats.{Seat}
 use Rattle.guest_lockstep.specs.Machine.{booted_from}
 use Rattle.pair_lines.specs.Lines.{HasShown, IsSameStart}
@@ -33,7 +33,7 @@ returns-clause-ends g c = λ boot first exact lawful leads at store.
     let goes = c.winner_of-winner.result in
     ends_so _ exact parts_typed0 parts_typed1 p.port0.typed.items p.port1.typed.items goes closed.held _ _ _ _ _ _ _ _ _ _ _ _
     (sym (ap (λ (v : Vec ℕ Global). v.items) parts.typed.0)) (sym (ap (λ (v : Vec ℕ Global). v.items) parts.typed.1))
-    (ap (λ (v : Vec Entry Global). v.items) parts.lists.0) (ap (λ (v : Vec Entry Global). v.items) parts.lists.1)
+    (ap (λ (v : Written). v.items) parts.lists.0) (ap (λ (v : Written). v.items) parts.lists.1)
     parts.screens (ap g.D.SectorStore.records parts.disk) (ap g.B.Lockstep.state parts.boards.0)
     (ap g.B.Lockstep.state parts.boards.1)
     (ends g.B.Lockstep.state g.B.Lockstep.machine g.met.B.Lockstep.counts g.met.B.Lockstep.operations exact boot first lawful p b
@@ -64,7 +64,7 @@ returns-clause-left g c = λ boot first exact lawful leads at store.
     c.take_apart-parts.result.waiting n k x y)
     parts_typed0 parts_typed1 p.port0.typed.items p.port1.typed.items _ _ _ _ _ _ _ _ _ _ _ _
     (sym (ap (λ (v : Vec ℕ Global). v.items) parts.typed.0)) (sym (ap (λ (v : Vec ℕ Global). v.items) parts.typed.1))
-    (ap (λ (v : Vec Entry Global). v.items) parts.lists.0) (ap (λ (v : Vec Entry Global). v.items) parts.lists.1)
+    (ap (λ (v : Written). v.items) parts.lists.0) (ap (λ (v : Written). v.items) parts.lists.1)
     parts.screens (ap g.D.SectorStore.records parts.disk) (ap g.B.Lockstep.state parts.boards.0)
     (ap g.B.Lockstep.state parts.boards.1)
     (left g.B.Lockstep.state g.B.Lockstep.machine g.met.B.Lockstep.counts g.met.B.Lockstep.operations exact boot first lawful p b
@@ -94,7 +94,7 @@ returns-clause-ran g c = λ boot first exact lawful leads kept at store.
     all_so (λ a b l r n k x y. IsOfRun (booted_from g.B.Lockstep.machine boot (bytes_in first)) a b goes l r closed.held n k x y)
     parts_typed0 parts_typed1 p.port0.typed.items p.port1.typed.items _ _ _ _ _ _ _ _ _ _ _ _
     (sym (ap (λ (v : Vec ℕ Global). v.items) parts.typed.0)) (sym (ap (λ (v : Vec ℕ Global). v.items) parts.typed.1))
-    (ap (λ (v : Vec Entry Global). v.items) parts.lists.0) (ap (λ (v : Vec Entry Global). v.items) parts.lists.1)
+    (ap (λ (v : Written). v.items) parts.lists.0) (ap (λ (v : Written). v.items) parts.lists.1)
     parts.screens (ap g.D.SectorStore.records parts.disk) (ap g.B.Lockstep.state parts.boards.0)
     (ap g.B.Lockstep.state parts.boards.1)
     (of_run g.B.Lockstep.state g.B.Lockstep.machine exact boot first lawful p b c.args.terminal.seat.core.known.terminal

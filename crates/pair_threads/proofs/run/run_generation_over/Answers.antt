@@ -1,5 +1,5 @@
 -- The disk's worker begins with what was booted; and the workers' ends are of what was given to them.
-use Rattle.std.proofs.Common.{inl, inr, ap, sym, subst, true, ◌∙◌, [], ◌∷◌}
+use Rattle.std.proofs.Common.{inl, inr, ap, sym, subst, true, not, ◌∙◌, [], ◌∷◌}
 use Rattle.pair_rule.specs.Seats.{Seat}
 use Rattle.pair_threads.specs.declared.plan.Plan.{Plan}
 use Rattle.pair_rule.specs.declared.view.Core.{Core}
@@ -132,3 +132,12 @@ returns-clause-ran g c =
     (on_ok served.result.disk.1
     (λ end. subst (λ r. IsStore (bytes_in r) (records served.result.disk.0.disk) served.result.disk.0.seat.core.known.disk)
     (ap records c.new-7.ensures.disk) (end.0 (bytes_in (records c.new-7.result.disk)) store)) served.ensures.disk.1)
+
+pub returns-clause-kept : goal.returns-clause-kept
+returns-clause-kept g c =
+    let served = c.work-served in
+    c.finish.ensures.kept (not c.args.watched)
+    (on_ok served.result.primary.1 (λ end. ap (λ (p : Plan). p.keeps) (end.0.0 ∙ c.new-3.ensures.plan.0)
+    ∙ c.plans_of.ensures.keeps.0) served.ensures.primary.1)
+    (on_ok served.result.backup.1 (λ end. ap (λ (p : Plan). p.keeps) (end.0.0 ∙ c.new-5.ensures.plan.0)
+    ∙ c.plans_of.ensures.keeps.1) served.ensures.backup.1)

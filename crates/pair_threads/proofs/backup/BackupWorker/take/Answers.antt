@@ -1,5 +1,6 @@
 -- A packet that arrives leaves what the guest has repeated as it was.
-use Rattle.std.proofs.Common.{take, sym, subst}
+use Rattle.std.proofs.Common.{ap, take, sym, subst}
+use Rattle.log_journal.specs.Written.{Written}
 use Rattle.pair_threads.specs.Repeating.{Repeats}
 use Rattle.pair_threads.proofs.backup.BackupWorker.take.Goals as goal
 
@@ -8,4 +9,4 @@ returns-then-packet-len-clause-goes_on g c = λ exact boot at.
     let guest = c.args.self.now.guest in
     c.hear.ensures.goes_on exact boot
     (subst (λ l. Repeats g.B.Lockstep.machine exact boot (take guest.replayed l) guest.between
-    (g.B.Lockstep.state guest.board)) (sym c.in_ok-reserve.ensures.items) at)
+    (g.B.Lockstep.state guest.board)) (sym (ap (λ (w : Written). w.items) c.in_ok-reserve.ensures.room)) at)

@@ -1,6 +1,7 @@
 -- A packet that is posted changes nothing that the seat knows.
 use Rattle.std.proofs.Common.{ap, refl}
 use Rattle.pair_rule.specs.declared.view.Core.{Core}
+use Rattle.pair_threads.proofs.Leading.{at_index}
 use Rattle.pair_threads.proofs.Views.{works_on}
 use Rattle.pair_threads.proofs.primary.PrimaryWorker.post.Goals as goal
 
@@ -10,3 +11,8 @@ returns-clause-works g c =
     works_on g.B.Lockstep.state g.B.Lockstep.machine old c.post.new.self old.seat.core.known.primary
     c.post.ensures.same (ap (λ (k : Core). k.known.primary) c.post.ensures.posted.0.1) refl
     (λ boot taken accepted leads. leads) (λ boot leads kept. kept)
+
+pub post-requires-clause-stands : goal.post-requires-clause-stands
+post-requires-clause-stands g c =
+    let old = c.args.self.now in
+    at_index old.list.items old.seat.core.known.primary.list old.same _ c.entry.result.now c.entry.ensures
