@@ -133,7 +133,7 @@ pub(crate) fn begin_next<
 }
 
 /// The generation after this one: whoever goes on finishes what is outstanding, the guest is copied to the spare host, and
-/// both run. The steward hears that it begins.
+/// both run. The steward hears of the copy, and that it begins.
 pub(crate) fn advance<
     B: Copies<H> + Send + Drop,
     H: Drop,
@@ -165,6 +165,7 @@ pub(crate) fn advance<
     ensures refused { IfErr result IsEnding }
 {
     let settled = settle(rt, going, limits.tries)?;
+    steward.hears(PairEvent::Copies);
     let (ready, backup) = copied(alloc, settled, next, limits)?;
     let Some(backup) = backup else {
         return Err(Fault::Stalled);

@@ -110,7 +110,7 @@ fn run_on<B: Copies<H> + Drop, H: Drop, D: SectorStore, S: Steward, C: Clock>(
 }
 
 /// The guest of a settled run goes on alone until it is copied to a spare host, or the pair ends as `run_on` says. A host to which
-/// the copy does not arrive is used up, which the steward is told.
+/// the copy does not arrive is used up. The steward hears that the guest is copied, and is told of such a host.
 pub(crate) fn back_up<B: Copies<H> + Drop, H: Drop, D: SectorStore, S: Steward, C: Clock>(
     clock: &C,
     alloc: Global,
@@ -140,6 +140,7 @@ pub(crate) fn back_up<B: Copies<H> + Drop, H: Drop, D: SectorStore, S: Steward, 
             return Ok((alone, None));
         }
         let next = later.remove(0);
+        steward.hears(PairEvent::Copies);
         let (settled, backup) = copied(alloc, alone, next, limits)?;
         if backup.is_some() {
             return Ok((settled, backup));

@@ -7,6 +7,8 @@ use pair_threads::Who;
 pub enum PairEvent {
     /// This node has won, and goes on alone.
     Won(Who),
+    /// The guest is copied to the next spare host now.
+    Copies,
     /// The generation of this number begins: both its hosts have the guest.
     Begins(u32),
     /// No spare host is there: the guest runs on alone.
