@@ -1,4 +1,5 @@
 pub mod Roles
+pub mod Lines
 pub mod Links
 pub mod Spares
 pub mod Speed

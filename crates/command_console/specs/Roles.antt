@@ -2,7 +2,7 @@
 use Rattle.std.specs.Prelude.{ℕ, ◌+◌, ◌-◌, ◌^◌, min, nat_lt, Bool, false, ◌||◌, if◌then◌else◌, Some, None, unwrap_or}
 use Rattle.command_console.specs.declared.roles.Roles.{Roles}
 use Rattle.pair_generations.specs.declared.steward.PairEvent.{PairEvent}
-use Rattle.pair_generations.specs.declared.steward.PairEvent.TheVariants.{Won, Begins, Alone}
+use Rattle.pair_generations.specs.declared.steward.PairEvent.TheVariants.{Won, Copies, Begins, Alone}
 use Rattle.pair_threads.specs.declared.gate.Who.{Who}
 use Rattle.pair_threads.specs.declared.gate.Who.TheVariants.{Primary, Backup, Link, Terminal, Disk}
 
@@ -24,6 +24,7 @@ abbrev pub roles_after : PairEvent → Roles → Roles
 roles_after (Won who) r = record r { primary = host_of who r; backup = None }
 roles_after (Begins generation) r =
     if nat_lt 1 generation then record (without_spare r) { generation = generation; backup = Some r.next } else r
+roles_after Copies r = r
 roles_after Alone r = r
 
 -- whose peer has failed, or who is to end the run

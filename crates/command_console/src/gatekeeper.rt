@@ -4,7 +4,7 @@ use crate::hosts::Hosts;
 use pair_threads::{Gate, Progress, Who};
 use std::time::Clock;
 
-/// Has hosts fail and packets get lost, notes how far the nodes come, and holds a primary whose guest is to be slower.
+/// Has hosts fail and packets get lost, notes how far the nodes come and when the backup asks to go on alone, and holds a primary whose guest is to be slower.
 pub(crate) struct Gatekeeper<'a, C> {
     hosts: &'a Hosts,
     clock: &'a C,
@@ -42,7 +42,11 @@ impl<C: Clock> Gate for Gatekeeper<'_, C> {
         if who == Who::Link {
             return self.hosts.link().loses();
         }
-        self.hosts.is_told(who)
+        let is_told = self.hosts.is_told(who);
+        if is_told && who == Who::Backup {
+            self.hosts.begin_takeover(self.clock);
+        }
+        is_told
     }
 
     fn notes(&self, who: Who, progress: Progress) {

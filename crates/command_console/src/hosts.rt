@@ -5,6 +5,7 @@ use crate::link::Link;
 use crate::roles::{Roles, is_told};
 use crate::spares::{next_spare, spares_left};
 use crate::speed::Speed;
+use crate::takeover::{Reached, Replay, Takeover};
 use pair_threads::{Progress, Who};
 use std::sync::atomic::{AtomicBool, AtomicU32, AtomicU64, Ordering};
 use std::thread;
@@ -51,6 +52,7 @@ impl Mark {
 pub(crate) struct Hosts {
     link: Link,
     speed: Speed,
+    takeover: Takeover,
     first: Mark,
     second: Mark,
     generation: AtomicU32,
@@ -85,6 +87,7 @@ impl Hosts {
         Hosts {
             link: Link::new(),
             speed: Speed::new(),
+            takeover: Takeover::new(),
             first: Mark::new(),
             second: Mark::new(),
             generation: AtomicU32::new(roles.generation),
@@ -150,6 +153,30 @@ impl Hosts {
             Who::Primary => self.first.set(progress),
             _ => self.second.set(progress),
         }
+    }
+
+    /// The backup is told now that its primary has failed, if it was not told before.
+    pub(crate) fn begin_takeover<C: Clock>(&self, clock: &C) {
+        if self.takeover.has_begun() {
+            return;
+        }
+        if let Some(now) = self.reached(clock) {
+            self.takeover.begin(now);
+        }
+    }
+
+    /// What the backup that goes on alone now did from that moment on.
+    pub(crate) fn end_takeover<C: Clock>(&self, clock: &C) -> Option<Replay> {
+        self.takeover.end(self.reached(clock)?)
+    }
+
+    // How far the backup has come now.
+    fn reached<C: Clock>(&self, clock: &C) -> Option<Reached> {
+        let time = clock.monotonic().ok()?;
+        Some(Reached {
+            steps: self.second.get().steps,
+            micros: u64::try_from(time.as_micros()).ok()?,
+        })
     }
 
     /// How many spare hosts have come and are left.

@@ -5,6 +5,7 @@ mod console;
 mod gatekeeper;
 mod hosts;
 mod link;
+mod line;
 mod operator;
 mod prepared;
 mod rings;
@@ -16,3 +17,4 @@ mod speed;
 mod steward;
 
 pub use console::{Streams, run_console};
+mod takeover;

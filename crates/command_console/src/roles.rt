@@ -44,7 +44,7 @@ impl Roles {
                 backup: Some(self.next),
                 ..self.without_spare()
             },
-            PairEvent::Begins(_) | PairEvent::Alone => self,
+            PairEvent::Copies | PairEvent::Begins(_) | PairEvent::Alone => self,
         }
     }
 
@@ -58,8 +58,8 @@ impl Roles {
         }
     }
 
-    // The host of a node.
-    fn host_of(self, who: Who) -> u32
+    /// The host of a node.
+    pub(crate) fn host_of(self, who: Who) -> u32
         ensures { result ≡ host_of who self }
     {
         match who {
