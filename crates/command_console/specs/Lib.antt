@@ -1,5 +1,4 @@
-pub mod Roles
-pub mod Lines
+pub mod Peers
 pub mod Links
 pub mod Spares
 pub mod Speed

@@ -2,10 +2,10 @@
 ghost use Rattle.std.specs.Prelude.{◌≡◌};
 
 use crate::link::Link;
-use crate::roles::{Roles, is_told};
+use crate::peers::is_told;
 use crate::spares::{next_spare, spares_left};
 use crate::speed::Speed;
-use crate::takeover::{Reached, Replay, Takeover};
+use command_live::{Reached, Replay, Roles, Takeover};
 use pair_threads::{Progress, Who};
 use std::sync::atomic::{AtomicBool, AtomicU32, AtomicU64, Ordering};
 use std::thread;

@@ -5,11 +5,10 @@ mod console;
 mod gatekeeper;
 mod hosts;
 mod link;
-mod line;
 mod operator;
+mod peers;
 mod prepared;
 mod rings;
-mod roles;
 mod session;
 mod sitting;
 mod spares;
@@ -17,4 +16,3 @@ mod speed;
 mod steward;
 
 pub use console::{Streams, run_console};
-mod takeover;

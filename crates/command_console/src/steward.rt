@@ -1,10 +1,10 @@
 //! What is told of a pair while it runs.
 
 use crate::hosts::Hosts;
-use crate::line::{Line, first_line, line_of};
+use command_live::{Line, first_line, line_of};
 use pair_generations::{PairEvent, Steward};
 use rtrb::Producer;
-use std::alloc::Global;
+use std::alloc::{AllocError, Global};
 use std::time::Clock;
 
 /// Notes which hosts run the machine, and tells each change in a line.
@@ -44,10 +44,16 @@ impl<'a, C> Announcer<'a, C> {
 
     // A line is lost if memory is refused for it, or if the ring is full, which has room for all that a run can have.
     fn tell(&mut self, line: Line) {
-        if let Ok(text) = line.text(self.alloc) {
+        if let Ok(text) = text_of(self.alloc, line) {
             let _ = self.lines.push(text);
         }
     }
+}
+
+// How a line is written at a terminal that takes each byte as it is.
+fn text_of(alloc: Global, line: Line) -> Result<String, AllocError> {
+    let text = line.text(alloc)?;
+    format!(in alloc; "\r\npair: {text}\r\n")
 }
 
 impl<C: Clock> Steward for Announcer<'_, C> {
