@@ -1,8 +1,8 @@
 -- What stands was left, the guest ran on alone, and all that was outstanding then is taken.
 use Rattle.std.proofs.Common.{◌≤◌, length, ap, ◌∙◌, arith, Vec, Global, ℕ}
+use Rattle.log_journal.specs.Written.{Written}
 use Rattle.altair_laws.proofs.Limits.{top_is}
 use Rattle.guest_lockstep.specs.Machine.{booted_from}
-use Rattle.log_entry.specs.declared.entry.Entry.{Entry}
 use Rattle.pair_protocol.specs.Lawful.{top}
 use Rattle.pair_standing.specs.Finishing.{IsLeft, held}
 use Rattle.pair_standing.proofs.LeftStanding.{left_standing}
@@ -35,14 +35,14 @@ returns-clause-stands g c = λ boot sectors lawful dues is_due st.
     start.port1.typed.items given.list.items winner.list.items given.accepted.0.items winner.accepted0.items
     given.accepted.1.items winner.accepted1.items (records given.disk) (records winner.disk) given.taken.0 given.taken.1
     (state given.board) (state winner.board) (ap (λ (v : Vec ℕ Global). v.items) typed.0)
-    (ap (λ (v : Vec ℕ Global). v.items) typed.1) (ap (λ (v : Vec Entry Global). v.items) first.0)
+    (ap (λ (v : Vec ℕ Global). v.items) typed.1) (ap (λ (v : Written). v.items) first.0)
     (ap (λ (v : Vec ℕ Global). v.items) first.1) (ap (λ (v : Vec ℕ Global). v.items) first.2) (ap records first.3)
     (ap state first.4) st) in
     stands_as (booted_from N boot sectors) mid.port0.typed.items result.typed.0.items mid.port1.typed.items
     result.typed.1.items last.list.items result.list.items last.accepted0.items result.accepted.0.items last.accepted1.items
     result.accepted.1.items (records last.disk) (records result.disk) result.taken.0 result.taken.1 (state last.board)
     (state result.board) (ap (λ (v : Vec ℕ Global). v.items) ends.0) (ap (λ (v : Vec ℕ Global). v.items) ends.1)
-    (ap (λ (v : Vec Entry Global). v.items) same.0) (ap (λ (v : Vec ℕ Global). v.items) same.1)
+    (ap (λ (v : Written). v.items) same.0) (ap (λ (v : Vec ℕ Global). v.items) same.1)
     (ap (λ (v : Vec ℕ Global). v.items) same.2) (ap records same.3) (ap state same.4)
     (stands N g.met.B.Lockstep.operations
     (held mid.winner.list.items mid.winner.accepted0.items mid.winner.accepted1.items (records mid.winner.disk)

@@ -1,8 +1,8 @@
 -- What was left is finished, and then the run is settled.
 use Rattle.std.proofs.Common.{◌≤◌, length, ap, ◌∙◌, arith, Vec, Global, ℕ}
+use Rattle.log_journal.specs.Written.{Written}
 use Rattle.altair_laws.proofs.Limits.{top_is}
 use Rattle.guest_lockstep.specs.Machine.{booted_from}
-use Rattle.log_entry.specs.declared.entry.Entry.{Entry}
 use Rattle.pair_protocol.specs.Lawful.{top}
 use Rattle.pair_standing.specs.Finishing.{held}
 use Rattle.pair_standing.proofs.Settling.{stands, stands_so}
@@ -23,7 +23,7 @@ returns-clause-stands g c = λ boot sectors typed0 typed1 lawful is_due left.
     stands_so (booted_from N boot sectors) typed0 typed1 new.list.items result.list.items new.accepted0.items
     result.accepted.0.items new.accepted1.items result.accepted.1.items (records new.disk) (records result.disk)
     result.taken.0 result.taken.1 (state new.board) (state result.board)
-    (ap (λ (v : Vec Entry Global). v.items) same.0) (ap (λ (v : Vec ℕ Global). v.items) same.1)
+    (ap (λ (v : Written). v.items) same.0) (ap (λ (v : Vec ℕ Global). v.items) same.1)
     (ap (λ (v : Vec ℕ Global). v.items) same.2) (ap records same.3) (ap state same.4)
     (stands N g.met.B.Lockstep.operations
     (held old.list.items old.accepted0.items old.accepted1.items (records old.disk) (state old.board))

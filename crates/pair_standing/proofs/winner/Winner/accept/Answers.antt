@@ -1,10 +1,10 @@
 -- A byte is given, and its acceptance is taken.
 use Rattle.std.proofs.Common.{◌∷◌, [], ◌++◌, ap, subst, ◌∙◌, Vec, Global, ℕ}
+use Rattle.log_journal.specs.Written.{Written}
 use Rattle.guest_lockstep.specs.Recorded.{Accepts}
 use Rattle.guest_lockstep.specs.declared.input.Input.TheVariants as input
 use Rattle.guest_lockstep.specs.declared.reads.Reads.TheVariants.{Logged}
 use Rattle.log_entry.specs.Entries.{entry_of}
-use Rattle.log_entry.specs.declared.entry.Entry.{Entry}
 use Rattle.pair_standing.proofs.Going.{both_ok, byte_goes}
 use Rattle.pair_standing.proofs.winner.Winner.accept.Goals as goal
 
@@ -24,7 +24,7 @@ returns-clause-goes_on g c =
     (subst (λ b. Accepts N (state b) (input.Sent port) (state new.board)) shown.0 taken)
     new.list.items new.accepted0.items new.accepted1.items (records new.disk)
     (list
-    ∙ ap (λ (v : Vec Entry Global). v.items ++ entry_of Logged (N.count (state c.show.new.self.board)) (input.Sent port) ∷ [])
+    ∙ ap (λ (v : Written). v.items ++ entry_of Logged (N.count (state c.show.new.self.board)) (input.Sent port) ∷ [])
     shown.1
     ∙ ap (λ b. old.list.items ++ entry_of Logged (N.count (state b)) (input.Sent port) ∷ []) shown.0)
     (ap (λ (v : Vec ℕ Global). v.items) took.0 ∙ c.in_ok-show.ensures.screen0)
