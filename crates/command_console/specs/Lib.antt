@@ -3,6 +3,8 @@ pub mod Lines
 pub mod Links
 pub mod Spares
 pub mod Speed
+pub mod Mirrors
+pub mod Frames
 pub mod Rings
 pub mod Sitting
 pub mod Session

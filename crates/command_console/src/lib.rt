@@ -2,10 +2,12 @@
 #![tactic(auto)]
 
 mod console;
+mod frame;
 mod gatekeeper;
 mod hosts;
-mod link;
 mod line;
+mod link;
+mod mirror;
 mod operator;
 mod prepared;
 mod rings;
@@ -15,6 +17,6 @@ mod sitting;
 mod spares;
 mod speed;
 mod steward;
+mod takeover;
 
 pub use console::{Streams, run_console};
-mod takeover;
