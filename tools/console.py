@@ -10,7 +10,8 @@ A terminal gives each key as it is typed, Ctrl-C among them, and is set back as 
 more keys come, and a program that goes on for half a minute is ended. If the input is a file or a pipe, its end is that of the keys.
 
 A file is read whole before the program starts; one that is not what it should be is refused, with status 2. Disks are saved if the
-program ends well, each whole; a file that cannot be written stays as it was, and then the status is 5.
+program ends well, each whole; a file that cannot be written stays as it was, and then the status is 5. At the command `save` of its command
+line a program hands the disk of that moment over, and this command writes it and says so.
 """
 
 import contextlib
@@ -118,7 +119,8 @@ class Asked:
         """The words that the program is given."""
         words = ["console", "--before", str(len(self.opening())), *self.own]
         words += ["--images", drives_in(self.images)] * bool(self.images)
-        return words + ["--saved", drives_in(self.saves), "--mark", mark] * bool(self.saves)
+        words += ["--saved", drives_in(self.saves)] * bool(self.saves)
+        return [*words, "--mark", mark]
 
     def save(self, images):
         """Writes each disk that is to be saved."""
@@ -164,7 +166,9 @@ class Run:
     """A run of the program, and the signal that has ended it."""
 
     def __init__(self):
-        self.program = self.keys = self.screen = self.ended_by = None
+        self.program = self.keys = self.ended_by = None
+        # The program's output, and what it says beside it if that goes elsewhere.
+        self.screens = []
 
     def heed(self):
         """From now on no signal ends this command before it has set the terminal back."""
@@ -187,11 +191,9 @@ class Run:
 
     @contextlib.contextmanager
     def program_at(self, path, asked, mark):
-        """The program, as long as it runs. What it writes is passed on by this command if disks come after it, and if it does not go to
-        a terminal, so that the program is ended if it cannot be written; so is what it says beside that, if both go to one place."""
-        is_passed_on = asked.saves or not os.isatty(1)
-        how = {"stdout": subprocess.PIPE if is_passed_on else None}
-        how["stderr"] = subprocess.STDOUT if is_passed_on and is_one_place() else None
+        """The program, as long as it runs. What it writes is passed on by this command, which takes disks out of it, and ends the program
+        if it cannot be written. What it says beside that comes with it, if both go to one place."""
+        how = {"stdout": subprocess.PIPE, "stderr": subprocess.STDOUT if is_one_place() else subprocess.PIPE}
         how["preexec_fn"] = lambda: [signal.signal(it, signal.SIG_IGN) for it in OF_TERMINALS]
         self.program = subprocess.Popen([path, *asked.words(mark)], stdin=subprocess.PIPE, **how)
         try:
@@ -205,13 +207,13 @@ class Run:
     def pass_on(self, mark):
         """Passes on keys, and what the program writes, until it ends."""
         begin(threading.Thread(target=self.keys.pass_on))
-        if self.program.stdout:
-            self.screen = Screen(self.program, mark)
-            showing = begin(threading.Thread(target=self.screen.pass_on))
-            self.program.wait()
-            while showing.is_alive() and not self.ended_by:
-                showing.join(0.1)
+        pipes = {1: self.program.stdout, 2: self.program.stderr}
+        self.screens = [Screen(self.program, pipe, to, mark, saved_as) for to, pipe in pipes.items() if pipe]
+        showing = [begin(threading.Thread(target=screen.pass_on)) for screen in self.screens]
         self.program.wait()
+        for it in showing:
+            while it.is_alive() and not self.ended_by:
+                it.join(0.1)
 
     def status(self):
         """The status of the program, or that of a command that a signal has ended."""
@@ -224,6 +226,17 @@ def begin(thread):
     thread.daemon = True
     thread.start()
     return thread
+
+
+def saved_as(handed):
+    """Writes the disk that a program hands over at the command `save`, and says what became of it."""
+    drive, image, path = handed[:2], handed[2 : 2 + 2 * disks.IMAGE_BYTES], handed[2 + 2 * disks.IMAGE_BYTES :]
+    path = bytes.fromhex(path.decode()).decode().strip()
+    try:
+        disks.write(path, bytes.fromhex(image.decode()))
+    except OSError as error:
+        return f"{path} is not written: {error.strerror}".encode()
+    return f"drive {int(drive, 16)} is saved to {path}: the disk of this moment, with every write that the machine was told is done".encode()
 
 
 def is_one_place():
@@ -262,12 +275,13 @@ def main(path, command, *words):
     if status and os.isatty(0) and os.isatty(2):
         # What was said last may not end where a line begins.
         os.write(2, b"\r\n")
-    if run.screen and run.screen.error:
-        complain(f"the output is not written: {run.screen.error.strerror}", 5)
+    for screen in run.screens:
+        if screen.error:
+            complain(f"the output is not written: {screen.error.strerror}", 5)
     if status and asked.saves:
         complain(f"{', '.join(asked.saves.values())}: not written, since the console did not end well", status)
     if asked.saves:
-        asked.save(bytes(run.screen.kept or b""))
+        asked.save(bytes(run.screens[0].kept or b""))
     return status
 
 

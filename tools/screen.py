@@ -1,4 +1,4 @@
-"""What a program writes, passed on as it comes up to a mark, and kept after it."""
+"""What a program writes, passed on as it comes up to a mark, and kept after it; what it hands over between marks is taken out."""
 
 import errno
 import os
@@ -17,14 +17,17 @@ def begun(text, mark):
 
 
 class Screen:
-    """A pipe that a program writes to, and standard output. If that can take no more, the program is ended; but if it is a terminal
-    that has hung up, what comes is dropped."""
+    """A pipe that a program writes to, and where that goes: standard output, or another file. If it can take no more, the program is ended;
+    but if it is a terminal that has hung up, what comes is dropped. Between two marks in a row and a third one a program hands over what is
+    not to be seen: `heard` says what is written in its place."""
 
-    def __init__(self, program, mark):
-        self.program, self.pipe, self.mark = program, program.stdout.fileno(), mark
+    def __init__(self, program, pipe, to, mark, heard):
+        self.program, self.pipe, self.to, self.mark, self.heard = program, pipe.fileno(), to, mark, heard
         # The end of what came, with which the mark may begin, and how much of it is passed on.
         self.tail, self.passed = b"", 0
-        self.kept, self.has_hung_up, self.error = None, False, None
+        # What came after the mark, of which it is not known yet what it is; and after that what is kept, or handed over.
+        self.doubt = self.kept = self.handed = None
+        self.has_hung_up, self.error = False, None
 
     def pass_on(self):
         """Passes on what comes, to its end."""
@@ -35,6 +38,8 @@ class Screen:
         except OSError as error:
             self.error = error
             self.program.kill()
+        if self.kept is None:
+            self.kept = self.doubt
 
     def next(self):
         """What comes next; what is held back is passed on if nothing comes for a while."""
@@ -43,18 +48,52 @@ class Screen:
         return os.read(self.pipe, MOST_BYTES)
 
     def take(self, some):
-        """Passes on what cannot be of the mark, and keeps what comes after it."""
-        if self.kept is not None:
-            self.kept += some
-            return
+        """Does what is to be done with what has come."""
+        while some:
+            if self.kept is not None:
+                self.kept += some
+                return
+            if self.handed is not None:
+                some = self.take_handed(some)
+            elif self.doubt is not None:
+                some = self.take_doubt(some)
+            else:
+                some = self.take_seen(some)
+
+    def take_seen(self, some):
+        """Passes on what cannot be of the mark; gives what comes after it."""
         text = self.tail + some
         at = text.find(self.mark)
         end = at if at >= 0 else len(text) - begun(text, self.mark)
         self.write(text[self.passed : end])
         self.tail, self.passed = text[end:], max(self.passed - end, 0)
-        if at >= 0:
-            self.kept = bytearray(text[at + len(self.mark) :])
-            self.tail, self.passed = b"", 0
+        if at < 0:
+            return b""
+        self.tail, self.passed, self.doubt = b"", 0, bytearray()
+        return text[at + len(self.mark) :]
+
+    def take_doubt(self, some):
+        """After the mark comes another one, or else what is kept."""
+        self.doubt += some
+        if len(self.doubt) < len(self.mark) and self.mark.startswith(self.doubt):
+            return b""
+        text, self.doubt = bytes(self.doubt), None
+        if not text.startswith(self.mark):
+            self.kept = bytearray(text)
+            return b""
+        self.handed = bytearray()
+        return text[len(self.mark) :]
+
+    def take_handed(self, some):
+        """Takes what is handed over; gives what comes after it."""
+        before = max(len(self.handed) - len(self.mark), 0)
+        self.handed += some
+        at = self.handed.find(self.mark, before)
+        if at < 0:
+            return b""
+        text, self.handed = bytes(self.handed), None
+        self.write(self.heard(text[:at]))
+        return text[at + len(self.mark) :]
 
     def pass_tail(self):
         """Passes on what is held back; what comes next may still make it the mark."""
@@ -65,8 +104,8 @@ class Screen:
         try:
             while some and not self.has_hung_up:
                 # Whoever shares the output may have set it not to wait.
-                select.select([], [1], [])
-                some = some[os.write(1, some[:MOST_AT_ONCE]) :]
+                select.select([], [self.to], [])
+                some = some[os.write(self.to, some[:MOST_AT_ONCE]) :]
         except OSError as error:
             if error.errno != errno.EIO:
                 raise

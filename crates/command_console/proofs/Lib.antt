@@ -1,3 +1,5 @@
+pub mod Mirrors
+pub mod Booting
 pub mod Ends
 pub mod Sessions
 pub mod Served

@@ -2,6 +2,8 @@ pub mod Peers
 pub mod Links
 pub mod Spares
 pub mod Speed
+pub mod Mirrors
+pub mod Frames
 pub mod Rings
 pub mod Sitting
 pub mod Session

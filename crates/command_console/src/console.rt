@@ -7,7 +7,7 @@ ghost use Rattle.console_terminal.specs.Greeting.{greeting_of};
 ghost use Rattle.event_callbacks.specs.Keeping.{Keeps};
 ghost use Rattle.event_callbacks.specs.declared.devices.TheConstants.{SECTOR, SENT, WRITTEN};
 
-use crate::prepared::{Prepared, prepare};
+use crate::prepared::{Prepared, prepare, with_disk};
 use crate::session::session;
 use crate::sitting::Machine;
 use command_ending::Failure;
@@ -149,17 +149,19 @@ fn run_input<
     }
     let Prepared {
         workers,
+        disk,
+        shelf,
         later,
         lines,
         ends,
     } = prepared;
     let machine = Machine {
-        workers: drafted(workers),
+        workers: with_disk(drafted(workers), disk),
         lines,
         later,
         limits: LIMITS,
     };
-    let (streams, left) = session(rt, alloc, order, machine, ends, streams);
+    let (streams, left) = session(rt, alloc, order, machine, ends, &shelf, streams);
     let standing = match left {
         Ok(standing) => standing,
         Err(failure) => return (streams, Err(failure)),

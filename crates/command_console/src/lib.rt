@@ -2,9 +2,11 @@
 #![tactic(auto)]
 
 mod console;
+mod frame;
 mod gatekeeper;
 mod hosts;
 mod link;
+mod mirror;
 mod operator;
 mod peers;
 mod prepared;

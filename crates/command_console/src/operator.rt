@@ -2,20 +2,37 @@
 ghost use Rattle.std.specs.Prelude.{◌≡◌, None};
 ghost use Rattle.command_console.specs.Links.{percent_of};
 
+use crate::frame::frame;
 use crate::hosts::{Hosts, Stopped};
-use console_terminal::{Command, HELP, Interpreter};
+use crate::mirror::Shelf;
+use console_terminal::{Command, HELP, Interpreter, path_in};
+use i8080_words::Fault;
 use std::alloc::{AllocError, Global};
 
-/// Has hosts fail and come and packets get lost, says how fast the guest runs and how the pair is, and ends the console.
+/// Has hosts fail and come and packets get lost, says how fast the guest runs and how the pair is, hands out images of its disk, and ends
+/// the console.
 #[derive(Drop)]
 pub(crate) struct Operator<'a> {
     alloc: Global,
     hosts: &'a Hosts,
+    // What the command looks for that writes files; empty if there is none.
+    mark: &'a str,
+    shelf: &'a Shelf,
 }
 
 impl<'a> Operator<'a> {
-    pub(crate) fn new(alloc: Global, hosts: &'a Hosts) -> Operator<'a> {
-        Operator { alloc, hosts }
+    pub(crate) fn new(
+        alloc: Global,
+        hosts: &'a Hosts,
+        mark: &'a str,
+        shelf: &'a Shelf,
+    ) -> Operator<'a> {
+        Operator {
+            alloc,
+            hosts,
+            mark,
+            shelf,
+        }
     }
 
     // How the pair is, and how fast the guest may run if that is bounded.
@@ -79,6 +96,20 @@ impl<'a> Operator<'a> {
         format!(in self.alloc; "the link loses {percent} of 100 packets").ok()
     }
 
+    // The disk of a drive, for the command that writes files.
+    fn save(&self, drive: u8, path: &[u8]) -> Result<String, AllocError> {
+        if self.mark.is_empty() {
+            return format!(in self.alloc;
+                "`save` needs the command `./pair console`, which writes files: this program opens none"
+            );
+        }
+        match self.shelf.image(self.alloc, drive) {
+            Ok(image) => frame(self.alloc, self.mark, drive, &image, path),
+            Err(Fault::Unknown) => format!(in self.alloc; "the machine has no drive {drive}"),
+            Err(_) => format!(in self.alloc; "the disk cannot be read: there is no memory for it"),
+        }
+    }
+
     // Has a host fail.
     fn stop(&self, host: u32) -> Result<String, AllocError> {
         match self.hosts.stop(host) {
@@ -99,13 +130,14 @@ impl Interpreter for Operator<'_> {
     // It keeps no list of what it was given.
     ghost given = { λ _. None };
 
-    fn carry_out(&mut self, command: Command) -> Option<String> {
+    fn carry_out(&mut self, command: Command, line: &[u8]) -> Option<String> {
         match command {
             Command::Stop(host) => self.stop(u32::from(host)).ok(),
             Command::Spare => self.add_spare().ok(),
             Command::Speed(bound) => self.set_speed(bound).ok(),
             Command::Status => self.status().ok(),
             Command::Terminal(_) => None,
+            Command::Save(drive) => self.save(drive, path_in(line)).ok(),
             Command::Help => String::from_str(self.alloc, HELP).ok(),
             Command::Quit => {
                 self.hosts.end();

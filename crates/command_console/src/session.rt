@@ -11,6 +11,7 @@ ghost use Rattle.rtrb.specs.Ring.{received, sent};
 
 use crate::console::Streams;
 use crate::hosts::Hosts;
+use crate::mirror::Shelf;
 use crate::operator::Operator;
 use crate::rings::{Ends, compare};
 use crate::sitting::{Machine, Sat, sit};
@@ -43,6 +44,7 @@ pub(crate) fn session<
     order: &ConsoleOrder,
     machine: Machine<B, K, D>,
     ends: Ends,
+    shelf: &Shelf,
     streams: Streams<R, W, N>,
 ) -> (Streams<R, W, N>, Result<Standing<B, D>, Failure>)
     requires runs { MayRun B.state B.copied B.machine D.records machine }
@@ -72,7 +74,7 @@ pub(crate) fn session<
         first,
         second,
         notes: notes_to,
-        interpreter: Operator::new(alloc, &hosts),
+        interpreter: Operator::new(alloc, &hosts, order.mark.as_str(), shelf),
     };
     let display = Display::new(
         alloc,

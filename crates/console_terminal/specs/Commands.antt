@@ -1,5 +1,5 @@
 -- The commands of a console, and how a line spells them.
-use Rattle.std.specs.Prelude.{◌≡◌, ◌++◌, ℕ, ◌+◌, ◌*◌, ◌-◌, ◌==◌, ◌&&◌, ◌||◌, nat_le, nat_lt, Bool, if◌then◌else◌, List, [], ◌∷◌, take, drop, length, map, Option, None, Some, bytes_eq, codes}
+use Rattle.std.specs.Prelude.{◌≡◌, ◌++◌, ℕ, ◌+◌, ◌*◌, ◌-◌, ◌==◌, ◌&&◌, ◌||◌, nat_le, nat_lt, Bool, not, if◌then◌else◌, List, [], ◌∷◌, take, drop, length, map, Option, None, Some, bytes_eq, codes}
 use Rattle.std.specs.List.{position_or_len, prefix_len}
 use Rattle.std.specs.Option.{option_and_then, option_map}
 use Rattle.std.specs.Char.{to_ascii_lowercase}
@@ -43,7 +43,7 @@ abbrev pub keywords : List (List ℕ × Keyword)
 keywords =
     (codes "stop", Keyword.Stop) ∷ (codes "spare", Keyword.Spare) ∷ (codes "cut", Keyword.Cut) ∷ (codes "mend", Keyword.Mend)
     ∷ (codes "drop", Keyword.Drop) ∷ (codes "speed", Keyword.Speed) ∷ (codes "status", Keyword.Status)
-    ∷ (codes "terminal", Keyword.Terminal) ∷ (codes "help", Keyword.Help) ∷ (codes "quit", Keyword.Quit) ∷ []
+    ∷ (codes "terminal", Keyword.Terminal) ∷ (codes "save", Keyword.Save) ∷ (codes "help", Keyword.Help) ∷ (codes "quit", Keyword.Quit) ∷ []
 
 -- the two are the same but for the case of letters
 abbrev pub is_same_word : List ℕ → List ℕ → Bool
@@ -98,6 +98,11 @@ abbrev pub port_of : List ℕ → Option Port
 port_of (digit ∷ []) = if digit == 48 then Some Port.Zero else (if digit == 49 then Some Port.One else None)
 port_of _ = None
 
+-- the number of a drive: 0 to 3
+abbrev pub drive_of : List ℕ → Option ℕ
+drive_of (digit ∷ []) = if nat_le 48 digit && nat_le digit 51 then Some (digit - 48) else None
+drive_of _ = None
+
 -- the command of a keyword with nothing after it
 abbrev pub plain_command : Keyword → Option Command
 plain_command Keyword.Spare = Some Command.Spare
@@ -114,13 +119,23 @@ command_by Keyword.Stop value = option_map (λ (host : ℕ). Command.Stop host) 
 command_by Keyword.Drop value = option_map (λ (percent : ℕ). Command.Drop percent) (number_of value)
 command_by Keyword.Speed value = option_map (λ (steps : ℕ). Command.Speed steps) (speed_of value)
 command_by Keyword.Terminal value = option_map (λ port. Command.Terminal port) (port_of value)
+command_by Keyword.Save value = option_map (λ (drive : ℕ). Command.Save drive) (drive_of value)
 command_by keyword value = if is_empty value then plain_command keyword else None
 
--- a command and no more words, or what is wrong
+-- a line of this keyword may have this word, or none, after the one that is its value: a file is named there, and nothing else
+abbrev pub is_fit_end : Keyword → List ℕ → Bool
+is_fit_end Keyword.Save more = not (is_empty more)
+is_fit_end _ more = is_empty more
+
+-- the file that a line names: all that comes after its second word
+abbrev pub path_in : List ℕ → List ℕ
+path_in line = without_spaces (after_word (after_word line))
+
+-- a command, or what is wrong
 abbrev judged : Keyword → Option Command → List ℕ → Order
 judged keyword None more = Order.Mistake (Mistake.Unfit keyword)
 judged keyword (Some command) more =
-    if is_empty more then Order.Command command else Order.Mistake (Mistake.Unfit keyword)
+    if is_fit_end keyword more then Order.Command command else Order.Mistake (Mistake.Unfit keyword)
 
 abbrev ordered : Option Keyword → List ℕ → Order
 ordered None rest = Order.Mistake Mistake.Unknown
@@ -143,4 +158,5 @@ mistake_text (Mistake.Unfit Keyword.Stop) = codes "`stop` is followed by the num
 mistake_text (Mistake.Unfit Keyword.Drop) = codes "`drop` is followed by a number from 0 to 99"
 mistake_text (Mistake.Unfit Keyword.Speed) = codes "`speed` is followed by 0, or by a number from 10000 to 999999999"
 mistake_text (Mistake.Unfit Keyword.Terminal) = codes "`terminal` is followed by 0 or 1"
+mistake_text (Mistake.Unfit Keyword.Save) = codes "`save` is followed by a drive, 0 to 3, and the name of a file"
 mistake_text (Mistake.Unfit _) = codes "nothing comes after that word"

@@ -1,6 +1,6 @@
 //! The commands of a console, and how a line spells them.
 ghost use Rattle.std.specs.Prelude.{◌≡◌, ◌≤◌, length, map};
-ghost use Rattle.console_terminal.specs.Commands.{after_word, bytes_before_space, command_by, digit_of, first_word, is_same_word, keyword_among, keyword_of, long_number_of, longer, mistake_text, number_of, order_of, plain_command, port_of, spaces_before, speed_of};
+ghost use Rattle.console_terminal.specs.Commands.{after_word, bytes_before_space, command_by, digit_of, drive_of, first_word, is_fit_end, is_same_word, keyword_among, keyword_of, long_number_of, longer, mistake_text, number_of, order_of, path_in, plain_command, port_of, spaces_before, speed_of};
 
 use crate::port::Port;
 
@@ -23,6 +23,8 @@ pub enum Command {
     Status,
     /// One turns to the terminal of this port.
     Terminal(Port),
+    /// The disk of this drive is saved to the file that the line names.
+    Save(u8),
     /// Which commands there are.
     Help,
     /// The console ends.
@@ -40,6 +42,7 @@ pub enum Keyword {
     Speed,
     Status,
     Terminal,
+    Save,
     Help,
     Quit,
 }
@@ -75,12 +78,13 @@ drop N       the link loses N of 100 packets\r\n\
 speed N      at most N steps a second (2 MHz: about 300000); 0 is no limit\r\n\
 status       how the pair is\r\n\
 terminal P   turns to the terminal of port 0 or 1\r\n\
+save D FILE  the disk of drive D, 0 to 3, as it is now, is written to a file\r\n\
 help         these lines\r\n\
 quit         ends the console\r\n\
 The escape key once more types that key itself; ESC or Ctrl-C leaves the line.";
 
 // Each keyword with its word.
-static KEYWORDS: [(&[u8], Keyword); 10] = [
+static KEYWORDS: [(&[u8], Keyword); 11] = [
     (b"stop", Keyword::Stop),
     (b"spare", Keyword::Spare),
     (b"cut", Keyword::Cut),
@@ -89,6 +93,7 @@ static KEYWORDS: [(&[u8], Keyword); 10] = [
     (b"speed", Keyword::Speed),
     (b"status", Keyword::Status),
     (b"terminal", Keyword::Terminal),
+    (b"save", Keyword::Save),
     (b"help", Keyword::Help),
     (b"quit", Keyword::Quit),
 ];
@@ -107,9 +112,29 @@ pub fn order_of(line: &[u8]) -> Order
     let (value, after) = next_word(after);
     let (more, _) = next_word(after);
     match command_by(keyword, value) {
-        Some(command) if more.is_empty() => Order::Command(command),
+        Some(command) if is_fit_end(keyword, more) => Order::Command(command),
         _ => Order::Mistake(Mistake::Unfit(keyword)),
     }
+}
+
+// Whether a line of this keyword may have this word, or none, after the one that is its value.
+fn is_fit_end(keyword: Keyword, more: &[u8]) -> bool
+    ensures { result ≡ is_fit_end keyword more.now }
+{
+    match keyword {
+        Keyword::Save => !more.is_empty(),
+        _ => more.is_empty(),
+    }
+}
+
+/// The file that a line names, if it is that of a command with a file: all that comes after its second word.
+pub fn path_in(line: &[u8]) -> &[u8]
+    ensures { result.now ≡ path_in line.now }
+{
+    let (_, after) = next_word(line);
+    let (_, rest) = next_word(after);
+    let (_, path) = rest.split_at(spaces_before(rest));
+    path
 }
 
 // The next word of a line, which is empty if there is none, and what is after it.
@@ -174,6 +199,7 @@ fn command_by(keyword: Keyword, value: &[u8]) -> Option<Command>
         Keyword::Drop => Some(Command::Drop(number_of(value)?)),
         Keyword::Speed => Some(Command::Speed(speed_of(value)?)),
         Keyword::Terminal => Some(Command::Terminal(port_of(value)?)),
+        Keyword::Save => Some(Command::Save(drive_of(value)?)),
         _ if value.is_empty() => plain_command(keyword),
         _ => None,
     }
@@ -201,6 +227,16 @@ fn port_of(word: &[u8]) -> Option<Port>
     match word {
         [b'0'] => Some(Port::Zero),
         [b'1'] => Some(Port::One),
+        _ => None,
+    }
+}
+
+// The drive whose number a word is.
+fn drive_of(word: &[u8]) -> Option<u8>
+    ensures { result ≡ drive_of word.now }
+{
+    match word {
+        [digit @ b'0'..=b'3'] => digit_of(*digit),
         _ => None,
     }
 }
@@ -274,6 +310,9 @@ impl Mistake {
                 "`speed` is followed by 0, or by a number from 10000 to 999999999"
             }
             Mistake::Unfit(Keyword::Terminal) => "`terminal` is followed by 0 or 1",
+            Mistake::Unfit(Keyword::Save) => {
+                "`save` is followed by a drive, 0 to 3, and the name of a file"
+            }
             Mistake::Unfit(_) => "nothing comes after that word",
         }
     }

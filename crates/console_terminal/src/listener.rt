@@ -27,8 +27,8 @@ pub trait Interpreter {
     // The commands that it was given, in order, if they are known.
     ghost given: { Self → Option (List Command) };
 
-    /// Carries a command out, and says what it answers, if anything; lines of an answer have CR LF between them.
-    fn carry_out(&mut self, command: Command) -> Option<String>
+    /// Carries the command of a line out, and says what it answers, if anything; lines of an answer have CR LF between them.
+    fn carry_out(&mut self, command: Command, line: &[u8]) -> Option<String>
         ensures { Grows (given self.old) (given self.new) (command ∷ []) };
 }
 
@@ -148,7 +148,12 @@ impl<S: KeySource, I: Interpreter> Listener<S, I> {
         let was_open = self.desk.is_open();
         let (act, order) = self.desk.take(byte);
         let ending = send(&mut self.first, &mut self.second, port, act, order);
-        obey(&mut self.interpreter, &mut self.notes, order);
+        obey(
+            &mut self.interpreter,
+            &mut self.notes,
+            order,
+            self.desk.line(),
+        );
         tell(&mut self.notes, act, was_open, self.desk.port);
         ending
     }
@@ -225,8 +230,8 @@ fn press(first: &mut Producer<Stroke>, second: &mut Producer<Stroke>, port: Port
     }
 }
 
-// Gives a command to the interpreter, and says what it answers.
-fn obey<I: Interpreter>(interpreter: &mut I, notes: &mut Producer<Note>, order: Order)
+// Gives the command of a line to the interpreter, and says what it answers.
+fn obey<I: Interpreter>(interpreter: &mut I, notes: &mut Producer<Note>, order: Order, line: &[u8])
     requires { 0 < known_free notes.old }
     ensures given { Grows (I.given interpreter.old) (I.given interpreter.new) (command_in order) }
     ensures notes { Answers order (sent notes.old) (sent notes.new) }
@@ -236,7 +241,7 @@ fn obey<I: Interpreter>(interpreter: &mut I, notes: &mut Producer<Note>, order: 
     match order {
         Order::Nothing => {}
         Order::Mistake(mistake) => notes.push_reserved(Note::Mistaken(mistake)),
-        Order::Command(command) => say(notes, interpreter.carry_out(command)),
+        Order::Command(command) => say(notes, interpreter.carry_out(command, line)),
     }
 }
 

@@ -50,7 +50,7 @@ pub(super) struct Recorder<R> {
 impl<R: Abort> Interpreter for Recorder<R> {
     ghost given = { λ r. Some r.commands.items };
 
-    fn carry_out(&mut self, command: Command) -> Option<String> {
+    fn carry_out(&mut self, command: Command, _line: &[u8]) -> Option<String> {
         self.commands.push(command).expect(&self.rt, "no memory");
         match command {
             Command::Status => String::from_str(self.alloc, "fine").ok(),

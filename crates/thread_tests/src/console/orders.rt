@@ -2,7 +2,7 @@
 
 use console_terminal::{Command, Keyword, Mistake, Order, Port, order_of};
 
-static LINES: [(&[u8], Order); 38] = [
+static LINES: [(&[u8], Order); 43] = [
     (b"", Order::Nothing),
     (b"   ", Order::Nothing),
     (b"stop 0", Order::Command(Command::Stop(0))),
@@ -61,6 +61,14 @@ static LINES: [(&[u8], Order); 38] = [
         b"terminal 0 1",
         Order::Mistake(Mistake::Unfit(Keyword::Terminal)),
     ),
+    (b"save 0 a.dsk", Order::Command(Command::Save(0))),
+    (b"save  3   my disk.dsk", Order::Command(Command::Save(3))),
+    (b"save 0", Order::Mistake(Mistake::Unfit(Keyword::Save))),
+    (
+        b"save 4 a.dsk",
+        Order::Mistake(Mistake::Unfit(Keyword::Save)),
+    ),
+    (b"save a.dsk", Order::Mistake(Mistake::Unfit(Keyword::Save))),
     (b"help", Order::Command(Command::Help)),
     (b"help me", Order::Mistake(Mistake::Unfit(Keyword::Help))),
     (b"qUiT", Order::Command(Command::Quit)),
