@@ -1,5 +1,5 @@
 -- How a generation of a pair ends, and how the next one begins.
-use Rattle.std.specs.Prelude.{◌≡◌, ◌≤◌, ℕ, Bool, true, false, map, take, vec_len, List, [], ◌∷◌, Option, None}
+use Rattle.std.specs.Prelude.{◌≡◌, ◌≤◌, ℕ, Bool, true, false, length, map, take, vec_len, List, [], ◌∷◌, Option, None}
 use Rattle.guest_lockstep.specs.Machine.{Machine, booted_from}
 use Rattle.pair_generations.specs.declared.generation.Next.{Next}
 use Rattle.pair_lines.specs.Lines.{HasShown, IsSameStart}

@@ -1,5 +1,5 @@
 //! A guest runs on alone, without a backup, until one can be started.
-ghost use Rattle.std.specs.Prelude.{◌≡◌, ◌+◌, ◌∷◌, ℕ, List, [], IfErr, IfOk};
+ghost use Rattle.std.specs.Prelude.{◌≡◌, ◌+◌, ◌∷◌, ℕ, List, [], length, IfErr, IfOk};
 ghost use Rattle.disk_dcdd.specs.declared.address.SectorAddress.{SectorAddress};
 ghost use Rattle.guest_lockstep.specs.Machine.{booted_from};
 ghost use Rattle.pair_protocol.specs.Faithful.{IsPrefix};
@@ -53,7 +53,7 @@ fn begin<B: Lockstep + Drop, D: SectorStore>(
     keyboards: (Keyboard, Keyboard),
     screen: Screen,
 ) -> Alone<B, D>
-    ensures winner { (result.winner.list ≡ standing.list) × (result.winner.accepted0 ≡ standing.accepted.0)
+    ensures winner { (result.winner.list.items ≡ standing.list.items) × (result.winner.accepted0 ≡ standing.accepted.0)
         × (result.winner.accepted1 ≡ standing.accepted.1) × (result.winner.disk ≡ standing.disk)
         × (result.winner.board ≡ standing.board) }
     ensures typed { (result.port0.typed ≡ standing.typed.0) × (result.port1.typed ≡ standing.typed.1)
@@ -62,7 +62,7 @@ fn begin<B: Lockstep + Drop, D: SectorStore>(
 {
     let Standing {
         board,
-        list,
+        mut list,
         accepted,
         disk,
         typed,
@@ -71,6 +71,7 @@ fn begin<B: Lockstep + Drop, D: SectorStore>(
     let (accepted0, accepted1) = accepted;
     let (typed0, typed1) = typed;
     let (keyboard0, keyboard1) = keyboards;
+    list.forget_all();
     let key_count = board.count() + KEY_STEPS;
     let winner = Winner {
         board,
@@ -101,6 +102,7 @@ fn end<B: Lockstep + Drop, D: SectorStore>(alone: Alone<B, D>) -> AloneEnd<B, D>
     ensures winner { (result.standing.list ≡ alone.winner.list) × (result.standing.accepted.0 ≡ alone.winner.accepted0)
         × (result.standing.accepted.1 ≡ alone.winner.accepted1) × (result.standing.disk ≡ alone.winner.disk)
         × (result.standing.board ≡ alone.winner.board) }
+    ensures forgets { result.standing.list.forgotten ≡ length result.standing.list.items }
     ensures typed { (result.standing.typed.0 ≡ alone.port0.typed) × (result.standing.typed.1 ≡ alone.port1.typed)
         × (result.keyboards.0 ≡ alone.port0.keyboard) × (result.keyboards.1 ≡ alone.port1.keyboard)
         × (result.screen ≡ alone.screen) }
@@ -145,6 +147,7 @@ pub fn run_alone<B: Lockstep + Drop, D: SectorStore, C: Clock, U: Until>(
 ) -> R<AloneEnd<B, D>>
     ensures refused { IfErr result IsEnding }
     ensures longer { IfOk result (λ r. StartsWith r.standing.list.items standing.list.items) }
+    ensures forgets { IfOk result (λ r. r.standing.list.forgotten ≡ length r.standing.list.items) }
     ensures screens { IfOk result (λ r. IsPrefix standing.accepted.0.items r.standing.accepted.0.items
         × IsPrefix standing.accepted.1.items r.standing.accepted.1.items) }
     ensures typed { IfOk result (λ r. Types keyboards.0 standing.typed.0.items r.keyboards.0 r.standing.typed.0.items

@@ -169,6 +169,7 @@ pub(crate) fn stand<B: Lockstep + Drop, D: SectorStore>(
     ensures same { (result.list ≡ winner.list) × (result.accepted.0 ≡ winner.accepted0)
         × (result.accepted.1 ≡ winner.accepted1) × (result.disk ≡ winner.disk) × (result.board ≡ winner.board)
         × (result.typed ≡ typed) }
+    ensures forgets { result.list.forgotten ≡ length result.list.items }
     ensures taken { (result.taken.0 ≡ B.machine.keys (B.state result.board) 0)
         × (result.taken.1 ≡ B.machine.keys (B.state result.board) 1) }
 {
@@ -203,6 +204,7 @@ pub fn finish_alone<B: Lockstep + Drop, D: SectorStore>(
         (list_by end.winner end.primary.items end.backup.items end.waiting)) }
     ensures screens { IfOk result (λ r. EachPrefix (map (λ v. v.items) end.accepted)
         (r.accepted.0.items ∷ r.accepted.1.items ∷ [])) }
+    ensures forgets { IfOk result (λ r. r.list.forgotten ≡ length r.list.items) }
     ensures typed { IfOk result (λ r. (r.typed.0 ≡ end.typed0) × (r.typed.1 ≡ end.typed1)) }
     ensures stands { (boot : B.State) (sectors : SectorAddress → List ℕ) (typed0 typed1 : List ℕ)
         → Lawful (booted_from B.machine boot sectors) → OutstandingIsDue (booted_from B.machine boot sectors)

@@ -1,5 +1,5 @@
 //! How a winner finishes alone over the lines of its pair.
-ghost use Rattle.std.specs.Prelude.{◌≡◌, ◌∷◌, ℕ, List, [], IfErr, IfOk, map};
+ghost use Rattle.std.specs.Prelude.{◌≡◌, ◌∷◌, ℕ, List, [], length, IfErr, IfOk, map};
 ghost use Rattle.disk_dcdd.specs.declared.address.SectorAddress.{SectorAddress};
 ghost use Rattle.guest_lockstep.specs.Machine.{booted_from};
 ghost use Rattle.pair_protocol.specs.Lawful.{Lawful};
@@ -32,6 +32,7 @@ pub fn finish_over<B: Lockstep + Drop, D: SectorStore, C: Clock>(
     ensures refused { IfErr result IsEnding }
     ensures longer { IfOk result (λ r. StartsWith r.0.list.items
         (list_by end.winner end.primary.items end.backup.items end.waiting)) }
+    ensures forgets { IfOk result (λ r. r.0.list.forgotten ≡ length r.0.list.items) }
     ensures typed { IfOk result (λ r. (r.0.typed.0 ≡ end.typed0) × (r.0.typed.1 ≡ end.typed1)) }
     ensures keyboards { IfOk result (λ r. (r.1.keyboard0 ≡ end.lines.keyboard0) × (r.1.keyboard1 ≡ end.lines.keyboard1)) }
     ensures shown { IfOk result (λ r. ShowsOver end.lines.screen (map (λ v. v.items) end.accepted) r.1.screen

@@ -1,10 +1,9 @@
 //! A settled run.
-ghost use Rattle.std.specs.Prelude.{◌≡◌, length};
 
 use log_journal::Journal;
 use shared_disk::{SectorStore, SharedDisk};
 
-/// A guest that has nothing outstanding, with its whole list, of which nothing is kept, and what terminals and disk have.
+/// A guest that has nothing outstanding, with its whole list, and what terminals and disk have.
 #[derive(Drop)]
 pub struct Standing<B: Drop, D: SectorStore> {
     pub board: B,
@@ -15,5 +14,4 @@ pub struct Standing<B: Drop, D: SectorStore> {
     /// What was typed at each port, and how much of it the guest has taken.
     pub typed: (Vec<u8>, Vec<u8>),
     pub taken: (u64, u64),
-    ghost forgets: { list.forgotten ≡ length list.items },
 }

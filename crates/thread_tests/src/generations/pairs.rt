@@ -64,11 +64,12 @@ fn look_at<B: Lockstep + Drop>(alloc: Global, end: &mut GenerationEnd<B, Store>)
         sector: 0,
     })?;
     let [first, second] = &end.accepted;
+    let (primary, backup) = (end.primary.kept(alloc)?, end.backup.kept(alloc)?);
     Ok(Outcome {
         winner: end.winner,
         count: end.primary_board.count(),
         entries: end.primary.len(),
-        is_repeated: end.primary.kept(alloc)? == end.backup.kept(alloc)?,
+        is_repeated: end.primary.len() == end.backup.len() && primary == backup,
         held: end.held,
         first: first.first().copied(),
         accepted: [first.len(), second.len()],

@@ -35,7 +35,7 @@ returns-clause-stands g c = λ boot sectors lawful dues is_due st.
     start.port1.typed.items given.list.items winner.list.items given.accepted.0.items winner.accepted0.items
     given.accepted.1.items winner.accepted1.items (records given.disk) (records winner.disk) given.taken.0 given.taken.1
     (state given.board) (state winner.board) (ap (λ (v : Vec ℕ Global). v.items) typed.0)
-    (ap (λ (v : Vec ℕ Global). v.items) typed.1) (ap (λ (v : Written). v.items) first.0)
+    (ap (λ (v : Vec ℕ Global). v.items) typed.1) first.0
     (ap (λ (v : Vec ℕ Global). v.items) first.1) (ap (λ (v : Vec ℕ Global). v.items) first.2) (ap records first.3)
     (ap state first.4) st) in
     stands_as (booted_from N boot sectors) mid.port0.typed.items result.typed.0.items mid.port1.typed.items
