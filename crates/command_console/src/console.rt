@@ -19,7 +19,7 @@ use event_callbacks::{Completes, plain_completions};
 use i8080_words::Fault;
 use pair_generations::{Limits, altairs_may_go_on};
 use pair_standing::Standing;
-use shared_disk::SectorStore;
+use shared_disk::{SectorStore, SharedDisk};
 use std::alloc::Global;
 use std::io::{IsTerminal, Read, Write};
 use std::thread::Threads;
@@ -219,7 +219,8 @@ fn save<B: Drop, D: SectorStore, R, W: Write + Drop, N>(
         mut writer,
         notes,
     } = streams;
-    let saved = write_disks(alloc, order, standing, &mut writer);
+    let Standing { disk, .. } = standing;
+    let saved = write_disks(alloc, order, disk, &mut writer);
     let streams = Streams {
         reader,
         writer,
@@ -228,24 +229,31 @@ fn save<B: Drop, D: SectorStore, R, W: Write + Drop, N>(
     (streams, saved)
 }
 
-fn write_disks<B: Drop, D: SectorStore, W: Write + Drop>(
+fn write_disks<D: SectorStore, W: Write + Drop>(
     alloc: Global,
     order: &ConsoleOrder,
-    standing: Standing<B, D>,
+    mut disk: SharedDisk<D>,
     writer: &mut W,
 ) -> Result<(), Failure>
     ensures saved { OnOk result (Appends (W.contents writer.old) (W.contents writer.new)
-        (string_bytes order.now.mark ++ images_of (D.records standing.disk) order.now.saved.items)) }
+        (string_bytes order.now.mark ++ images_of (D.records disk) order.now.saved.items)) }
     ensures failed { IfErr result IsOfRun }
 {
-    let Standing { mut disk, .. } = standing;
     let images = match images_of(alloc, &mut disk, &order.saved) {
         Ok(images) => images,
         Err(Fault::Unknown) => return Err(Failure::InputOrOutput),
         Err(_) => return Err(Failure::OutOfMemory),
     };
-    writer.write_all(order.mark.as_bytes())?;
-    writer.write_all(&images)?;
+    write_after(order.mark.as_bytes(), &images, writer)
+}
+
+// Writes a mark, and the images that come after it.
+fn write_after<W: Write + Drop>(mark: &[u8], images: &[u8], writer: &mut W) -> Result<(), Failure>
+    ensures written { OnOk result (Appends (W.contents writer.old) (W.contents writer.new) (mark.now ++ images.now)) }
+    ensures failed { IfErr result IsOfRun }
+{
+    writer.write_all(mark)?;
+    writer.write_all(images)?;
     writer.flush()?;
     Ok(())
 }
