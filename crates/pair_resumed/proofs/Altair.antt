@@ -7,7 +7,7 @@ use Rattle.serial_2sio.specs.Port as serial
 use Rattle.event_callbacks.specs.Completions.{port_of}
 use Rattle.guest_board.specs.Guest.{oldest_byte}
 use Rattle.altair_laws.proofs.Bytes.{bytes_after}
-use Rattle.pair_resumed.specs.Settled.{AltairsGiveWhatIsDue}
+use Rattle.pair_resumed.specs.Altairs.{AltairsGiveWhatIsDue}
 
 pub altairs_give : AltairsGiveWhatIsDue
 altairs_give setup sectors moves g port number reached h =

@@ -9,6 +9,7 @@ pub mod KeptRuns
 pub mod Given
 pub mod Settling
 pub mod Altair
+pub mod AltairThreads
 pub mod GoingOn
 pub mod Growing
 pub mod Begins

@@ -2,8 +2,6 @@
 use Rattle.std.specs.Prelude.{◌≡◌, ℕ, ◌<◌, ◌≤◌, Bool, true, List, [], ◌++◌, length, take, Some, None}
 use Rattle.disk_dcdd.specs.declared.address.SectorAddress.{SectorAddress}
 use Rattle.event_callbacks.specs.declared.operations.OpId.{OpId}
-use Rattle.guest_board.specs.Guest.{altair}
-use Rattle.guest_board.specs.declared.setup.Setup.{Setup}
 use Rattle.guest_lockstep.specs.Machine.{Machine, Move, Runs, booted_from}
 use Rattle.guest_lockstep.specs.Recorded.{Recorded}
 use Rattle.guest_lockstep.specs.declared.reads.Reads.TheVariants.{Logged}
@@ -129,8 +127,3 @@ ScreensGoOn S =
     (M : Machine S) → Lawful M → (list more : List Entry) (moves : List Move) (s : S) → Runs M M.boot moves s
     → Owns M [] M.boot moves → entries Logged 0 moves ≡ list ++ more → (screens : List (List ℕ)) (records : List Record)
     → Keeps M list screens records → EachScreen (λ port screen. IsPrefix screen (output port moves)) 0 screens
-
--- ---- the Altair of any setup
-
-abbrev pub AltairsGiveWhatIsDue : Type 0
-AltairsGiveWhatIsDue = (setup : Setup) (sectors : SectorAddress → List ℕ) → DueIsGiven (altair setup sectors)

@@ -1,6 +1,9 @@
-//! How threads go on where a run of one machine has come to rest. Nothing here runs.
-ghost use Rattle.pair_resumed.specs.Settled.{AltairsGiveWhatIsDue, ResumedThreadsAreFaithful, ScreensGoOn, SettledRunsAreShown, SettledRunsMayBegin};
+//! How threads go on where a run of one machine has come to rest, and what holds of the Altair. Nothing here runs.
+ghost use Rattle.pair_resumed.specs.Altairs.{AltairThreadsAreFaithful, AltairsAreRunnable, AltairsGiveWhatIsDue};
+ghost use Rattle.pair_resumed.specs.Settled.{ResumedThreadsAreFaithful, ScreensGoOn, SettledRunsAreShown, SettledRunsMayBegin};
 
+use altair_laws::altairs_are_lawful;
+use guest_board::{boards_count, boards_issue_and_complete};
 use pair_protocol::{actions_are_faithful, events_are_actions, events_grow, traces_are_determined};
 use pair_rule::threads_are_faithful;
 
@@ -41,3 +44,14 @@ pub fn screens_go_on<S>()
 pub fn altairs_give_what_is_due()
     ensures given { AltairsGiveWhatIsDue }
 {}
+
+/// The Altair of every setup, with any sectors on its disks, is a machine that the threads may run, and so they keep
+/// these promises with it.
+pub fn altair_threads_are_faithful()
+    ensures runnable { AltairsAreRunnable }
+    ensures faithful { AltairThreadsAreFaithful }
+{
+    boards_count();
+    boards_issue_and_complete();
+    altairs_are_lawful();
+}

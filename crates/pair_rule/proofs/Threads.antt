@@ -1,24 +1,17 @@
 -- Step after step, what is known is shown by a faithful world.
-use Rattle.std.proofs.Common.{◌≡◌, ℕ, zero, suc, ◌<◌, Bool, true, false, ◌==◌, ◌&&◌, List, ◌++◌, refl, ap, subst, arith, inl, inr, Option, Some, None}
-use Rattle.std.specs.Option.{option_map_or}
+use Rattle.std.proofs.Common.{ℕ, zero, suc, ◌<◌, List, ◌++◌, subst, arith, inl, inr}
 use Rattle.disk_dcdd.specs.declared.address.SectorAddress.{SectorAddress}
-use Rattle.guest_board.specs.Guest.{altair}
-use Rattle.guest_board.specs.Inputs.{some_altair}
 use Rattle.guest_lockstep.specs.Machine.{Machine}
-use Rattle.guest_lockstep.specs.Outstanding.{ComesAndGoes}
-use Rattle.guest_lockstep.specs.Recorded.{Counts}
-use Rattle.guest_board.specs.declared.setup.Setup.{Setup}
 use Rattle.guest_lockstep.specs.Reach.{keys, output}
 use Rattle.pair_protocol.specs.Change.{Reached}
-use Rattle.pair_protocol.specs.Copying.{Copying, IsCopying, no_copies}
+use Rattle.pair_protocol.specs.Copying.{Copying, IsCopying}
 use Rattle.pair_protocol.specs.Faithful.{Faithful, IsAllBut, IsPrefix, MayHave}
-use Rattle.pair_protocol.specs.Lawful.{Lawful}
 use Rattle.pair_protocol.specs.Laws.{RowIsChanges, ChangesReach, ReachedIsFaithful, ReachedGrows}
 use Rattle.pair_protocol.specs.Event.{Event, Reply}
 use Rattle.guest_lockstep.specs.declared.reads.Reads.TheVariants.{Logged}
 use Rattle.pair_protocol.specs.World.{World, opening, accepted_in, sector_record, terminal_in}
 use Rattle.pair_rule.specs.declared.view.Knowledge.{Knowledge}
-use Rattle.pair_rule.specs.Law.{ReadsSelected, Runnable, typed_at}
+use Rattle.pair_rule.specs.Law.{Runnable, typed_at}
 use Rattle.pair_rule.specs.Shown.{First, Happens, Nothing, Shows}
 use Rattle.pair_rule.specs.Threads.{Goes, IsShown, Opens, PrimaryIsTold, Promises, ThreadsAreFaithful, bytes_accepted}
 use Rattle.pair_rule.proofs.Beginning.{starts_shown}
@@ -100,32 +93,3 @@ runs_shown rows changes faithful grow M C may copies typed0 typed1 k (Opens gene
 runs_shown rows changes faithful grow M C may copies typed0 typed1 new (Goes {k = k} run step) =
     let s = runs_shown rows changes faithful grow M C may copies typed0 typed1 k run in
     next_shown rows changes faithful grow M C may copies typed0 typed1 k new s (table_steps M typed0 typed1 k new s.stands step)
-
--- ---- the Altair
-
-and_first : (a b : Bool) → (a && b) ≡ true → a ≡ true
-and_first true b e = refl
-and_first false b e = absurd cc
-
-is_that : (selected : Option ℕ) (drive : ℕ) → option_map_or (λ d. d == drive) selected false ≡ true → selected ≡ Some drive
-is_that None drive e = absurd cc
-is_that (Some d) drive e = ap Some (let same : d ≡ drive = grind arith in same)
-
-altair_selects : (setup : Setup) (sectors : SectorAddress → List ℕ) → ReadsSelected (altair setup sectors)
-altair_selects setup sectors g drive sector ready = is_that g.devices.disk.selected drive (and_first _ _ ready)
-
--- where it boots and what its sectors hold does not matter to how it counts, and how operations come and go
-pub altair_runnable : (setup : Setup) (sectors : SectorAddress → List ℕ) → Lawful (altair setup sectors) → Counts some_altair
-    → ComesAndGoes some_altair → Runnable (altair setup sectors)
-altair_runnable setup sectors laws counts operations = record {
-  lawful = laws;
-  counts = record { by_step = counts.by_step; by_input = counts.by_input; spent = counts.spent };
-  operations = record { comes = operations.comes; quiet = operations.quiet; goes = operations.goes; stays = operations.stays };
-  selected = altair_selects setup sectors;
-}
-
-pub without_copies : {S : Type 0} (M : Machine S) → IsCopying M no_copies
-without_copies M = record {
-  counted = λ moves s runs. refl;
-  again = λ moves s t runs owns made. absurd (let e : None ≡ Some t = made in cc);
-}

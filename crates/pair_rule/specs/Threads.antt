@@ -2,17 +2,15 @@
 use Rattle.std.specs.Prelude.{◌≡◌, ℕ, zero, suc, ◌<◌, ◌≤◌, List, [], map}
 use Rattle.disk_dcdd.specs.declared.address.SectorAddress.{SectorAddress}
 use Rattle.event_callbacks.specs.declared.operations.Operation.TheVariants.{Byte}
-use Rattle.guest_board.specs.Guest.{altair}
 use Rattle.guest_lockstep.specs.Machine.{Machine, Move}
 use Rattle.guest_lockstep.specs.declared.reads.Reads.TheVariants.{Logged}
-use Rattle.guest_board.specs.declared.setup.Setup.{Setup}
 use Rattle.log_entry.specs.Entries.{inputs_of}
 use Rattle.log_entry.specs.declared.entry.Entry.{Entry}
 use Rattle.log_entry.specs.declared.entry.Entry.TheVariants.{Mark, Rx, Sent, Sector, Written, Read}
 use Rattle.guest_lockstep.specs.Reach.{keys, acceptances, output, Reach}
 use Rattle.guest_lockstep.specs.declared.timed.Timed.{Timed}
 use Rattle.pair_protocol.specs.Change.{Reached}
-use Rattle.pair_protocol.specs.Copying.{Copying, IsCopying, no_copies}
+use Rattle.pair_protocol.specs.Copying.{Copying, IsCopying}
 use Rattle.pair_protocol.specs.Faithful.{Faithful, IsAllBut, IsPrefix, MayHave}
 use Rattle.pair_protocol.specs.Lawful.{Among}
 use Rattle.pair_protocol.specs.Event.{Event, Reply}
@@ -144,15 +142,3 @@ abbrev pub ThreadsAreFaithful : Type 0 → Type 0
 ThreadsAreFaithful S =
     (M : Machine S) (C : Copying S) → Runnable M → IsCopying M C → (typed0 typed1 : List ℕ) (k : Knowledge) →
     ThreadRun M typed0 typed1 k → IsShown M C typed0 typed1 k
-
--- ---- the Altair of any setup, with any sectors
-
--- it is a machine that the threads may run
-abbrev pub AltairsAreRunnable : Type 0
-AltairsAreRunnable = (setup : Setup) (sectors : SectorAddress → List ℕ) → Runnable (altair setup sectors)
-
--- and they keep their promises with it
-abbrev pub AltairThreadsAreFaithful : Type 0
-AltairThreadsAreFaithful =
-    (setup : Setup) (sectors : SectorAddress → List ℕ) (typed0 typed1 : List ℕ) (k : Knowledge) →
-    ThreadRun (altair setup sectors) typed0 typed1 k → IsShown (altair setup sectors) no_copies typed0 typed1 k

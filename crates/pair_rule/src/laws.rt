@@ -1,10 +1,8 @@
 //! What the threads of a generation are: a pair, one event after another. Nothing here runs.
 ghost use Rattle.pair_rule.specs.Law.{SilentStepsShow, StartsShown, StepsAreEvents, StepsAreFaithful};
 ghost use Rattle.pair_rule.specs.Steps.{TableStepsAreSteps};
-ghost use Rattle.pair_rule.specs.Threads.{AltairsAreRunnable, AltairThreadsAreFaithful, KeptStepsAreThreads, ThreadsAreFaithful};
+ghost use Rattle.pair_rule.specs.Threads.{KeptStepsAreThreads, ThreadsAreFaithful};
 
-use altair_laws::altairs_are_lawful;
-use guest_board::{boards_count, boards_issue_and_complete};
 use pair_protocol::{actions_are_faithful, events_are_actions, events_grow};
 
 /// Each kind of step of the table keeps what holds of all that the seats know, and is a step of the laws below: events of a
@@ -55,15 +53,4 @@ pub fn threads_are_faithful<S>()
     events_are_actions::<S>();
     actions_are_faithful::<S>();
     events_grow::<S>();
-}
-
-/// The Altair of every setup, with any sectors on its disks, is a machine that the threads may run, and so they keep
-/// these promises with it.
-pub fn altair_threads_are_faithful()
-    ensures runnable { AltairsAreRunnable }
-    ensures faithful { AltairThreadsAreFaithful }
-{
-    boards_count();
-    boards_issue_and_complete();
-    altairs_are_lawful();
 }

@@ -4,8 +4,9 @@ use Rattle.pair_protocol.specs.Copying.{no_copies}
 use Rattle.pair_protocol.proofs.Promises.Growth.{row_grows}
 use Rattle.pair_protocol.proofs.RowActions.{row_changes}
 use Rattle.pair_protocol.proofs.Promises.Runs.{always_faithful, changes_reach}
-use Rattle.pair_rule.proofs.Threads.{altair_runnable, runs_shown, without_copies}
-use Rattle.pair_rule.proofs.laws.altair_threads_are_faithful.Goals as goal
+use Rattle.pair_rule.proofs.Threads.{runs_shown}
+use Rattle.pair_resumed.proofs.AltairThreads.{altair_runnable, without_copies}
+use Rattle.pair_resumed.proofs.laws.altair_threads_are_faithful.Goals as goal
 
 pub returns-clause-runnable : goal.returns-clause-runnable
 returns-clause-runnable c setup sectors =
