@@ -12,7 +12,8 @@ use Rattle.clone_state.specs.Checkpoint.{checkpoint_of}
 use Rattle.clone_state.specs.Laws.{IsCopyable}
 use Rattle.clone_state.specs.Parts.{guest_in, part_count, parts_of}
 use Rattle.pair_protocol.specs.Copying.{Copying, IsCopying, Makes}
-use Rattle.pair_protocol.specs.Event.{Event, Reply}
+use Rattle.pair_events.specs.declared.event.Event.{Event}
+use Rattle.pair_protocol.specs.Reply.{Reply}
 use Rattle.pair_protocol.specs.Faithful.{Faithful}
 use Rattle.pair_protocol.specs.Grows.{Grows}
 use Rattle.pair_protocol.specs.Joining.{IsGiven}

@@ -5,7 +5,8 @@ use Rattle.guest_board.specs.declared.setup.Setup.{Setup}
 use Rattle.guest_parts.specs.Guest.{Guest}
 use Rattle.guest_board.specs.Guest.{altair}
 use Rattle.pair_protocol.specs.Copying.{Copying, IsCopying}
-use Rattle.pair_protocol.specs.Event.{Event, Reply}
+use Rattle.pair_events.specs.declared.event.Event.{Event}
+use Rattle.pair_protocol.specs.Reply.{Reply}
 use Rattle.pair_protocol.specs.Faithful.{Faithful}
 use Rattle.pair_protocol.specs.Grows.{Grows}
 use Rattle.pair_protocol.specs.Row.{Row, Run}

@@ -6,7 +6,7 @@ use Rattle.command_script.specs.Telling.{EventTold, HaveTold, NoneTold, QueryPas
 use Rattle.ft_world.specs.Applies.{Happens, Shows}
 use Rattle.ft_world.specs.Running.{Running}
 use Rattle.ft_world.specs.Standing.{Course, machine_of}
-use Rattle.ft_world.specs.Words.{answer_of, event_of}
+use Rattle.ft_world.specs.Words.{answer_of}
 use Rattle.guest_lockstep.specs.Machine.{Machine}
 use Rattle.guest_parts.specs.Guest.{Guest}
 use Rattle.i8080_words.specs.declared.refusal.Fault.{Fault}
@@ -46,8 +46,8 @@ module _ {B H S : Type 0} (state : B → S) (copied : B → Guest) (M : Machine 
           after = a.after;
           told = subst (λ e. Told (machine_of M c) c.copying c.world (line.Event e ∷ []) (moment ∷ []) a.after) event
               (EventTold
-              (subst (λ r. Row (machine_of M c) c.copying c.world (event_of moment.event) (answer_of r) a.after) (sym is)
-              (subst (λ e. Row (machine_of M c) c.copying c.world (event_of e) (answer_of answer) a.after) (sym event) a.row))
+              (subst (λ r. Row (machine_of M c) c.copying c.world moment.event (answer_of r) a.after) (sym is)
+              (subst (λ e. Row (machine_of M c) c.copying c.world e (answer_of answer) a.after) (sym event) a.row))
               NoneTold);
           shows = a.shows;
         };

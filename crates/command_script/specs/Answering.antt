@@ -3,7 +3,7 @@ use Rattle.std.specs.Prelude.{ℕ, List, [], ◌∷◌, ◌++◌, Option, Result
 use Rattle.std.specs.Io.KnownBytes.{Appends}
 use Rattle.disk_dcdd.specs.declared.address.SectorAddress.{SectorAddress}
 use Rattle.disk_dcdd.specs.declared.sector.SectorWrite.{SectorWrite}
-use Rattle.ft_world.specs.Words.{answer_of, event_of}
+use Rattle.ft_world.specs.Words.{answer_of}
 use Rattle.guest_parts.specs.Guest.{Guest}
 use Rattle.guest_board.specs.Guest.{altair}
 use Rattle.guest_lockstep.specs.Machine.{Machine}
@@ -13,7 +13,7 @@ use Rattle.pair_events.specs.Printed.{answer_line}
 use Rattle.pair_events.specs.declared.event.Event.{Event}
 use Rattle.pair_events.specs.declared.reply.Reply.{Reply}
 use Rattle.pair_protocol.specs.Copying.{Copying}
-use Rattle.pair_protocol.specs.Event as protocol
+use Rattle.pair_protocol.specs.Reply as protocol
 use Rattle.pair_protocol.specs.Row.{Row}
 use Rattle.pair_protocol.specs.World.{World, opening}
 use Rattle.pair_setup.specs.Booting.{HostsCome}
@@ -35,7 +35,7 @@ pub record Booted (setup : ScriptSetup) (sectors : List SectorWrite) : Type 0 wh
 pub data Happen {S : Type 0} (M : Machine S) (C : Copying S) : World S → List Line → World S → Type 0 where
   Nothing : {w : World S} → Happen M C w [] w
   ByRow : {w mid new : World S} {e : Event} {reply : protocol.Reply} {lines : List Line}
-      → Row M C w (event_of e) reply mid → Happen M C mid lines new → Happen M C w (line.Event e ∷ lines) new
+      → Row M C w e reply mid → Happen M C mid lines new → Happen M C w (line.Event e ∷ lines) new
   Asks : {w new : World S} {q : Query} {lines : List Line}
       → Happen M C w lines new → Happen M C w (line.Query q ∷ lines) new
 
@@ -44,7 +44,7 @@ pub data Happen {S : Type 0} (M : Machine S) (C : Copying S) : World S → List 
 pub data Answered {S : Type 0} (M : Machine S) (C : Copying S) : World S → List Line → List (List ℕ) → World S → Type 0 where
   NoLine : {w : World S} → Answered M C w [] [] w
   Replies : {w mid new : World S} {e : Event} {lines : List Line} {texts : List (List ℕ)} (answer : Result Reply Fault)
-      → Row M C w (event_of e) (answer_of answer) mid → Answered M C mid lines texts new
+      → Row M C w e (answer_of answer) mid → Answered M C mid lines texts new
       → Answered M C w (line.Event e ∷ lines) (answer_line answer ∷ texts) new
   Tells : {w new : World S} {q : Query} {text : List ℕ} {lines : List Line} {texts : List (List ℕ)}
       → Finds M w q text → Answered M C w lines texts new

@@ -6,7 +6,7 @@ use Rattle.disk_dcdd.specs.declared.sector.SectorWrite.{SectorWrite}
 use Rattle.ft_world.specs.Applies.{Shows}
 use Rattle.ft_world.specs.Running.{Running}
 use Rattle.ft_world.specs.Standing.{Course, machine_of}
-use Rattle.ft_world.specs.Words.{answer_of, event_of}
+use Rattle.ft_world.specs.Words.{answer_of}
 use Rattle.guest_board.specs.Guest.{altair}
 use Rattle.guest_lockstep.specs.Machine.{Machine}
 use Rattle.guest_parts.specs.Guest.{Guest}
@@ -24,7 +24,7 @@ use Rattle.shared_disk.specs.Failing.{Disk, records_in}
 pub data Told {S : Type 0} (M : Machine S) (C : Copying S) : World S → List Line → List Moment → World S → Type 0 where
   NoneTold : {w : World S} → Told M C w [] [] w
   EventTold : {w mid new : World S} {moment : Moment} {lines : List Line} {moments : List Moment}
-      → Row M C w (event_of moment.event) (answer_of moment.answer) mid → Told M C mid lines moments new
+      → Row M C w moment.event (answer_of moment.answer) mid → Told M C mid lines moments new
       → Told M C w (line.Event moment.event ∷ lines) (moment ∷ moments) new
   QueryPassed : {w new : World S} {q : Query} {lines : List Line} {moments : List Moment}
       → Told M C w lines moments new → Told M C w (line.Query q ∷ lines) moments new

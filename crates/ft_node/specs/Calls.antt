@@ -24,7 +24,7 @@ use Rattle.guest_lockstep.specs.Reach.{keys}
 use Rattle.pair_protocol.specs.Copying.{Copying}
 use Rattle.pair_protocol.specs.Effects as effect
 use Rattle.pair_protocol.specs.Effects.{Stepped, Took, Held, Heard, Replayed, Drained, Halted, GotPart, HasEntry, HasOutstanding, HasCovered, HasPart, IsUnder, Wants, NeedsMoves, NeedsEntry}
-use Rattle.pair_protocol.specs.Event as event
+use Rattle.pair_protocol.specs.Reply as event
 use Rattle.pair_protocol.specs.Node.{Node, Role, Primary, Backup, Joining, begun, gathered, gets_part, halts, holds, wins}
 use Rattle.pair_protocol.specs.Refusals as refusals
 use Rattle.ft_node.specs.declared.ran.Ran.{Ran}

@@ -9,9 +9,10 @@ use Rattle.i8080_words.specs.declared.refusal.Fault.{Fault}
 use Rattle.i8080_words.specs.declared.refusal.Fault.TheVariants.{OutOfMemory}
 use Rattle.shared_disk.specs.declared.store.Record.{Record}
 use Rattle.pair_protocol.specs.Change.{Reached}
-use Rattle.pair_protocol.specs.Event.{Refused}
+use Rattle.pair_protocol.specs.Reply.{Refused}
 use Rattle.pair_protocol.specs.Refusals.{fault_if, refusal}
-use Rattle.pair_protocol.specs.Row.{Leaves, MayNeedMemory, Refuses, Row, NeedsMemory}
+use Rattle.pair_protocol.specs.Row.{Leaves, Refuses, Row, NeedsMemory}
+use Rattle.pair_protocol.specs.Rows.{MayNeedMemory}
 use Rattle.pair_protocol.specs.World.{World}
 use Rattle.pair_protocol.proofs.Promises.Growth.{row_grows}
 use Rattle.pair_protocol.proofs.RowActions.{row_changes}
@@ -19,7 +20,7 @@ use Rattle.pair_protocol.proofs.Promises.Runs.{always_faithful, changes_reach}
 use Rattle.ft_world.specs.Applies.{Applies, IsFaithful, Shows, ShowsParts, ShowsSome}
 use Rattle.ft_world.specs.Running.{Running}
 use Rattle.ft_world.specs.Standing.{Course, machine_of}
-use Rattle.ft_world.specs.Words.{answer_of, event_of}
+use Rattle.ft_world.specs.Words.{answer_of}
 use Rattle.pair_events.specs.declared.event.Event.{Event}
 use Rattle.pair_events.specs.declared.reply.Reply.{Reply}
 
@@ -34,7 +35,7 @@ shown_is_faithful state copied M records v c h =
 pub applies : {B H D S : Type 0} (state : B → S) (copied : B → Guest) (M : Machine S) (records : D → List Record) (old : Running B H D)
     (c : Course S) (e : Event) (answer : Result Reply Fault) (after : World S) (new : Running B H D) →
     (h : Shows state copied M records old c) →
-    Row (machine_of M c) c.copying c.world (event_of e) (answer_of answer) after →
+    Row (machine_of M c) c.copying c.world e (answer_of answer) after →
     ShowsParts state M records h.drives new (record c { world = after }) →
     Applies state copied M records c e answer new
 applies state copied M records old c e answer after new h row parts =
@@ -54,14 +55,14 @@ applies state copied M records old c e answer after new h row parts =
 pub unchanged : {B H D S : Type 0} (state : B → S) (copied : B → Guest) (M : Machine S) (records : D → List Record)
     (old new : Running B H D) (c : Course S) (e : Event) (fault : Fault) → (h : Shows state copied M records old c) →
     ShowsParts state M records h.drives new c →
-    Row (machine_of M c) c.copying c.world (event_of e) (Refused fault) c.world →
+    Row (machine_of M c) c.copying c.world e (Refused fault) c.world →
     Applies state copied M records c e (Err fault) new
 unchanged state copied M records old new c e fault h parts row =
     applies state copied M records old c e (Err fault) c.world new h row parts
 
 same_world : {B H D S : Type 0} (state : B → S) (copied : B → Guest) (M : Machine S) (records : D → List Record) (old new : Running B H D)
     (c : Course S) (e : Event) (fault : Fault) → (h : Shows state copied M records old c) → new ≡ old →
-    Row (machine_of M c) c.copying c.world (event_of e) (Refused fault) c.world →
+    Row (machine_of M c) c.copying c.world e (Refused fault) c.world →
     Applies state copied M records c e (Err fault) new
 same_world state copied M records old new c e fault h same row =
     unchanged state copied M records old new c e fault h
@@ -69,15 +70,15 @@ same_world state copied M records old new c e fault h same row =
 
 pub refuses : {B H D S : Type 0} (state : B → S) (copied : B → Guest) (M : Machine S) (records : D → List Record) (old new : Running B H D)
     (c : Course S) (e : Event) (fault : Fault) → Shows state copied M records old c → new ≡ old →
-    refusal (machine_of M c) c.copying c.world (event_of e) ≡ Some fault →
-    Leaves c.world (event_of e) fault c.world → Applies state copied M records c e (Err fault) new
+    refusal (machine_of M c) c.copying c.world e ≡ Some fault →
+    Leaves c.world e fault c.world → Applies state copied M records c e (Err fault) new
 refuses state copied M records old new c e fault h same because leaves =
     same_world state copied M records old new c e fault h same (Refuses because leaves)
 
 pub needs_memory : {B H D S : Type 0} (state : B → S) (copied : B → Guest) (M : Machine S) (records : D → List Record)
     (old new : Running B H D) (c : Course S) (e : Event) (fault : Fault) → Shows state copied M records old c → new ≡ old →
-    refusal (machine_of M c) c.copying c.world (event_of e) ≡ None →
-    MayNeedMemory (machine_of M c) c.world (event_of e) → fault ≡ OutOfMemory → Applies state copied M records c e (Err fault) new
+    refusal (machine_of M c) c.copying c.world e ≡ None →
+    MayNeedMemory (machine_of M c) c.world e → fault ≡ OutOfMemory → Applies state copied M records c e (Err fault) new
 needs_memory state copied M records old new c e fault h same free takes needs =
     subst (λ f. Applies state copied M records c e (Err f) new) (sym needs)
     (same_world state copied M records old new c e OutOfMemory h same (NeedsMemory free takes))

@@ -15,7 +15,7 @@ use Rattle.shared_disk.specs.Arrivals.{after_meeting, after_put, record_of}
 use Rattle.shared_disk.specs.Records.{IsAt, record_at, refusal_at, with_record}
 use Rattle.shared_disk.specs.declared.store.Record.{Record}
 use Rattle.shared_disk.proofs.RecordsBySector.{is_other, is_same, record_at-with_other, record_at-with_same}
-use Rattle.pair_protocol.specs.Event as protocol
+use Rattle.pair_protocol.specs.Reply as protocol
 use Rattle.pair_protocol.specs.Refusals.{write_refusal}
 use Rattle.pair_protocol.specs.Row.{Accepts, DeviceFails, Row, NeedsMemory}
 use Rattle.pair_protocol.specs.World as world
@@ -201,7 +201,7 @@ puts_applies state copied M records old c m write (Err fault) ms disk brings h (
     let on_disk = writes_on_disk N c.copying h.drives m c.world write h.machine h.reached there in
     let met = h.parts.disk.there (address_of write) on_disk in
     let free : write_refusal (slice_get c.world.messages m) ≡ None = ap write_refusal there in
-    let refused = λ (f : Fault). Row N c.copying c.world (protocol.Put m) (protocol.Refused f) c.world in
+    let refused = λ (f : Fault). Row N c.copying c.world (event.Put m) (protocol.Refused f) c.world in
     let row : refused fault = elim why [
       | inl is ↦ subst refused (sym is) (NeedsMemory free tt)
       | inr is ↦ subst refused (sym (not_put (records old.disk) (address_of write) met.0 fault met.1 is))

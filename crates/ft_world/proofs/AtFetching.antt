@@ -30,7 +30,6 @@ use Rattle.shared_disk.specs.declared.store.Record.{Record}
 use Rattle.pair_protocol.specs.Change.{After, Fetches, Reached, Replaying}
 use Rattle.pair_protocol.specs.Effects.{Fetched, Wants, next_read, wanted, wanted_of}
 use Rattle.pair_protocol.specs.Effects as effect
-use Rattle.pair_protocol.specs.Event as protocol
 use Rattle.pair_protocol.specs.Node.{Backup, Draining, Node, Role, acts_as, fetches}
 use Rattle.pair_protocol.specs.Refusals.{at_fetched, at_node, fetch_refusal, fetched_refusal, refusal, role_refusal}
 use Rattle.pair_protocol.specs.Rows.{OfNode}
@@ -296,7 +295,7 @@ module _ {B H D S : Type 0} (state : B → S) (copied : B → Guest) (M : Machin
     abbrev message : slice_get c.world.messages m ≡ Some (sent.SectorRead (read_address read) read.number read.bytes)
     message = read_there state copied M records old c m read brings h
 
-    fetched_free : refusal N c.copying c.world (protocol.Fetched m n)
+    fetched_free : refusal N c.copying c.world (event.Fetched m n)
         ≡ at_node (slice_get c.world.nodes n) (fetched_refusal M (read_address read) read.number)
     fetched_free = ap (λ q. at_fetched N (slice_get c.world.nodes n) q) message
 

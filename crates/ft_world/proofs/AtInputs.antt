@@ -13,7 +13,6 @@ use Rattle.i8080_words.specs.declared.refusal.Fault.TheVariants.{Unknown}
 use Rattle.shared_disk.specs.declared.store.Record.{Record}
 use Rattle.terminals.specs.Screen.{Screen, blank}
 use Rattle.pair_protocol.specs.Effects.{Took}
-use Rattle.pair_protocol.specs.Event as protocol
 use Rattle.pair_protocol.specs.Refusals as refusals
 use Rattle.pair_protocol.specs.Refusals.{at_node, fault_if, not_accepted, not_typed, refusal}
 use Rattle.pair_protocol.specs.World as world
@@ -103,7 +102,7 @@ key_typed : {B H D S : Type 0} (state : B → S) (copied : B → Guest) (M : Mac
     (c : Course S) (n port index byte : ℕ) → Shows state copied M records old c →
     ◌≡◌ {A = Result ℕ Fault} (Ok byte) (ok_or (slice_get (screen_in old.terminals port).typed index) Unknown) →
     (slice_get (terminal_in c.world.terminals port).typed index ≡ Some byte)
-    × (refusal (machine_of M c) c.copying c.world (protocol.TakeKey n port index)
+    × (refusal (machine_of M c) c.copying c.world (event.TakeKey n port index)
     ≡ at_node (slice_get c.world.nodes n) (refusals.take_key_refusal M port index))
 key_typed state copied M records old c n port index byte h e =
     let typed = key_in_world state copied M records old c port index h

@@ -13,7 +13,7 @@ use Rattle.log_channel.specs.declared.packet.Packet.TheVariants as packet
 use Rattle.log_entry.specs.declared.entry.Entry.{Entry}
 use Rattle.shared_disk.specs.declared.store.Record.{Record}
 use Rattle.pair_protocol.specs.Effects.{Heard, Held, NeedsEntry}
-use Rattle.pair_protocol.specs.Event as protocol
+use Rattle.pair_protocol.specs.Reply as protocol
 use Rattle.pair_protocol.specs.Node.{Node}
 use Rattle.pair_protocol.specs.Refusals.{deliver_acknowledgement_refusal, at_acknowledgement, at_log_entry, deliver_log_refusal}
 use Rattle.pair_protocol.specs.World as world

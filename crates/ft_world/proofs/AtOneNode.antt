@@ -7,11 +7,11 @@ use Rattle.guest_lockstep.specs.Machine.{Machine}
 use Rattle.i8080_words.specs.declared.refusal.Fault.{Fault}
 use Rattle.i8080_words.specs.declared.refusal.Fault.TheVariants.{OutOfMemory}
 use Rattle.shared_disk.specs.declared.store.Record.{Record}
-use Rattle.pair_protocol.specs.Event.{Refused}
+use Rattle.pair_protocol.specs.Reply.{Refused}
 use Rattle.pair_protocol.specs.Node.{Node}
 use Rattle.pair_protocol.specs.Refusals.{at_node, first_of, refusal}
-use Rattle.pair_protocol.specs.Row.{Accepts, Leaves, MayNeedMemory, Refuses, Row, NeedsMemory}
-use Rattle.pair_protocol.specs.Rows.{AtNode, Does, OfNode}
+use Rattle.pair_protocol.specs.Row.{Accepts, Leaves, Refuses, Row, NeedsMemory}
+use Rattle.pair_protocol.specs.Rows.{AtNode, Does, MayNeedMemory, OfNode}
 use Rattle.pair_protocol.specs.World.{World, with_node}
 use Rattle.pair_protocol.proofs.Passed.{node-passed}
 use Rattle.ft_world.specs.Applies.{Applies, Shows}
@@ -20,7 +20,7 @@ use Rattle.ft_world.proofs.AtHosts.{AsksNode, AtHost, Becomes}
 use Rattle.ft_world.specs.Running.{Running}
 use Rattle.ft_world.specs.Shows.{AreHosts}
 use Rattle.ft_world.specs.Standing.{Course, machine_of}
-use Rattle.ft_world.specs.Words.{event_of, reply_of}
+use Rattle.ft_world.specs.Words.{reply_of}
 use Rattle.pair_events.specs.declared.event.Event.{Event}
 use Rattle.pair_events.specs.declared.reply.Reply.{Reply}
 use Rattle.ft_world.specs.declared.host.Host.{Host}
@@ -56,10 +56,10 @@ module _ {B H D S : Type 0} {state : B → S} {copied : B → Guest} {M : Machin
     {c : Course S} (h : Shows state copied M records old c) where
   pub node_applies : {A : Type 0} (e : Event) (r : Reply) {n : ℕ} {part : Node S → Option Fault}
       {needs : Node S → Type 0} {does : A → Node S → Node S → Type 0} {value : A} (hosts : List (Host B H)) →
-      refusal (machine_of M c) c.copying c.world (event_of e) ≡ at_node (slice_get c.world.nodes n) part →
+      refusal (machine_of M c) c.copying c.world e ≡ at_node (slice_get c.world.nodes n) part →
       ((x y : Node S) → part x ≡ None → does value x y → Stays x y) →
       ((new : World S) → AtNode c.world n (does value) new →
-      Does (machine_of M c) c.copying c.world (event_of e) (reply_of r) new) →
+      Does (machine_of M c) c.copying c.world e (reply_of r) new) →
       AtHost state M c.copying h.drives c.world n part needs does (Ok value) hosts →
       Applies state copied M records c e (Ok r) (record old { hosts = hosts })
   node_applies e r {n} {part} {needs} {does} {value} hosts free stays row a =
@@ -76,9 +76,9 @@ module _ {B H D S : Type 0} {state : B → S} {copied : B → Guest} {M : Machin
   -- it is refused as the node refuses it, or is out of memory
   pub node_refused : {A : Type 0} (e : Event) {n : ℕ} {part : Node S → Option Fault} {needs : Node S → Type 0}
       {does : A → Node S → Node S → Type 0} (fault : Fault) (hosts : List (Host B H)) →
-      refusal (machine_of M c) c.copying c.world (event_of e) ≡ at_node (slice_get c.world.nodes n) part →
-      (OfNode c.world n needs → MayNeedMemory (machine_of M c) c.world (event_of e)) →
-      Leaves c.world (event_of e) fault c.world →
+      refusal (machine_of M c) c.copying c.world e ≡ at_node (slice_get c.world.nodes n) part →
+      (OfNode c.world n needs → MayNeedMemory (machine_of M c) c.world e) →
+      Leaves c.world e fault c.world →
       AtHost state M c.copying h.drives c.world n part needs does (Err fault) hosts →
       Applies state copied M records c e (Err fault) (record old { hosts = hosts })
   node_refused {A} e {n} {part} {needs} {does} fault hosts free takes leaves a =
@@ -89,7 +89,7 @@ module _ {B H D S : Type 0} {state : B → S} {copied : B → Guest} {M : Machin
             (with_hosts state M records h.drives old c hosts h.parts k.1) (Refuses (free ∙ k.0) leaves)
         | inr k ↦ unchanged state copied M records old (record old { hosts = hosts }) c e fault h
             (with_hosts state M records h.drives old c hosts h.parts k.2.1)
-            (subst (λ f. Row (machine_of M c) c.copying c.world (event_of e) (Refused f) c.world)
+            (subst (λ f. Row (machine_of M c) c.copying c.world e (Refused f) c.world)
             (sym k.1) (NeedsMemory (free ∙ k.0) (takes k.2.0)))
       ]
 
@@ -97,9 +97,9 @@ module _ {B H D S : Type 0} {state : B → S} {copied : B → Guest} {M : Machin
 
   pub asks_refused : {A : Type 0} (e : Event) {n : ℕ} {part : Node S → Option Fault} {needs : Node S → Type 0}
       {says : A → Node S → Type 0} (fault : Fault) →
-      refusal (machine_of M c) c.copying c.world (event_of e) ≡ at_node (slice_get c.world.nodes n) part →
-      (OfNode c.world n needs → MayNeedMemory (machine_of M c) c.world (event_of e)) →
-      Leaves c.world (event_of e) fault c.world → AsksNode c.world n part needs says (Err fault) →
+      refusal (machine_of M c) c.copying c.world e ≡ at_node (slice_get c.world.nodes n) part →
+      (OfNode c.world n needs → MayNeedMemory (machine_of M c) c.world e) →
+      Leaves c.world e fault c.world → AsksNode c.world n part needs says (Err fault) →
       Applies state copied M records c e (Err fault) old
   asks_refused {A} e {n} {part} {needs} {says} fault free takes leaves a =
       elim (call_refused A (at_node (slice_get c.world.nodes n) part) fault (Unit {0}) (OfNode c.world n needs)

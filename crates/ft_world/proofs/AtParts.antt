@@ -15,7 +15,7 @@ use Rattle.shared_disk.specs.declared.store.Record.{Record}
 use Rattle.pair_protocol.specs.Change.{After, GetsPart, Reached}
 use Rattle.pair_protocol.specs.Copying.{Copying}
 use Rattle.pair_protocol.specs.Effects.{GotPart, Again, Comes, Completes}
-use Rattle.pair_protocol.specs.Event as protocol
+use Rattle.pair_protocol.specs.Reply as protocol
 use Rattle.pair_protocol.specs.Node.{Joining, Node, gathered, gets_part}
 use Rattle.pair_protocol.specs.Refusals.{at_part, fault_if, first_of, generation_refusal, part_comes_refusal, role_refusal, send_part_refusal}
 use Rattle.pair_protocol.specs.Settled.{is_backup}

@@ -14,7 +14,7 @@ use Rattle.i8080_words.specs.declared.refusal.Fault.{Fault}
 use Rattle.i8080_words.specs.declared.refusal.Fault.TheVariants.{Unknown}
 use Rattle.shared_disk.specs.declared.store.Record.{Record}
 use Rattle.terminals.specs.Screen.{Screen, after_arrival, after_key, blank, comes_next}
-use Rattle.pair_protocol.specs.Event as protocol
+use Rattle.pair_protocol.specs.Reply as protocol
 use Rattle.pair_protocol.specs.Refusals.{no_port, byte_refusal}
 use Rattle.pair_protocol.specs.Row.{Accepts}
 use Rattle.pair_protocol.specs.World as world

@@ -11,7 +11,7 @@ use Rattle.guest_lockstep.specs.Machine.{Machine}
 use Rattle.i8080_words.specs.declared.refusal.Fault.{Fault}
 use Rattle.i8080_words.specs.declared.refusal.Fault.TheVariants.{Lost, NotWhole, Unknown, WrongRole}
 use Rattle.shared_disk.specs.declared.store.Record.{Record}
-use Rattle.pair_protocol.specs.Event as protocol
+use Rattle.pair_protocol.specs.Reply as protocol
 use Rattle.pair_protocol.specs.Node.{Joining, Node, Spare, halts, is_role}
 use Rattle.pair_protocol.specs.Refusals.{ask_refusal, at_node, fault_if, first_of, is_other, refusal, suspect_refusal}
 use Rattle.pair_protocol.specs.Row.{Accepts, Leaves, Refuses, Row, NeedsMemory}
@@ -61,20 +61,20 @@ own_passed false false false lost e = second_of None lost refl
 
 -- so the world stays
 own_leaves : {S : Type 0} (w : World S) (n : ℕ) (spare down joining : Bool) (fault : Fault) →
-    own spare down joining ≡ Some fault → Leaves w (protocol.Suspect n) fault w
+    own spare down joining ≡ Some fault → Leaves w (event.Suspect n) fault w
 own_leaves w n true down joining fault e =
-    subst (λ f. Leaves w (protocol.Suspect n) f w) (same_some Unknown fault (Some Unknown) refl e) refl
+    subst (λ f. Leaves w (event.Suspect n) f w) (same_some Unknown fault (Some Unknown) refl e) refl
 own_leaves w n false true joining fault e =
-    subst (λ f. Leaves w (protocol.Suspect n) f w) (same_some WrongRole fault (Some WrongRole) refl e) refl
+    subst (λ f. Leaves w (event.Suspect n) f w) (same_some WrongRole fault (Some WrongRole) refl e) refl
 own_leaves w n false false true fault e =
-    subst (λ f. Leaves w (protocol.Suspect n) f w) (same_some NotWhole fault (Some NotWhole) refl e) refl
+    subst (λ f. Leaves w (event.Suspect n) f w) (same_some NotWhole fault (Some NotWhole) refl e) refl
 own_leaves w n false false false fault e = absurd (cc)
 
 refused_first : {S : Type 0} (w : World S) (n : ℕ) (here : Option (Node S)) (fault : Fault) →
     at_node here suspect_refusal ≡ Some fault →
-    (at_node here (ask_refusal w n) ≡ Some fault) × Leaves w (protocol.Suspect n) fault w
+    (at_node here (ask_refusal w n) ≡ Some fault) × Leaves w (event.Suspect n) fault w
 refused_first w n None fault e =
-    (e, subst (λ f. Leaves w (protocol.Suspect n) f w) (same_some Unknown fault (Some Unknown) refl e) refl)
+    (e, subst (λ f. Leaves w (event.Suspect n) f w) (same_some Unknown fault (Some Unknown) refl e) refl)
 refused_first w n (Some x) fault e = (
   own_first (is_role x.role Spare) (not x.running) (is_role x.role Joining)
       (fault_if (is_other (winner_in w.winners x.generation) n) Lost) fault e,
@@ -98,7 +98,7 @@ left {S} w n (Some y) x at e =
 stays : {B H D S : Type 0} (state : B → S) (copied : B → Guest) (M : Machine S) (records : D → List Record) (old : Running B H D)
     (c : Course S) (n : ℕ) (fault : Fault) (hosts : List (Host B H)) (askings : List Asking) →
     (h : Shows state copied M records old c) → AreHosts state M c.copying h.drives hosts c.world.nodes → askings ≡ old.askings →
-    Row (machine_of M c) c.copying c.world (protocol.Suspect n) (protocol.Refused fault) c.world →
+    Row (machine_of M c) c.copying c.world (event.Suspect n) (protocol.Refused fault) c.world →
     Applies state copied M records c (event.Suspect n) (Err fault) (record old { hosts = hosts; askings = askings })
 stays state copied M records old c n fault hosts askings h are same row =
     subst (λ l. Applies state copied M records c (event.Suspect n) (Err fault) (record old { hosts = hosts; askings = l }))
@@ -118,7 +118,7 @@ wins_it : {B H D S : Type 0} (state : B → S) (copied : B → Guest) (M : Machi
     (c : Course S) (n : ℕ) (won : Won) (hosts : List (Host B H)) (askings : List Asking) (x : Node S)
     (winner : Option ℕ) → (h : Shows state copied M records old c) → slice_get c.world.nodes n ≡ Some x →
     winner_of old.askings x.generation ≡ winner →
-    refusal (machine_of M c) c.copying c.world (protocol.Suspect n) ≡ fault_if (is_other winner n) Lost →
+    refusal (machine_of M c) c.copying c.world (event.Suspect n) ≡ fault_if (is_other winner n) Lost →
     SuspectsOf winner old.askings n x (Ok won) askings (λ y. AreHosts state M c.copying h.drives hosts (slice_set c.world.nodes n y)) →
     Applies state copied M records c (event.Suspect n) (Ok reply.Won) (record old { hosts = hosts; askings = askings })
 wins_it state copied M records old c n won hosts askings x None h there is free (asked, are) =
@@ -153,13 +153,13 @@ loses_it : {B H D S : Type 0} (state : B → S) (copied : B → Guest) (M : Mach
     (c : Course S) (n : ℕ) (fault : Fault) (hosts : List (Host B H)) (askings : List Asking) (x : Node S)
     (winner : Option ℕ) → (h : Shows state copied M records old c) → slice_get c.world.nodes n ≡ Some x →
     winner_of old.askings x.generation ≡ winner →
-    refusal (machine_of M c) c.copying c.world (protocol.Suspect n) ≡ fault_if (is_other winner n) Lost →
+    refusal (machine_of M c) c.copying c.world (event.Suspect n) ≡ fault_if (is_other winner n) Lost →
     SuspectsOf winner old.askings n x (Err fault) askings (λ y. AreHosts state M c.copying h.drives hosts (slice_set c.world.nodes n y)) →
     Applies state copied M records c (event.Suspect n) (Err fault) (record old { hosts = hosts; askings = askings })
 loses_it state copied M records old c n fault hosts askings x None h there is free (needs, same, are) =
     stays state copied M records old c n fault hosts askings h
     (subst (AreHosts state M c.copying h.drives hosts) (set_get c.world.nodes n x there) are) same
-    (subst (λ f. Row (machine_of M c) c.copying c.world (protocol.Suspect n) (protocol.Refused f) c.world) (sym needs)
+    (subst (λ f. Row (machine_of M c) c.copying c.world (event.Suspect n) (protocol.Refused f) c.world) (sym needs)
     (NeedsMemory free
     (record { x = x; there = there; said = sym (h.parts.winners x.generation) ∙ is })))
 loses_it state copied M records old c n fault hosts askings x (Some winner) h there is free (other, lost, same, are) =

@@ -6,7 +6,7 @@ use Rattle.clone_state.specs.Parts.{PartMessage}
 use Rattle.guest_lockstep.specs.Machine.{Machine}
 use Rattle.i8080_words.specs.declared.refusal.Fault.{Fault}
 use Rattle.pair_protocol.specs.Effects.{GotPart, Again, Comes, Completes}
-use Rattle.pair_protocol.specs.Event as event
+use Rattle.pair_protocol.specs.Reply as event
 use Rattle.pair_protocol.specs.Node.{Alone, Joining, Node, begun, gets_part}
 use Rattle.pair_protocol.specs.Refusals as refusals
 use Rattle.pair_protocol.specs.Settled.{list_of, count_in}

@@ -19,13 +19,12 @@ use Rattle.shared_disk.specs.Records.{faults_in, record_at}
 use Rattle.shared_disk.specs.declared.disk.SectorRead.{SectorRead}
 use Rattle.shared_disk.specs.declared.store.Record.{Record}
 use Rattle.pair_protocol.specs.Change.{Serving}
-use Rattle.pair_protocol.specs.Event as protocol
+use Rattle.pair_protocol.specs.Reply as protocol
 use Rattle.pair_protocol.specs.Node.{Alone, Node, Primary, Spare, acts_as, is_role}
-use Rattle.pair_protocol.specs.Event.{is_disk}
 use Rattle.pair_protocol.specs.Refusals.{at_node, fault_if, first_of, no_sector, get_refusal, refusal, serves}
-use Rattle.pair_protocol.specs.Row.{Accepts, DeviceFails, MayNeedMemory, NeedsMemory, Row}
+use Rattle.pair_protocol.specs.Row.{Accepts, DeviceFails, NeedsMemory, Row}
 use Rattle.pair_protocol.specs.Effects.{IsUnder}
-use Rattle.pair_protocol.specs.Rows.{Does, OfNode}
+use Rattle.pair_protocol.specs.Rows.{Does, is_disk, MayNeedMemory, OfNode}
 use Rattle.pair_protocol.specs.World as sent
 use Rattle.pair_protocol.specs.World.{World, sector_record, with_read}
 use Rattle.pair_protocol.proofs.Traces.Lists.{same_some}
@@ -37,7 +36,7 @@ use Rattle.ft_world.specs.Devices.{GetsSector}
 use Rattle.ft_world.specs.Running.{Running}
 use Rattle.ft_world.specs.Shows.{AreMessages, IsDisk}
 use Rattle.ft_world.specs.Standing.{Course, machine_of}
-use Rattle.ft_world.specs.Words.{IsRead, event_of, reply_of}
+use Rattle.ft_world.specs.Words.{IsRead, reply_of}
 use Rattle.pair_events.specs.declared.event.Event.{Event}
 use Rattle.pair_events.specs.declared.event.Event.TheVariants as event
 use Rattle.ft_world.specs.declared.message.Message.{Message}
@@ -172,10 +171,10 @@ stands_at state copied M records old c n sector address h low a =
 pub disk_answers : {B H D S : Type 0} (state : B → S) (copied : B → Guest) (M : Machine S) (records : D → List Record)
     (old : Running B H D) (c : Course S) (e : Event) (address : SectorAddress) (answer : Result Reply Fault)
     (ms : List Message) (disk : D) → (h : Shows state copied M records old c) →
-    IsTrue (has_sector h.drives address) → refusal (machine_of M c) c.copying c.world (event_of e) ≡ None →
-    MayNeedMemory (machine_of M c) c.world (event_of e) → IsTrue (is_disk (event_of e)) →
+    IsTrue (has_sector h.drives address) → refusal (machine_of M c) c.copying c.world e ≡ None →
+    MayNeedMemory (machine_of M c) c.world e → IsTrue (is_disk e) →
     ((r : protocol.Reply) → r ≡ protocol.MessageIs (length c.world.messages) →
-    Does (machine_of M c) c.copying c.world (event_of e) r (with_read (machine_of M c) c.world address)) →
+    Does (machine_of M c) c.copying c.world e r (with_read (machine_of M c) c.world address)) →
     GetsSector old.messages (records old.disk) address answer ms (records disk) →
     Applies state copied M records c e answer (record old { messages = ms; disk = disk })
 disk_answers state copied M records old c e address (Ok r) ms disk h there free needs asks does
@@ -207,7 +206,7 @@ disk_answers state copied M records old c e address (Ok r) ms disk h there free 
 disk_answers state copied M records old c e address (Err fault) ms disk h there free needs asks does (why, same, after) =
     let N = machine_of M c in
     let met = h.parts.disk.there address there in
-    let refused = λ (f : Fault). Row N c.copying c.world (event_of e) (protocol.Refused f) c.world in
+    let refused = λ (f : Fault). Row N c.copying c.world e (protocol.Refused f) c.world in
     let row : refused fault = elim why [
       | inl is ↦ subst refused (sym is) (NeedsMemory free needs)
       | inr is ↦ subst refused (sym (not_put (records old.disk) address met.0 fault met.1 is)) (DeviceFails free asks)

@@ -4,7 +4,7 @@ use Rattle.std.specs.Prelude.{map}
 use Rattle.guest_lockstep.specs.Machine.{Machine}
 use Rattle.pair_protocol.specs.Change.{Changes, Reached, Stays}
 use Rattle.pair_protocol.specs.Copying.{Copying, IsCopying}
-use Rattle.pair_protocol.specs.Event as protocol
+use Rattle.pair_protocol.specs.Reply as protocol
 use Rattle.pair_protocol.specs.Grows.{Grows}
 use Rattle.pair_protocol.specs.Lawful.{Lawful}
 use Rattle.pair_protocol.specs.World.{World}
@@ -12,11 +12,10 @@ use Rattle.pair_protocol.proofs.Passed.{changes-append}
 use Rattle.pair_protocol.proofs.Promises.Growth.{changes_grow}
 use Rattle.pair_protocol.proofs.RowActions.{row_changes}
 use Rattle.ft_world.specs.Applies.{First, Nothing, Rows}
-use Rattle.ft_world.specs.Words.{event_of}
 use Rattle.pair_events.specs.declared.event.Event.{Event}
 
 -- rows are actions
-rows_changes : {S : Type 0} (M : Machine S) (C : Copying S) (w new : World S) (events : List protocol.Event)
+rows_changes : {S : Type 0} (M : Machine S) (C : Copying S) (w new : World S) (events : List Event)
     (replies : List protocol.Reply) → Rows M C w events replies new → Changes M C w new
 rows_changes M C w new events replies Nothing = Stays
 rows_changes M C w new events replies (First {mid = v} {e = e} {events = es} {r = r} {replies = rs} row rest) =
@@ -24,7 +23,7 @@ rows_changes M C w new events replies (First {mid = v} {e = e} {events = es} {r 
 
 -- rows of events let what is settled grow
 pub rows_grow : {S : Type 0} (M : Machine S) (C : Copying S) → Lawful M → IsCopying M C → (w new : World S) (events : List Event)
-    (replies : List protocol.Reply) → Reached M C w → Rows M C w (map event_of events) replies new →
+    (replies : List protocol.Reply) → Reached M C w → Rows M C w events replies new →
     Grows M w new
 rows_grow M C laws copies w new events replies h rows =
-    changes_grow M C laws copies w new h (rows_changes M C w new (map event_of events) replies rows)
+    changes_grow M C laws copies w new h (rows_changes M C w new events replies rows)

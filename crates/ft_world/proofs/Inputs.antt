@@ -1,14 +1,17 @@
 -- A station takes an input: the input is appended to its inputs, at the count of its machine.
 use Rattle.pair_protocol.specs.Copying.{Copying}
-use Rattle.std.proofs.Common.{◌≡◌, ℕ, ◌∙◌, [], ◌∷◌, ◌++◌, Some, ap, inl, inr, refl, subst, sym}
+use Rattle.std.proofs.Common.{◌≡◌, ℕ, ◌∙◌, [], ◌∷◌, ◌++◌, Some, None, Result, Ok, Err, ap, inl, inr, refl, subst, sym}
+use Rattle.std.specs.Result.{IsErrAnd}
 use Rattle.guest_lockstep.specs.Machine.{Machine}
 use Rattle.guest_lockstep.specs.declared.input.Input.{Input}
 use Rattle.guest_lockstep.specs.Reach.{timed}
 use Rattle.guest_lockstep.specs.Recorded.{Counts}
+use Rattle.i8080_words.specs.declared.refusal.Fault.{Fault}
+use Rattle.i8080_words.specs.declared.refusal.Fault.TheVariants.{OutOfMemory}
 use Rattle.pair_protocol.specs.Change.{Serving}
 use Rattle.pair_protocol.specs.Effects.{Took, took}
 use Rattle.pair_protocol.specs.Node.{Node, Role, Primary, Backup, Joining, Draining, Alone, Spare}
-use Rattle.ft_node.specs.Calls.{Makes}
+use Rattle.ft_node.specs.Calls.{Call, Ever, Makes}
 use Rattle.ft_node.specs.Seats.{IsNode, MayAccept, board_of}
 use Rattle.ft_node.specs.declared.node.Node as code
 use Rattle.ft_node.specs.declared.node.Node.TheVariants as seat
@@ -73,3 +76,10 @@ accepts state M C drives i h new x counts may is made e c =
           took_station state M C drives i h new x made.y role
           (subst (Takes M i x) (sym t.after) (takes M i x t.s counts t.takes x.role role)) is made.after e c;
     }
+
+-- there is no room for an input
+pub no_room : {S : Type 0} (does : Unit {0} → Node S → Node S → Type 0) (x : Node S) (result : Result (Unit {0}) Fault)
+    (Is : Node S → Type 0) (fault : Fault) → IsErrAnd result (λ k. k ≡ fault) → fault ≡ OutOfMemory → Is x
+    → Call None Ever does x result Is
+no_room does x (Ok done) Is fault is memory stays = absurd is
+no_room does x (Err k) Is fault is memory stays = (is ∙ memory, (tt, stays))

@@ -11,7 +11,7 @@ use Rattle.pair_protocol.specs.Copying.{Copying}
 use Rattle.i8080_words.specs.declared.refusal.Fault.{Fault}
 use Rattle.i8080_words.specs.declared.refusal.Fault.TheVariants.{Unknown, WrongRole}
 use Rattle.shared_disk.specs.declared.store.Record.{Record}
-use Rattle.pair_protocol.specs.Event as protocol
+use Rattle.pair_protocol.specs.Reply as protocol
 use Rattle.pair_protocol.specs.Node.{Alone, Backup, Draining, Joining, Node, Primary, Role, Spare, begun, is_role, joiner}
 use Rattle.pair_protocol.specs.Refusals.{at_host, at_node, begin_pair_refusal, fault_if, first_of, pair_refusal}
 use Rattle.pair_protocol.specs.Row.{Accepts}

@@ -10,21 +10,21 @@ use Rattle.guest_lockstep.specs.Machine.{Machine}
 use Rattle.i8080_words.specs.declared.refusal.Fault.{Fault}
 use Rattle.shared_disk.specs.declared.store.Record.{Record}
 use Rattle.pair_protocol.specs.Copying.{Copying}
-use Rattle.pair_protocol.specs.Event as protocol
+use Rattle.pair_protocol.specs.Reply as protocol
 use Rattle.pair_protocol.specs.Row.{Row}
 use Rattle.pair_protocol.specs.World.{World}
 use Rattle.pair_protocol.proofs.Promises.Runs.{always_faithful}
 use Rattle.ft_world.specs.Applies.{Applies, First, Happens, Nothing, Rows, Runs, Shows, ShowsSome}
 use Rattle.ft_world.specs.Running.{Running}
 use Rattle.ft_world.specs.Standing.{Course, machine_of}
-use Rattle.ft_world.specs.Words.{answer_of, event_of}
+use Rattle.ft_world.specs.Words.{answer_of}
 use Rattle.pair_events.specs.declared.event.Event.{Event}
 use Rattle.pair_events.specs.declared.reply.Reply.{Reply}
 use Rattle.ft_world.proofs.Growing.{rows_grow}
 
 -- one more row at the end
-rows_then : {S : Type 0} (M : Machine S) (C : Copying S) (w mid new : World S) (events : List protocol.Event)
-    (replies : List protocol.Reply) (e : protocol.Event) (r : protocol.Reply) → Rows M C w events replies mid →
+rows_then : {S : Type 0} (M : Machine S) (C : Copying S) (w mid new : World S) (events : List Event)
+    (replies : List protocol.Reply) (e : Event) (r : protocol.Reply) → Rows M C w events replies mid →
     Row M C mid e r new → Rows M C w (events ++ e ∷ []) (replies ++ r ∷ []) new
 rows_then M C w mid new events replies e r Nothing row = First row Nothing
 rows_then M C w mid new events replies e r (First {mid = v} {events = es} {replies = rs} first rest) row =
@@ -66,13 +66,10 @@ runs_then {S = S} state copied M records start old new c events answers e answer
     a : Applies state copied M records (record c { world = so_far.after }) e answer new
     a = happens (record c { world = so_far.after }) so_far.shows
 
-    rows : Rows N c.copying c.world (map event_of (events ++ e ∷ [])) (map answer_of (answers ++ answer ∷ [])) a.after
-    rows = subst (λ rs. Rows N c.copying c.world (map event_of (events ++ e ∷ [])) rs a.after)
+    rows : Rows N c.copying c.world (events ++ e ∷ []) (map answer_of (answers ++ answer ∷ [])) a.after
+    rows = subst (λ rs. Rows N c.copying c.world (events ++ e ∷ []) rs a.after)
         (sym (map-append answer_of answers (answer ∷ [])))
-        (subst (λ es. Rows N c.copying c.world es (map answer_of answers ++ answer_of answer ∷ []) a.after)
-        (sym (map-append event_of events (e ∷ [])))
-        (rows_then N c.copying c.world so_far.after a.after (map event_of events) (map answer_of answers) (event_of e)
-        (answer_of answer) so_far.rows a.row))
+        (rows_then N c.copying c.world so_far.after a.after events (map answer_of answers) e (answer_of answer) so_far.rows a.row)
 
 -- the event at a place in a list has happened after those before it
 pub runs_on : {B H D S : Type 0} (state : B → S) (copied : B → Guest) (M : Machine S) (records : D → List Record)

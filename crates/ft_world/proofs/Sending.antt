@@ -12,11 +12,11 @@ use Rattle.i8080_words.specs.declared.refusal.Fault.{Fault}
 use Rattle.shared_disk.specs.declared.store.Record.{Record}
 use Rattle.log_channel.specs.declared.packet.Packet.TheVariants as packet
 use Rattle.log_channel.proofs.PacketLaws.{is_only}
-use Rattle.pair_protocol.specs.Event as protocol
+use Rattle.pair_protocol.specs.Reply as protocol
 use Rattle.pair_protocol.specs.Node.{Node, replay_told, told_by}
 use Rattle.pair_protocol.specs.Refusals.{acknowledge_refusal, refusal, send_refusal}
-use Rattle.pair_protocol.specs.Row.{Accepts, MayNeedMemory}
-use Rattle.pair_protocol.specs.Rows.{Does}
+use Rattle.pair_protocol.specs.Row.{Accepts}
+use Rattle.pair_protocol.specs.Rows.{Does, MayNeedMemory}
 use Rattle.pair_protocol.specs.World as sent
 use Rattle.pair_protocol.specs.World.{with_message}
 use Rattle.ft_node.specs.Calls.{Ever, IsSpelled, SendsEntry, reported_by}
@@ -27,7 +27,7 @@ use Rattle.ft_world.specs.Messages.{Says}
 use Rattle.ft_world.specs.Running.{Running}
 use Rattle.ft_world.specs.Shows.{AreMessages}
 use Rattle.ft_world.specs.Standing.{Course, machine_of}
-use Rattle.ft_world.specs.Words.{IsMessage, event_of, reply_of}
+use Rattle.ft_world.specs.Words.{IsMessage, reply_of}
 use Rattle.pair_events.specs.declared.event.Event.{Event}
 use Rattle.pair_events.specs.declared.event.Event.TheVariants as event
 use Rattle.ft_world.specs.declared.message.Message.{Message}
@@ -62,9 +62,9 @@ with_messages state copied M records drives old c ms ss p are = record {
 -- an event that sends a message
 pub says_applies : {B H D S : Type 0} (state : B → S) (copied : B → Guest) (M : Machine S) (records : D → List Record) (old : Running B H D)
     (c : Course S) (e : Event) (m : Message) (s : sent.Message) (answer : Result Reply Fault) (ms : List Message) →
-    Shows state copied M records old c → IsMessage m s → refusal (machine_of M c) c.copying c.world (event_of e) ≡ None →
-    MayNeedMemory (machine_of M c) c.world (event_of e) →
-    Does (machine_of M c) c.copying c.world (event_of e) (protocol.MessageIs (length c.world.messages))
+    Shows state copied M records old c → IsMessage m s → refusal (machine_of M c) c.copying c.world e ≡ None →
+    MayNeedMemory (machine_of M c) c.world e →
+    Does (machine_of M c) c.copying c.world e (protocol.MessageIs (length c.world.messages))
     (with_message c.world s) →
     Says old.messages m answer ms → Applies state copied M records c e answer (record old { messages = ms })
 says_applies state copied M records old c e m s (Ok r) ms h i free takes does (said, after) =
@@ -72,7 +72,7 @@ says_applies state copied M records old c e m s (Ok r) ms h i free takes does (s
     ap reply_of said ∙ ap protocol.MessageIs h.parts.messages.count in
     applies state copied M records old c e (Ok r) (with_message c.world s) (record old { messages = ms }) h
     (Accepts free
-    (subst (λ q. Does (machine_of M c) c.copying c.world (event_of e) q (with_message c.world s)) (sym is) does))
+    (subst (λ q. Does (machine_of M c) c.copying c.world e q (with_message c.world s)) (sym is) does))
     (with_messages state copied M records h.drives old c ms (c.world.messages ++ s ∷ []) h.parts
     (subst (λ l. AreMessages l (c.world.messages ++ s ∷ [])) (sym after)
     (messages_push old.messages c.world.messages m s h.parts.messages i)))

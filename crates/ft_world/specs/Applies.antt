@@ -10,7 +10,7 @@ use Rattle.shared_disk.specs.declared.disk.SectorRead.{SectorRead}
 use Rattle.shared_disk.specs.declared.store.Record.{Record}
 use Rattle.pair_protocol.specs.Change.{Reached}
 use Rattle.pair_protocol.specs.Copying.{Copying}
-use Rattle.pair_protocol.specs.Event as protocol
+use Rattle.pair_protocol.specs.Reply as protocol
 use Rattle.pair_protocol.specs.Faithful.{Faithful}
 use Rattle.pair_protocol.specs.Grows.{Grows}
 use Rattle.pair_protocol.specs.Row.{Row}
@@ -18,7 +18,7 @@ use Rattle.pair_protocol.specs.Settled.{highest}
 use Rattle.pair_protocol.specs.World.{World, sector_record}
 use Rattle.ft_world.specs.Shows.{AreHosts, AreMessages, AreTerminals, AreWinners, IsDisk, IsOnlyBackup}
 use Rattle.ft_world.specs.Standing.{Course, machine_of, IsMachine}
-use Rattle.ft_world.specs.Words.{event_of, answer_of, read_address}
+use Rattle.ft_world.specs.Words.{answer_of, read_address}
 use Rattle.pair_events.specs.declared.event.Event.{Event}
 use Rattle.pair_events.specs.declared.event.Event.TheVariants as event
 use Rattle.pair_events.specs.declared.reply.Reply.{Reply}
@@ -55,7 +55,7 @@ pub record ShowsSome {B H D S : Type 0} (state : B → S) (copied : B → Guest)
 pub record Applies {B H D S : Type 0} (state : B → S) (copied : B → Guest) (M : Machine S)
     (records : D → List Record) (c : Course S) (e : Event) (answer : Result Reply Fault) (new : Running B H D) : Type 0 where
   pub after : World S
-  pub row : Row (machine_of M c) c.copying c.world (event_of e) (answer_of answer) after
+  pub row : Row (machine_of M c) c.copying c.world e (answer_of answer) after
   pub shows : Shows state copied M records new (record c { world = after })
   pub faithful : Faithful (machine_of M c) after
   pub grows : Grows (machine_of M c) c.world after
@@ -83,10 +83,10 @@ failures_over (e ∷ events) (answer ∷ answers) = failures_told e answer + fai
 failures_over _ _ = 0
 
 -- rows of events, one after another; no host is added in between
-pub data Rows {S : Type 0} (M : Machine S) (C : Copying S) : World S → List protocol.Event → List protocol.Reply → World S
+pub data Rows {S : Type 0} (M : Machine S) (C : Copying S) : World S → List Event → List protocol.Reply → World S
     → Type 0 where
   Nothing : {w : World S} → Rows M C w [] [] w
-  First : {w mid new : World S} {e : protocol.Event} {events : List protocol.Event} {r : protocol.Reply}
+  First : {w mid new : World S} {e : Event} {events : List Event} {r : protocol.Reply}
       {replies : List protocol.Reply} → Row M C w e r mid → Rows M C mid events replies new →
       Rows M C w (e ∷ events) (r ∷ replies) new
 
@@ -95,7 +95,7 @@ pub data Rows {S : Type 0} (M : Machine S) (C : Copying S) : World S → List pr
 pub record Runs {B H D S : Type 0} (state : B → S) (copied : B → Guest) (M : Machine S)
     (records : D → List Record) (c : Course S) (events : List Event) (answers : List (Result Reply Fault)) (new : Running B H D) : Type 0 where
   pub after : World S
-  pub rows : Rows (machine_of M c) c.copying c.world (map event_of events) (map answer_of answers) after
+  pub rows : Rows (machine_of M c) c.copying c.world events (map answer_of answers) after
   pub each : length answers ≡ length events
   pub shows : Shows state copied M records new (record c { world = after })
   pub faithful : Faithful (machine_of M c) after

@@ -3,7 +3,7 @@ use Rattle.std.specs.Prelude.{Bool, true, false}
 use Rattle.pair_events.specs.declared.event.Event.{Event}
 use Rattle.pair_events.specs.declared.event.Event.TheVariants as event
 
--- a node runs, or sends or hears of the log
+-- a node runs or takes a key, sends or hears of the log, or goes on alone
 abbrev pub is_at_node : Event → Bool
 is_at_node (event.Step node turns) = true
 is_at_node (event.Send node index) = true
@@ -13,7 +13,7 @@ is_at_node (event.DeliverAcknowledgement message node) = true
 is_at_node (event.Replay node turns) = true
 is_at_node (event.Suspect node) = true
 is_at_node (event.Drain node turns) = true
-is_at_node (event.Stop node) = true
+is_at_node (event.TakeKey node port index) = true
 is_at_node _ = false
 
 -- a sector is read, or a machine is copied

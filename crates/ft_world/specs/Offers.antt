@@ -7,16 +7,16 @@ use Rattle.guest_lockstep.specs.Machine.{Machine}
 use Rattle.guest_lockstep.specs.declared.input.Input.{Input}
 use Rattle.guest_lockstep.specs.declared.input.Input.TheVariants as input
 use Rattle.i8080_words.specs.declared.refusal.Fault.{Fault}
-use Rattle.pair_protocol.specs.Event.{Taken}
+use Rattle.pair_protocol.specs.Reply.{Taken}
 use Rattle.pair_protocol.specs.Node.{Node}
 use Rattle.pair_protocol.specs.Refusals as refusals
 use Rattle.pair_protocol.specs.Refusals.{at_node, refusal}
-use Rattle.pair_protocol.specs.Row.{Leaves, MayNeedMemory}
-use Rattle.pair_protocol.specs.Rows.{Does, Takes}
+use Rattle.pair_protocol.specs.Row.{Leaves}
+use Rattle.pair_protocol.specs.Rows.{Does, MayNeedMemory, Takes}
 use Rattle.pair_protocol.specs.World.{World}
 use Rattle.pair_events.specs.declared.event.Event.{Event}
 use Rattle.ft_world.specs.Standing.{Course, machine_of}
-use Rattle.ft_world.specs.Words.{event_of, read_address}
+use Rattle.ft_world.specs.Words.{read_address}
 use Rattle.ft_world.specs.declared.offer.Offer.{Offer}
 use Rattle.ft_world.specs.declared.offer.Offer.TheVariants as offer
 
@@ -44,9 +44,9 @@ IsOffer (offer.Sector read) = (read.drive < DRIVES) × (read.sector < SECTORS)
 -- an event offers this input to the node of a number: it is refused as the node refuses the input, which may need memory;
 -- then the world stays; and if the node takes the input, that is what the event does
 pub record Offers {S : Type 0} (M : Machine S) (c : Course S) (n : ℕ) (o : Offer) (e : Event) : Type 0 where
-  pub refused : refusal (machine_of M c) c.copying c.world (event_of e)
+  pub refused : refusal (machine_of M c) c.copying c.world e
       ≡ at_node (slice_get c.world.nodes n) (offer_refusal M o)
-  pub memory : MayNeedMemory (machine_of M c) c.world (event_of e)
-  pub leaves : (fault : Fault) → Leaves c.world (event_of e) fault c.world
+  pub memory : MayNeedMemory (machine_of M c) c.world e
+  pub leaves : (fault : Fault) → Leaves c.world e fault c.world
   pub does : (new : World S) → Takes (machine_of M c) c.world n (input_of o) Taken new
-      → Does (machine_of M c) c.copying c.world (event_of e) Taken new
+      → Does (machine_of M c) c.copying c.world e Taken new

@@ -1,4 +1,4 @@
--- Events, replies and messages in the protocol's words.
+-- Replies and messages in the protocol's words.
 use Rattle.std.specs.Prelude.{◌≡◌, ℕ, ◌<◌, ◌^◌, List, Option, Some, unwrap_or, Result, Ok, Err}
 use Rattle.clone_state.specs.Image.{part_bytes}
 use Rattle.disk_dcdd.specs.declared.address.SectorAddress.{SectorAddress}
@@ -9,42 +9,12 @@ use Rattle.i8080_words.specs.declared.refusal.Fault.{Fault}
 use Rattle.log_channel.specs.Packet.{packet_at}
 use Rattle.log_channel.specs.declared.packet.Packet.TheVariants as packet
 use Rattle.shared_disk.specs.declared.disk.SectorRead.{SectorRead}
-use Rattle.pair_protocol.specs.Event as protocol
+use Rattle.pair_protocol.specs.Reply as protocol
 use Rattle.pair_protocol.specs.World as sent
-use Rattle.pair_events.specs.declared.event.Event.{Event}
-use Rattle.pair_events.specs.declared.event.Event.TheVariants as event
 use Rattle.ft_world.specs.declared.message.Message.{Message}
 use Rattle.ft_world.specs.declared.message.Message.TheVariants as message
 use Rattle.pair_events.specs.declared.reply.Reply.{Reply}
 use Rattle.pair_events.specs.declared.reply.Reply.TheVariants as reply
-
--- the event of the protocol that an event stands for
-abbrev pub event_of : Event → protocol.Event
-event_of (event.Step n turns) = protocol.Step n turns
-event_of (event.TypeByte port byte) = protocol.TypeByte port byte
-event_of (event.TakeKey n port index) = protocol.TakeKey n port index
-event_of (event.Send n index) = protocol.Send n index
-event_of (event.DeliverLog m n) = protocol.DeliverLog m n
-event_of (event.Acknowledge n) = protocol.Acknowledge n
-event_of (event.DeliverAcknowledgement m n) = protocol.DeliverAcknowledgement m n
-event_of (event.Replay n turns) = protocol.Replay n turns
-event_of (event.Release n name) = protocol.Release n name
-event_of (event.Arrive m) = protocol.Arrive m
-event_of (event.TellSent n port number) = protocol.TellSent n port number
-event_of (event.Told n port) = protocol.Told n port
-event_of (event.Put m) = protocol.Put m
-event_of (event.PutReply m n) = protocol.PutReply m n
-event_of (event.Get n sector) = protocol.Get n sector
-event_of (event.GetReply m n) = protocol.GetReply m n
-event_of (event.Suspect n) = protocol.Suspect n
-event_of (event.Drain n turns) = protocol.Drain n turns
-event_of (event.Stop n) = protocol.Stop n
-event_of (event.BeginPair n host) = protocol.BeginPair n host
-event_of (event.SendPart n index) = protocol.SendPart n index
-event_of (event.PartComes m n) = protocol.PartComes m n
-event_of (event.Freshen n pages) = protocol.Freshen n pages
-event_of (event.Fetch n) = protocol.Fetch n
-event_of (event.Fetched m n) = protocol.Fetched m n
 
 -- the reply of the protocol that an answer stands for
 abbrev pub reply_of : Reply → protocol.Reply

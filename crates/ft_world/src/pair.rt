@@ -84,12 +84,12 @@ impl<B: Copies<H> + Drop, D: SectorStore, H: Drop> Pair<B, D, H> {
             Event::Replay { node, turns } => self.replay(node, turns),
             Event::Suspect { node } => self.suspect(node),
             Event::Drain { node, turns } => self.drain(node, turns),
-            Event::Stop { node } => self.stop(node),
+            Event::TakeKey { node, port, index } => self.take_key(node, port, index),
             _ => self.apply_at_device(alloc, event),
         }
     }
 
-    // An event happens at a terminal or at the disk, or with the copy of a machine.
+    // A node halts, or an event happens at a terminal or at the disk, or with the copy of a machine.
     fn apply_at_device(&mut self, alloc: Global, event: Event) -> R<Reply>
         requires shown { ShowsSome B.state B.copied B.machine D.records (running_of self.old) }
         requires beyond { is_at_node event ≡ false }
@@ -97,8 +97,8 @@ impl<B: Copies<H> + Drop, D: SectorStore, H: Drop> Pair<B, D, H> {
             (running_of self.new) }
     {
         match event {
+            Event::Stop { node } => self.stop(node),
             Event::TypeByte { port, byte } => self.type_byte(port, byte),
-            Event::TakeKey { node, port, index } => self.take_key(node, port, index),
             Event::Release { node, id } => self.release(alloc, node, id),
             Event::Arrive { message } => self.arrive(message),
             Event::TellSent { node, port, number } => self.tell_sent(node, port, number),

@@ -74,20 +74,6 @@ impl<B: Copies<H> + Drop, H: Drop> Station<B, H> {
         Ok(ran)
     }
 
-    // A node takes an input that nothing refuses, once it is appended to the inputs. `OutOfMemory` if they have no room.
-    fn accept(&mut self, input: Input) -> R<()>
-        requires { MayAccept B.state B.machine self.old.node input }
-        ensures answer { (C : Copying B.State) (drives : ℕ) (x : protocol.Node B.State) → IsStation B.state B.machine C drives self.old x
-            → calls.Call None calls.Ever (λ done. Took B.machine input) x result
-            (IsStation B.state B.machine C drives self.new) }
-        ensures pages { OnOk result (PagesStay B.stale self.old.node self.new.node) }
-        ensures unchanged { OnErr result (self.new ≡ self.old) }
-    {
-        self.inputs.push(self.count, &input)?;
-        self.node.accept(input);
-        Ok(())
-    }
-
     // Whether a node takes an input that is offered: returns its refusal, and changes nothing.
     fn check(&self, offer: &Offer) -> R<()>
         requires { IsOffer offer.now }
@@ -110,7 +96,7 @@ impl<B: Copies<H> + Drop, H: Drop> Station<B, H> {
         }
     }
 
-    /// A node takes an input that an event offers.
+    /// A node takes an input that an event offers, once it is appended to the inputs. `OutOfMemory` if they have no room.
     pub(crate) fn take(&mut self, offer: &Offer) -> R<()>
         requires { IsOffer offer.now }
         ensures answer { (C : Copying B.State) (drives : ℕ) (x : protocol.Node B.State) → IsStation B.state B.machine C drives self.old x
@@ -120,7 +106,10 @@ impl<B: Copies<H> + Drop, H: Drop> Station<B, H> {
         ensures unchanged { OnErr result (self.new ≡ self.old) }
     {
         self.check(offer)?;
-        self.accept(offer.input())
+        let input = offer.input();
+        self.inputs.push(self.count, &input)?;
+        self.node.accept(input);
+        Ok(())
     }
 
     /// A node takes a packet of the log: true if its entry is the next one, and is now held; a repeat, or one past a

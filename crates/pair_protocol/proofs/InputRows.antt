@@ -5,7 +5,8 @@ use Rattle.pair_protocol.proofs.Words.{Acts, AloneTakes, Among, Change, Changes,
 use Rattle.guest_lockstep.specs.declared.input.Input.TheVariants as input
 use Rattle.i8080_words.specs.declared.refusal.Fault.TheVariants.{NotDue, Unknown, WrongNumber}
 use Rattle.pair_protocol.specs.Effects.{took}
-use Rattle.pair_protocol.specs.Event.{GetReply, PutReply, Reply, TakeKey, TellSent}
+use Rattle.pair_events.specs.declared.event.Event.TheVariants.{GetReply, PutReply, TakeKey, TellSent}
+use Rattle.pair_protocol.specs.Reply.{Reply}
 use Rattle.pair_protocol.specs.Refusals.{at_sector_read, at_write_done, fault_if, get_reply_refusal, is_number, not_accepted, not_typed, put_reply_refusal, refusal, serves, take_key_refusal, tell_sent_refusal}
 use Rattle.pair_protocol.specs.Rows.{Takes, TakesGetReply, TakesKey, TakesPutReply}
 use Rattle.pair_protocol.proofs.Keeps.Disk.{same_address-is}

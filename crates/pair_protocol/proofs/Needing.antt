@@ -10,10 +10,12 @@ use Rattle.guest_lockstep.specs.declared.replay_end.ReplayEnd.TheVariants as end
 use Rattle.i8080_words.specs.declared.refusal.Fault.TheVariants.{Lost, NotWhole, OutOfMemory, Unknown, WrongGeneration, WrongRole}
 use Rattle.i8080_words.specs.declared.refusal.Fault.{Fault}
 use Rattle.pair_protocol.specs.Effects.{AtEnd, AwaitsBytes, IsBehind, NoMemory, NoTurns, OneInput, OneMark, OneRead, OneStep, Replays, NeedsMoves, GotPart, Again, Comes, Completes, wanted}
-use Rattle.pair_protocol.specs.Event.{Accepted, Arrive, DeliverLog, Drain, Dropped, Event, New, Old, PartComes, Refused, Replay, Reply, Step, Suspect}
+use Rattle.pair_events.specs.declared.event.Event.{Event}
+use Rattle.pair_events.specs.declared.event.Event.TheVariants.{Arrive, DeliverLog, Drain, PartComes, Replay, Step, Suspect}
+use Rattle.pair_protocol.specs.Reply.{Accepted, Dropped, New, Old, Refused, Reply}
 use Rattle.pair_protocol.specs.Refusals.{ask_refusal, at_log_entry, at_node, at_part, byte_refusal, deliver_log_refusal, fault_if, first_of, is_other, part_comes_refusal, refusal, role_refusal, step_refusal, suspect_refusal}
-use Rattle.pair_protocol.specs.Row.{Accepts, DeviceFails, MayNeedMemory, Refuses, NeedsMemory}
-use Rattle.pair_protocol.specs.Rows.{Does, OfNode, drain_reply}
+use Rattle.pair_protocol.specs.Row.{Accepts, DeviceFails, Refuses, NeedsMemory}
+use Rattle.pair_protocol.specs.Rows.{Does, drain_reply, MayNeedMemory, OfNode}
 use Rattle.pair_protocol.specs.Needing.{NeedsNone}
 use Rattle.pair_protocol.proofs.Traces.Lists.{same_some}
 

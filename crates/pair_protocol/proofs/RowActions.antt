@@ -9,7 +9,9 @@ use Rattle.i8080_words.specs.declared.refusal.Fault.TheVariants.{Lost, NotCovere
 use Rattle.i8080_words.specs.declared.refusal.Fault.{Fault}
 use Rattle.pair_protocol.specs.Change.{Begins, Joins, ReadsSector, Wins}
 use Rattle.pair_protocol.specs.Effects.{Again, Comes, Completes, GotPart, Halted, Held, after_drain, next_read, replay_end, wanted, wanted_of}
-use Rattle.pair_protocol.specs.Event.{Acknowledge, Arrive, BeginPair, DeliverAcknowledgement, DeliverLog, Drain, Event, Fetch, Fetched, Freshen, Get, GetReply, PartComes, Put, PutReply, Release, Replay, Reply, Send, SendPart, Step, Stop, Suspect, TakeKey, TellSent, Told, TypeByte}
+use Rattle.pair_events.specs.declared.event.Event.{Event}
+use Rattle.pair_events.specs.declared.event.Event.TheVariants.{Acknowledge, Arrive, BeginPair, DeliverAcknowledgement, DeliverLog, Drain, Fetch, Fetched, Freshen, Get, GetReply, PartComes, Put, PutReply, Release, Replay, Send, SendPart, Step, Stop, Suspect, TakeKey, TellSent, Told, TypeByte}
+use Rattle.pair_protocol.specs.Reply.{Reply}
 use Rattle.pair_protocol.specs.Refusals.{acknowledge_refusal, ask_refusal, at_acknowledgement, at_fetched, at_host, at_log_entry, at_node, at_part, deliver_acknowledgement_refusal, deliver_log_refusal, drain_refusal, fault_if, fetched_refusal, first_of, generation_refusal, no_port, no_such, pair_refusal, part_comes_refusal, refusal, release_refusal, replay_refusal, role_refusal, send_part_refusal, send_refusal, serves, step_refusal, stop_refusal, suspect_refusal, told_refusal, unwanted}
 use Rattle.pair_protocol.specs.Row.{Accepts, DeviceFails, Leaves, Refuses, Row, NeedsMemory}
 use Rattle.pair_protocol.specs.Rows as row

@@ -2,7 +2,8 @@
 use Rattle.std.proofs.Common.{[], ◌∙◌, ◌∷◌, ◌≡◌, ◌⊎◌, Bool, None, Some, ap, cond, false, inl, inr, not, refl, sym, true, ℕ}
 use Rattle.pair_protocol.proofs.Words.{Copying, Joining, Machine, Node, Spare, World, is_role, winner_in}
 use Rattle.i8080_words.specs.declared.refusal.Fault.TheVariants.{Lost, NotWhole, OutOfMemory, Unknown, WrongRole}
-use Rattle.pair_protocol.specs.Event.{Refused, Reply, Suspect, Won}
+use Rattle.pair_events.specs.declared.event.Event.TheVariants.{Suspect}
+use Rattle.pair_protocol.specs.Reply.{Refused, Reply, Won}
 use Rattle.pair_protocol.specs.Refusals.{ask_refusal, at_node, fault_if, first_of, is_other, refusal}
 use Rattle.pair_protocol.specs.Row.{Accepts, DeviceFails, Refuses, Row, NeedsMemory}
 use Rattle.pair_protocol.specs.Survival.{MayWin}

@@ -16,7 +16,7 @@ use Rattle.i8080_words.specs.declared.refusal.Fault.TheVariants.{Spent, Idle, Ou
 use Rattle.log_entry.specs.Entries.{count_of, input_of, bare_of, read_of}
 use Rattle.log_entry.specs.declared.entry.Entry.{Entry}
 use Rattle.pair_protocol.specs.Copying.{Copying}
-use Rattle.pair_protocol.specs.Event.{Reply, New, Old, Whole}
+use Rattle.pair_protocol.specs.Reply.{Reply, New, Old, Whole}
 use Rattle.pair_protocol.specs.Node.{Node, Role, Primary, Backup, Joining, Draining, Alone, Spare, primary_steps, plainly_steps, primary_takes, alone_takes, holds, passes_mark, passes_input, passes_read, fetches, replay_told, hears, halts, goes_live, gets_part, joins, gathered, keys_covered}
 
 -- ---- moves of a machine

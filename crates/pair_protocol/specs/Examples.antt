@@ -19,7 +19,9 @@ use Rattle.i8080_words.specs.declared.refusal.Fault.TheVariants.{WrongRole, NotC
 use Rattle.log_entry.specs.declared.entry.Entry.TheVariants.{Mark, Read, Sector}
 use Rattle.pair_protocol.specs.Copying.{Copying}
 use Rattle.pair_protocol.specs.World.{World, Message, LogEntry, Acknowledgement, Released, WriteDone, SectorRead, opening, accepted}
-use Rattle.pair_protocol.specs.Event.{Event, Step, TypeByte, TakeKey, Send, DeliverLog, Acknowledge, DeliverAcknowledgement, Release, Arrive, Stop, Suspect, Drain, Put, PutReply, Get, GetReply, Fetch, Fetched, Replay, Reply, Ran, TypedAt, Taken, New, Accepted, Dropped, Won, Stopped, MessageIs, HeldIs, Moved, MovedAlone, Refused}
+use Rattle.pair_events.specs.declared.event.Event.{Event}
+use Rattle.pair_events.specs.declared.event.Event.TheVariants.{Step, TypeByte, TakeKey, Send, DeliverLog, Acknowledge, DeliverAcknowledgement, Release, Arrive, Stop, Suspect, Drain, Put, PutReply, Get, GetReply, Fetch, Fetched, Replay}
+use Rattle.pair_protocol.specs.Reply.{Reply, Ran, TypedAt, Taken, New, Accepted, Dropped, Won, Stopped, MessageIs, HeldIs, Moved, MovedAlone, Refused}
 use Rattle.pair_protocol.specs.Row.{Run}
 
 -- ---- a machine that sends a byte

@@ -9,7 +9,8 @@ use Rattle.pair_protocol.specs.NodeStands.{NodeStands}
 use Rattle.pair_protocol.specs.Settled.{highest}
 use Rattle.pair_protocol.specs.World.{World, opening}
 use Rattle.pair_protocol.specs.Change.{Changes, Reached}
-use Rattle.pair_protocol.specs.Event.{Event, Reply}
+use Rattle.pair_events.specs.declared.event.Event.{Event}
+use Rattle.pair_protocol.specs.Reply.{Reply}
 use Rattle.pair_protocol.specs.Row.{Row, Run}
 use Rattle.pair_protocol.specs.Faithful.{Faithful}
 use Rattle.pair_protocol.specs.Grows.{Grows}

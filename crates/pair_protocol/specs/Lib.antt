@@ -11,7 +11,7 @@ pub mod Grows
 -- What each event does: actions of single actors, events, their refusals, their rows.
 pub mod Copying
 pub mod Change
-pub mod Event
+pub mod Reply
 pub mod Refusals
 pub mod Effects
 pub mod Rows

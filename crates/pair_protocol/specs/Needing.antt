@@ -8,7 +8,9 @@ use Rattle.log_entry.specs.declared.entry.Entry.{Entry}
 use Rattle.pair_protocol.specs.Copying.{Copying}
 use Rattle.pair_protocol.specs.Node.{Node, gathered, gets_part}
 use Rattle.pair_protocol.specs.World.{World, LogEntry, ImagePart, Released, accepted, winner_in}
-use Rattle.pair_protocol.specs.Event.{Event, Step, DeliverLog, Replay, Arrive, Suspect, Drain, PartComes, Reply, Refused}
+use Rattle.pair_events.specs.declared.event.Event.{Event}
+use Rattle.pair_events.specs.declared.event.Event.TheVariants.{Step, DeliverLog, Replay, Arrive, Suspect, Drain, PartComes}
+use Rattle.pair_protocol.specs.Reply.{Reply, Refused}
 use Rattle.pair_protocol.specs.Effects.{IsBehind, Replays, wanted}
 use Rattle.pair_protocol.specs.Row.{Row}
 

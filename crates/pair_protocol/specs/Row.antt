@@ -1,61 +1,16 @@
--- One row: an event, its reply or refusal, and the world after it. And whole runs.
-use Rattle.std.specs.Prelude.{◌≡◌, ℕ, suc, ◌<◌, IsTrue, Some, None, List, [], ◌∷◌, length, slice_get}
-use Rattle.event_callbacks.specs.declared.operations.Operation.TheVariants.{Byte}
+-- A row: an event, its reply or refusal, and the world after it. And whole runs.
+use Rattle.std.specs.Prelude.{◌≡◌, ℕ, IsTrue, Some, None, List, [], ◌∷◌}
 use Rattle.guest_lockstep.specs.Machine.{Machine}
 use Rattle.i8080_words.specs.declared.refusal.Fault.{Fault}
 use Rattle.i8080_words.specs.declared.refusal.Fault.TheVariants.{Lost, DeviceFault, OutOfMemory}
-use Rattle.log_entry.specs.declared.entry.Entry.{Entry}
+use Rattle.pair_events.specs.declared.event.Event.{Event}
+use Rattle.pair_events.specs.declared.event.Event.TheVariants.{Suspect}
 use Rattle.pair_protocol.specs.Copying.{Copying}
-use Rattle.pair_protocol.specs.Effects.{Halted, NeedsEntry, NeedsMoves, NeedsPart}
-use Rattle.pair_protocol.specs.World.{World, LogEntry, ImagePart, Released, accepted, winner_in, with_host}
-use Rattle.pair_protocol.specs.Event.{Event, Step, DeliverLog, DeliverAcknowledgement, Replay, Arrive, Told, Stop, Suspect, Drain, PartComes, Fetched, Reply, Refused, is_disk}
+use Rattle.pair_protocol.specs.Effects.{Halted}
 use Rattle.pair_protocol.specs.Refusals.{refusal}
-use Rattle.pair_protocol.specs.Rows.{AtNode, OfNode, Does}
-
--- ---- which events may need memory
-
--- a packet brings the entry that its node holds next
-pub record BringsNext {S : Type 0} (w : World S) (m n : ℕ) : Type 0 where
-  pub generation : ℕ
-  pub index : ℕ
-  pub e : Entry
-  pub message : slice_get w.messages m ≡ Some (LogEntry generation index e)
-  pub next : OfNode w n (NeedsEntry index)
-
--- a byte arrives that its terminal accepts
-pub record BringsNextByte {S : Type 0} (w : World S) (m : ℕ) : Type 0 where
-  pub port : ℕ
-  pub number : ℕ
-  pub byte : ℕ
-  pub message : slice_get w.messages m ≡ Some (Released (Byte port number byte))
-  pub next : number ≡ suc (length (accepted w port))
-
--- a part arrives with which its node has all of them
-pub record BringsLastPart {S : Type 0} (w : World S) (m n : ℕ) : Type 0 where
-  pub generation : ℕ
-  pub index : ℕ
-  pub part : List ℕ
-  pub message : slice_get w.messages m ≡ Some (ImagePart generation index part)
-  pub last : OfNode w n (NeedsPart index part)
-
--- what holds if an event is answered with out of memory: never for no turns, for moves whose first is not a step, for a
--- repeat or a packet past a gap, for a byte that is dropped, for a part that is not the last one, or for a winner that asks
--- again
-abbrev pub MayNeedMemory : {S : Type 0} → Machine S → World S → Event → Type 0
-MayNeedMemory M w (Step n turns) = 0 < turns
-MayNeedMemory M w (DeliverLog m n) = BringsNext w m n
-MayNeedMemory M w (DeliverAcknowledgement m n) = ⊥
-MayNeedMemory M w (Replay n turns) = OfNode w n (NeedsMoves M turns)
-MayNeedMemory M w (Arrive m) = BringsNextByte w m
-MayNeedMemory M w (Told n port) = ⊥
-MayNeedMemory M w (Stop n) = ⊥
-MayNeedMemory M w (Suspect n) = OfNode w n (λ x. winner_in w.winners x.generation ≡ None)
-MayNeedMemory M w (Drain n turns) = OfNode w n (NeedsMoves M turns)
-MayNeedMemory M w (PartComes m n) = BringsLastPart w m n
-MayNeedMemory M w (Fetched m n) = ⊥
-MayNeedMemory M w e = Unit {0}
-
--- ---- the row
+use Rattle.pair_protocol.specs.Reply.{Reply, Refused}
+use Rattle.pair_protocol.specs.Rows.{AtNode, Does, MayNeedMemory, is_disk}
+use Rattle.pair_protocol.specs.World.{World, with_host}
 
 -- a node that asked the arbiter and lost is halted; any other refused event leaves the world as it was
 abbrev pub Leaves : {S : Type 0} → World S → Event → Fault → World S → Type 0

@@ -1,5 +1,6 @@
--- What an event that is not refused does: the old world, the reply and the new world, one relation for each row.
-use Rattle.std.specs.Prelude.{◌≡◌, ℕ, suc, Bool, nat_lt, if◌then◌else◌, ◌⊎◌, Some, None, List, length, slice_get}
+-- What an event that is not refused does: the old world, the reply and the new world, one relation for each row. And which events use
+-- the disk, or may need memory.
+use Rattle.std.specs.Prelude.{◌≡◌, ℕ, suc, ◌<◌, Bool, true, false, nat_lt, if◌then◌else◌, ◌⊎◌, Some, None, List, length, slice_get}
 use Rattle.disk_dcdd.specs.declared.address.SectorAddress.{SectorAddress}
 use Rattle.disk_dcdd.specs.declared.sector.SectorWrite.{SectorWrite}
 use Rattle.event_callbacks.specs.declared.operations.OpId.{OpId}
@@ -14,10 +15,12 @@ use Rattle.guest_lockstep.specs.declared.running.StopReason.{StopReason}
 use Rattle.log_entry.specs.declared.entry.Entry.{Entry}
 use Rattle.pair_protocol.specs.Copying.{Copying}
 use Rattle.pair_protocol.specs.Effects as effect
-use Rattle.pair_protocol.specs.Effects.{Stepped, Took, Held, Heard, Replayed, Drained, Halted, GotPart, HasEntry, HasHeld, HasOutstanding, HasCovered, IsUnder, Wants, HasPart}
+use Rattle.pair_protocol.specs.Effects.{Stepped, Took, Held, Heard, Replayed, Drained, Halted, GotPart, HasEntry, HasHeld, HasOutstanding, HasCovered, IsUnder, Wants, HasPart, NeedsEntry, NeedsMoves, NeedsPart}
 use Rattle.pair_protocol.specs.Node.{Node}
 use Rattle.pair_protocol.specs.World.{World, Message, LogEntry, Acknowledgement, ImagePart, Released, WriteDone, SectorRead, terminal, accepted, winner_in, with_node, with_message, with_key, with_arrival, with_told, with_winner, with_put, with_read, with_pair}
-use Rattle.pair_protocol.specs.Event.{Event, Step, TypeByte, TakeKey, Send, DeliverLog, Acknowledge, DeliverAcknowledgement, Replay, Release, Arrive, TellSent, Told, Stop, Suspect, Drain, Put, PutReply, Get, GetReply, BeginPair, SendPart, PartComes, Freshen, Fetch, Fetched, Reply, Ran, TypedAt, Taken, New, Old, Accepted, Dropped, Won, Stopped, MessageIs, HeldIs, Moved, MovedAlone, ToldIs, GenerationIs, StaleIs}
+use Rattle.pair_events.specs.declared.event.Event.{Event}
+use Rattle.pair_events.specs.declared.event.Event.TheVariants.{Step, TypeByte, TakeKey, Send, DeliverLog, Acknowledge, DeliverAcknowledgement, Replay, Release, Arrive, TellSent, Told, Stop, Suspect, Drain, Put, PutReply, Get, GetReply, BeginPair, SendPart, PartComes, Freshen, Fetch, Fetched}
+use Rattle.pair_protocol.specs.Reply.{Reply, Ran, TypedAt, Taken, New, Old, Accepted, Dropped, Won, Stopped, MessageIs, HeldIs, Moved, MovedAlone, ToldIs, GenerationIs, StaleIs}
 
 -- the node of a number becomes another one
 pub record AtNode {S : Type 0} (w : World S) (n : ℕ) (does : Node S → Node S → Type 0) (new : World S) : Type 0 where
@@ -240,3 +243,53 @@ Does M C w (PartComes m n) r new = GetsPart C w m n r new
 Does M C w (Freshen n pages) r new = Freshens w n r new
 Does M C w (Fetch n) r new = Fetches M w n r new
 Does M C w (Fetched m n) r new = TakesFetched w m n r new
+
+-- the events that use the disk
+abbrev pub is_disk : Event → Bool
+is_disk (Put m) = true
+is_disk (Get n sector) = true
+is_disk (Fetch n) = true
+is_disk e = false
+
+-- ---- which events may need memory
+
+-- a packet brings the entry that its node holds next
+pub record BringsNext {S : Type 0} (w : World S) (m n : ℕ) : Type 0 where
+  pub generation : ℕ
+  pub index : ℕ
+  pub e : Entry
+  pub message : slice_get w.messages m ≡ Some (LogEntry generation index e)
+  pub next : OfNode w n (NeedsEntry index)
+
+-- a byte arrives that its terminal accepts
+pub record BringsNextByte {S : Type 0} (w : World S) (m : ℕ) : Type 0 where
+  pub port : ℕ
+  pub number : ℕ
+  pub byte : ℕ
+  pub message : slice_get w.messages m ≡ Some (Released (Byte port number byte))
+  pub next : number ≡ suc (length (accepted w port))
+
+-- a part arrives with which its node has all of them
+pub record BringsLastPart {S : Type 0} (w : World S) (m n : ℕ) : Type 0 where
+  pub generation : ℕ
+  pub index : ℕ
+  pub part : List ℕ
+  pub message : slice_get w.messages m ≡ Some (ImagePart generation index part)
+  pub last : OfNode w n (NeedsPart index part)
+
+-- what holds if an event is answered with out of memory: never for no turns, for moves whose first is not a step, for a
+-- repeat or a packet past a gap, for a byte that is dropped, for a part that is not the last one, or for a winner that asks
+-- again
+abbrev pub MayNeedMemory : {S : Type 0} → Machine S → World S → Event → Type 0
+MayNeedMemory M w (Step n turns) = 0 < turns
+MayNeedMemory M w (DeliverLog m n) = BringsNext w m n
+MayNeedMemory M w (DeliverAcknowledgement m n) = ⊥
+MayNeedMemory M w (Replay n turns) = OfNode w n (NeedsMoves M turns)
+MayNeedMemory M w (Arrive m) = BringsNextByte w m
+MayNeedMemory M w (Told n port) = ⊥
+MayNeedMemory M w (Stop n) = ⊥
+MayNeedMemory M w (Suspect n) = OfNode w n (λ x. winner_in w.winners x.generation ≡ None)
+MayNeedMemory M w (Drain n turns) = OfNode w n (NeedsMoves M turns)
+MayNeedMemory M w (PartComes m n) = BringsLastPart w m n
+MayNeedMemory M w (Fetched m n) = ⊥
+MayNeedMemory M w e = Unit {0}

@@ -5,7 +5,8 @@ use Rattle.i8080_words.specs.declared.refusal.Fault.TheVariants.{OutOfMemory}
 use Rattle.pair_protocol.specs.Copying.{Copying}
 use Rattle.pair_protocol.specs.Node.{Node, Joining, Spare}
 use Rattle.pair_protocol.specs.World.{World, winner_in}
-use Rattle.pair_protocol.specs.Event.{Suspect, Reply, Won, Refused}
+use Rattle.pair_events.specs.declared.event.Event.TheVariants.{Suspect}
+use Rattle.pair_protocol.specs.Reply.{Reply, Won, Refused}
 use Rattle.pair_protocol.specs.Refusals.{refusal}
 use Rattle.pair_protocol.specs.Row.{Row}
 

@@ -7,7 +7,8 @@ use Rattle.i8080_words.specs.declared.refusal.Fault.TheVariants.{BadAck}
 use Rattle.pair_protocol.specs.Node.{Node, hears, holds}
 use Rattle.pair_protocol.specs.Refusals.{fault_if, first_of, at_log_entry, at_node, at_acknowledgement, acknowledge_refusal}
 use Rattle.pair_protocol.specs.World.{World, LogEntry, Acknowledgement, with_node}
-use Rattle.pair_protocol.specs.Event.{DeliverLog, Acknowledge, DeliverAcknowledgement, MessageIs, HeldIs, New, Old}
+use Rattle.pair_events.specs.declared.event.Event.TheVariants.{DeliverLog, Acknowledge, DeliverAcknowledgement}
+use Rattle.pair_protocol.specs.Reply.{MessageIs, HeldIs, New, Old}
 use Rattle.pair_protocol.specs.Row.{Accepts}
 use Rattle.pair_protocol.proofs.OneNode.{with_same}
 use Rattle.pair_rule.specs.Law.{SeeEvents}

@@ -23,7 +23,9 @@ use Rattle.pair_protocol.specs.Lawful.{Among, IsDone, top, Lawful}
 use Rattle.pair_protocol.specs.Copying.{Copying}
 use Rattle.pair_protocol.specs.Node.{Node, Primary, primary_takes, notes_after}
 use Rattle.pair_protocol.specs.World.{World, Message, LogEntry, WriteDone, with_node, with_message, SectorRead, terminal, accepted, sector_record, with_read}
-use Rattle.pair_protocol.specs.Event.{Event, Step, Send, TakeKey, TellSent, PutReply, Get, GetReply, Taken, Reply, Ran, MessageIs}
+use Rattle.pair_events.specs.declared.event.Event.{Event}
+use Rattle.pair_events.specs.declared.event.Event.TheVariants.{Step, Send, TakeKey, TellSent, PutReply, Get, GetReply}
+use Rattle.pair_protocol.specs.Reply.{Taken, Reply, Ran, MessageIs}
 use Rattle.guest_lockstep.specs.declared.running.StopReason.{StopReason}
 use Rattle.guest_lockstep.specs.declared.running.StopReason.TheVariants as reason
 use Rattle.pair_protocol.specs.Row.{Accepts}

@@ -6,7 +6,8 @@ use Rattle.i8080_words.specs.declared.refusal.Fault.TheVariants.{Lost}
 use Rattle.pair_protocol.specs.Node.{Node, halts, wins}
 use Rattle.pair_protocol.specs.Refusals.{fault_if, first_of, at_node, ask_refusal, is_other}
 use Rattle.pair_protocol.specs.World.{World, with_node, with_winner, Winner, winner_in}
-use Rattle.pair_protocol.specs.Event.{Suspect, Won, Refused}
+use Rattle.pair_events.specs.declared.event.Event.TheVariants.{Suspect}
+use Rattle.pair_protocol.specs.Reply.{Won, Refused}
 use Rattle.pair_protocol.specs.Row.{Row, Accepts, Refuses}
 use Rattle.pair_rule.specs.Shown.{First, Nothing}
 use Rattle.pair_rule.specs.declared.view.Knowledge.{Knowledge}

@@ -5,7 +5,9 @@ use Rattle.guest_lockstep.specs.declared.reads.Reads.TheVariants.{Logged}
 use Rattle.pair_protocol.specs.Lawful.{Lawful}
 use Rattle.pair_protocol.specs.Change.{AtBoot}
 use Rattle.pair_protocol.specs.Copying.{Copying}
-use Rattle.pair_protocol.specs.Event.{Event, Reply, TypeByte, TypedAt}
+use Rattle.pair_events.specs.declared.event.Event.{Event}
+use Rattle.pair_events.specs.declared.event.Event.TheVariants.{TypeByte}
+use Rattle.pair_protocol.specs.Reply.{Reply, TypedAt}
 use Rattle.pair_protocol.specs.Laws.{RowIsChanges, ChangesReach}
 use Rattle.pair_protocol.specs.Row.{Accepts}
 use Rattle.pair_protocol.specs.World.{World, opening}

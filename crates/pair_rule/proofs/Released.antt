@@ -12,7 +12,8 @@ use Rattle.i8080_words.specs.declared.refusal.Fault.TheVariants.{NotDue, NotCove
 use Rattle.pair_protocol.specs.Node.{Node, note_of, covers}
 use Rattle.pair_protocol.specs.Refusals.{fault_if, first_of, byte_refusal, write_refusal, at_node, release_refusal, no_such}
 use Rattle.pair_protocol.specs.World.{World, Message, Released, Terminal, WriteDone, with_arrival, with_put, with_message, accepted, terminal_in}
-use Rattle.pair_protocol.specs.Event.{Release, Arrive, Put, MessageIs, Accepted, Dropped}
+use Rattle.pair_events.specs.declared.event.Event.TheVariants.{Release, Arrive, Put}
+use Rattle.pair_protocol.specs.Reply.{MessageIs, Accepted, Dropped}
 use Rattle.pair_protocol.specs.Row.{Accepts}
 use Rattle.pair_rule.specs.Shown.{IsAcknowledged, Happens, First, Nothing}
 use Rattle.pair_rule.specs.declared.view.Arrived.{Arrived}

@@ -7,7 +7,8 @@ use Rattle.pair_protocol.specs.Change.{Reached}
 use Rattle.pair_protocol.specs.Copying.{Copying, IsCopying}
 use Rattle.pair_protocol.specs.Faithful.{Faithful, IsAllBut, IsPrefix, MayHave}
 use Rattle.pair_protocol.specs.Laws.{RowIsChanges, ChangesReach, ReachedIsFaithful, ReachedGrows}
-use Rattle.pair_protocol.specs.Event.{Event, Reply}
+use Rattle.pair_events.specs.declared.event.Event.{Event}
+use Rattle.pair_protocol.specs.Reply.{Reply}
 use Rattle.guest_lockstep.specs.declared.reads.Reads.TheVariants.{Logged}
 use Rattle.pair_protocol.specs.World.{World, opening, accepted_in, sector_record, terminal_in}
 use Rattle.pair_rule.specs.declared.view.Knowledge.{Knowledge}

@@ -16,7 +16,9 @@ use Rattle.guest_lockstep.specs.Reach.{keys, acceptances}
 use Rattle.shared_disk.specs.declared.disk.SectorRead.{SectorRead}
 use Rattle.pair_protocol.specs.Change.{Reached}
 use Rattle.pair_protocol.specs.Copying.{Copying, IsCopying}
-use Rattle.pair_protocol.specs.Event.{Event, Reply, Step, TakeKey, Send, DeliverLog, Acknowledge, DeliverAcknowledgement, Release, Arrive, TellSent, Suspect, Put, PutReply, Get, GetReply}
+use Rattle.pair_events.specs.declared.event.Event.{Event}
+use Rattle.pair_events.specs.declared.event.Event.TheVariants.{Step, TakeKey, Send, DeliverLog, Acknowledge, DeliverAcknowledgement, Release, Arrive, TellSent, Suspect, Put, PutReply, Get, GetReply}
+use Rattle.pair_protocol.specs.Reply.{Reply}
 use Rattle.pair_protocol.specs.Faithful.{Faithful, IsPrefix}
 use Rattle.pair_protocol.specs.Grows.{Grows}
 use Rattle.pair_protocol.specs.Lawful.{Among, Lawful, top}

@@ -11,7 +11,8 @@ use Rattle.guest_lockstep.specs.Reach.{operations}
 use Rattle.shared_disk.specs.declared.disk.SectorRead as disk
 use Rattle.pair_protocol.specs.Lawful.{Among, IsDone}
 use Rattle.pair_protocol.specs.Copying.{Copying}
-use Rattle.pair_protocol.specs.Event.{Event, Reply}
+use Rattle.pair_events.specs.declared.event.Event.{Event}
+use Rattle.pair_protocol.specs.Reply.{Reply}
 use Rattle.pair_protocol.specs.Row.{Row}
 use Rattle.pair_protocol.specs.Node.{Node, Note, Role, Primary, Backup, Draining, Alone, blank, notes_after}
 use Rattle.pair_protocol.specs.World.{World, Message, LogEntry, Acknowledgement, ImagePart, Released, WriteDone, SectorRead, Terminal, Arrival, Winner}

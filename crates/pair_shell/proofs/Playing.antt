@@ -9,13 +9,13 @@ use Rattle.i8080_words.specs.declared.refusal.Fault.{Fault}
 use Rattle.pair_events.specs.declared.event.Event.{Event}
 use Rattle.pair_events.specs.declared.reply.Reply.{Reply}
 use Rattle.pair_protocol.specs.Copying.{Copying}
-use Rattle.pair_protocol.specs.Event as protocol
+use Rattle.pair_protocol.specs.Reply as protocol
 use Rattle.pair_protocol.specs.Row.{Row}
 use Rattle.pair_protocol.specs.World.{World}
 use Rattle.ft_world.specs.Applies.{Applies, First, Happens, Nothing, Rows, Runs, Shows}
 use Rattle.ft_world.specs.Running.{Running}
 use Rattle.ft_world.specs.Standing.{machine_of}
-use Rattle.ft_world.specs.Words.{answer_of, event_of}
+use Rattle.ft_world.specs.Words.{answer_of}
 use Rattle.ft_world.proofs.Growing.{rows_grow}
 use Rattle.ft_world.proofs.Running.{runs_begin}
 use Rattle.shared_disk.specs.Failing.{Disk, records_in}
@@ -27,8 +27,8 @@ use Rattle.shell_book.specs.Tapes.{played}
 use Rattle.shell_book.specs.declared.tape.Played.{Played}
 
 -- one more row at the end
-rows_then : {S : Type 0} (M : Machine S) (C : Copying S) (w mid new : World S) (events : List protocol.Event)
-    (replies : List protocol.Reply) (e : protocol.Event) (r : protocol.Reply) → Rows M C w events replies mid →
+rows_then : {S : Type 0} (M : Machine S) (C : Copying S) (w mid new : World S) (events : List Event)
+    (replies : List protocol.Reply) (e : Event) (r : protocol.Reply) → Rows M C w events replies mid →
     Row M C mid e r new → Rows M C w (events ++ e ∷ []) (replies ++ r ∷ []) new
 rows_then M C w mid new events replies e r Nothing row = First row Nothing
 rows_then M C w mid new events replies e r (First {mid = v} {events = es} {replies = rs} first rest) row =
@@ -69,22 +69,20 @@ plays_then {S = S} state copied M old mid new tape one before happens c shows = 
     a = happens (record c { world = so_far.after })
         (records_show state copied M mid (record c { world = so_far.after }) so_far.shows)
 
-    events : map event_of (events_of (tape ++ one ∷ [])) ≡ map event_of (events_of tape) ++ event_of one.event ∷ []
-    events = ap (map event_of) (map-append (λ (p : Played). p.event) tape (one ∷ []))
-        ∙ map-append event_of (events_of tape) (one.event ∷ [])
+    events : events_of (tape ++ one ∷ []) ≡ events_of tape ++ one.event ∷ []
+    events = map-append (λ (p : Played). p.event) tape (one ∷ [])
 
     answers : map answer_of (answers_of (tape ++ one ∷ []))
         ≡ map answer_of (answers_of tape) ++ answer_of one.answer ∷ []
     answers = ap (map answer_of) (map-append (λ (p : Played). p.answer) tape (one ∷ []))
         ∙ map-append answer_of (answers_of tape) (one.answer ∷ [])
 
-    rows : Rows N c.copying c.world (map event_of (events_of (tape ++ one ∷ [])))
-        (map answer_of (answers_of (tape ++ one ∷ []))) a.after
-    rows = subst (λ rs. Rows N c.copying c.world (map event_of (events_of (tape ++ one ∷ []))) rs a.after) (sym answers)
+    rows : Rows N c.copying c.world (events_of (tape ++ one ∷ [])) (map answer_of (answers_of (tape ++ one ∷ []))) a.after
+    rows = subst (λ rs. Rows N c.copying c.world (events_of (tape ++ one ∷ [])) rs a.after) (sym answers)
         (subst (λ es. Rows N c.copying c.world es (map answer_of (answers_of tape) ++ answer_of one.answer ∷ []) a.after)
         (sym events)
-        (rows_then N c.copying c.world so_far.after a.after (map event_of (events_of tape)) (map answer_of (answers_of tape))
-        (event_of one.event) (answer_of one.answer) so_far.rows a.row))
+        (rows_then N c.copying c.world so_far.after a.after (events_of tape) (map answer_of (answers_of tape)) one.event
+        (answer_of one.answer) so_far.rows a.row))
 
 -- the same for the tape as it is kept
 pub lengthens : {B H S : Type 0} (state : B → S) (copied : B → Guest) (M : Machine S) (old new : Running B H Disk)

@@ -9,7 +9,7 @@ use Rattle.guest_parts.specs.Guest.{Guest}
 use Rattle.ft_world.specs.Applies.{Rows}
 use Rattle.ft_world.specs.Beginning.{beginning}
 use Rattle.ft_world.specs.Standing.{Course, machine_of}
-use Rattle.ft_world.specs.Words.{answer_of, event_of}
+use Rattle.ft_world.specs.Words.{answer_of}
 use Rattle.pair_protocol.specs.World.{World}
 use Rattle.pair_setup.specs.Booting.{HostsCome}
 use Rattle.pair_shell.specs.Looking.{look_rows}
@@ -63,8 +63,7 @@ pub record Boots (opening : Opening) (booted : Course Guest) : Type 0 where
 -- the events of a tape have happened in a pair, each by its row and with its answer, and nothing else has changed it
 pub record Passes (old : Course Guest) (tape : List Played) (new : Course Guest) : Type 0 where
   pub after : World Guest
-  pub rows : Rows (machine_of some_altair old) old.copying old.world (map event_of (events_of tape))
-      (map answer_of (answers_of tape)) after
+  pub rows : Rows (machine_of some_altair old) old.copying old.world (events_of tape) (map answer_of (answers_of tape)) after
   pub is : new ≡ record old { world = after }
 
 -- the same in a session, whose pair boots as its setup says if it has not yet

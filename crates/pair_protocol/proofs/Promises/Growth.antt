@@ -4,7 +4,8 @@ use Rattle.std.proofs.Common.{[], ◌++◌, ◌∙◌, ◌∷◌, ◌≡◌, ◌
 use Rattle.std.specs.Prelude.{◌==◌, slice_get, slice_set}
 use Rattle.pair_protocol.proofs.Words.{Change, Changes, Copying, IsCopying, IsPrefix, Lawful, Machine, Node, Reached, Role, Settled, Settles, Spare, Stays, Then, Timed, Winner, World, highest, inputs, list_of, steps, winner_in, wins, with_winner, won_role}
 use Rattle.pair_protocol.specs.Change.{Wins}
-use Rattle.pair_protocol.specs.Event.{Event, Reply}
+use Rattle.pair_events.specs.declared.event.Event.{Event}
+use Rattle.pair_protocol.specs.Reply.{Reply}
 use Rattle.pair_protocol.specs.Grows.{Grows}
 use Rattle.pair_protocol.specs.Row.{Row}
 use Rattle.pair_protocol.proofs.Invariant.Acting.{Acting, BackupActs, BackupAtTop, BackupEarlier, PrimaryActs, PrimaryAtTop, PrimaryEarlier, acting}

@@ -2,7 +2,8 @@
 use Rattle.std.proofs.Common.{◌≡◌, List, ap, length, refl, suc}
 use Rattle.pair_protocol.proofs.Words.{After, AtBoot, Changes, Copying, Faithful, IsCopying, Lawful, Machine, Reached, Reads, Stays, Then, World, opening, with_host}
 use Rattle.pair_protocol.specs.Change.{HostComes}
-use Rattle.pair_protocol.specs.Event.{Event, Reply}
+use Rattle.pair_events.specs.declared.event.Event.{Event}
+use Rattle.pair_protocol.specs.Reply.{Reply}
 use Rattle.pair_protocol.specs.Row.{First, Nothing, Run}
 use Rattle.pair_protocol.proofs.Invariant.{Inv, Next}
 use Rattle.pair_protocol.proofs.Keeps.All.{keep}

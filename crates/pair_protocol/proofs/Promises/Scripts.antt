@@ -8,7 +8,9 @@ use Rattle.guest_lockstep.specs.declared.replay_end.ReplayEnd.TheVariants.{End, 
 use Rattle.guest_lockstep.specs.declared.running.StopReason.TheVariants as reason
 use Rattle.i8080_words.specs.declared.refusal.Fault.TheVariants.{WrongRole}
 use Rattle.pair_protocol.specs.Effects.{AtEnd, AwaitsBytes, Gives, Goes, NoneLeft, OneMark, OneRead, OneStep}
-use Rattle.pair_protocol.specs.Event.{Accepted, Acknowledge, Arrive, DeliverLog, Drain, Dropped, Event, MessageIs, MovedAlone, New, Ran, Refused, Release, Reply, Send, Step, Stop, Stopped, Suspect, TakeKey, TypeByte, TypedAt, Won}
+use Rattle.pair_events.specs.declared.event.Event.{Event}
+use Rattle.pair_events.specs.declared.event.Event.TheVariants.{Acknowledge, Arrive, DeliverLog, Drain, Release, Send, Step, Stop, Suspect, TakeKey, TypeByte}
+use Rattle.pair_protocol.specs.Reply.{Accepted, Dropped, MessageIs, MovedAlone, New, Ran, Refused, Reply, Stopped, TypedAt, Won}
 use Rattle.pair_protocol.specs.Examples.{SharesReads, TakesOver, WritesDisk, letter, sector_write, small, small_copying}
 use Rattle.pair_protocol.specs.Lawful.{top}
 use Rattle.pair_protocol.specs.Row.{Accepts, First, Nothing, Refuses, Run}

@@ -43,10 +43,10 @@ returns-in-Drain g c =
     let made = c.drain.ensures in
     rw c.in-Drain.is (with_the_disk made.row made.disk refl (refused_so c.drain.result _ made.unchanged) made.spares tt made.pages)
 
-pub returns-in-Stop : goal.returns-in-Stop
-returns-in-Stop g c =
-    let made = c.stop.ensures in
-    rw c.in-Stop.is (with_the_disk made.row made.disk refl (refused_so c.stop.result _ made.unchanged) made.spares tt made.pages)
+pub returns-in-TakeKey : goal.returns-in-TakeKey
+returns-in-TakeKey g c =
+    let made = c.take_key.ensures in
+    rw c.in-TakeKey.is (with_the_disk made.row made.disk refl (refused_so c.take_key.result _ made.unchanged) made.spares tt made.pages)
 
 pub returns-in_default : goal.returns-in_default
 returns-in_default g c = c.apply_at_device.ensures

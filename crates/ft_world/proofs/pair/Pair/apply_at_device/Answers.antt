@@ -3,15 +3,15 @@ use Rattle.std.proofs.Common.{refl}
 use Rattle.ft_world.proofs.PlainEvents.{refused_so, with_the_disk}
 use Rattle.ft_world.proofs.pair.Pair.apply_at_device.Goals as goal
 
+pub returns-in-Stop : goal.returns-in-Stop
+returns-in-Stop g c =
+    let made = c.stop.ensures in
+    rw c.in-Stop.is (with_the_disk made.row made.disk refl (refused_so c.stop.result _ made.unchanged) made.spares tt made.pages)
+
 pub returns-in-TypeByte : goal.returns-in-TypeByte
 returns-in-TypeByte g c =
     let made = c.type_byte.ensures in
     rw c.in-TypeByte.is (with_the_disk made.row made.disk refl (refused_so c.type_byte.result _ made.unchanged) made.spares tt made.pages)
-
-pub returns-in-TakeKey : goal.returns-in-TakeKey
-returns-in-TakeKey g c =
-    let made = c.take_key.ensures in
-    rw c.in-TakeKey.is (with_the_disk made.row made.disk refl (refused_so c.take_key.result _ made.unchanged) made.spares tt made.pages)
 
 pub returns-in-Release : goal.returns-in-Release
 returns-in-Release g c =
