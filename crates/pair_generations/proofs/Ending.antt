@@ -1,5 +1,5 @@
 -- The end of a generation is that of the machine that booted first, whether its copy is exact or not.
-use Rattle.std.proofs.Common.{◌≡◌, ℕ, ◌+◌, ◌<◌, ◌≤◌, inl, inr, true, false, List, [], ◌∷◌, ◌++◌, length, take, drop, Option, Some, None, sym, ap, subst, ◌∙◌, arith}
+use Rattle.std.proofs.Common.{◌≡◌, ℕ, ◌+◌, ◌<◌, ◌≤◌, inl, inr, Bool, true, false, List, [], ◌∷◌, ◌++◌, length, take, drop, Option, Some, None, sym, ap, subst, ◌∙◌, arith}
 use Rattle.std.specs.Prelude.{slice_index_or}
 use Rattle.guest_lockstep.specs.Machine.{Machine, Move}
 use Rattle.log_entry.specs.Entries.{last_count}
@@ -17,7 +17,7 @@ module _ {S : Type 0} (M : Machine S) (lawful : Lawful M) where
   at_its_own list front t is = subst (λ n. IsTraceOf M list n front t)
       (sym is.reach.count_is ∙ sym (lawful.counts front is.reach.last is.reach.runs) ∙ ap M.count is.ends) is
 
-  pub looser : (typed0 typed1 : List ℕ) (goes : Option Who) (primary backup : List Entry) (held : ℕ)
+  looser : (typed0 typed1 : List ℕ) (goes : Option Who) (primary backup : List Entry) (held : ℕ)
       (screens : List (List ℕ)) (records : List Record) (s t : S)
       → EndsBy M true typed0 typed1 goes primary backup held screens records s t
       → EndsBy M false typed0 typed1 goes primary backup held screens records s t
@@ -44,6 +44,15 @@ module _ {S : Type 0} (M : Machine S) (lawful : Lawful M) where
   looser typed0 typed1 (Some who.Link) primary backup held screens records s t ends = ends
   looser typed0 typed1 (Some who.Terminal) primary backup held screens records s t ends = ends
   looser typed0 typed1 (Some who.Disk) primary backup held screens records s t ends = ends
+
+  -- whether the copy is exact or not
+  pub loosely : (exact : Bool) (typed0 typed1 : List ℕ) (goes : Option Who) (primary backup : List Entry) (held : ℕ)
+      (screens : List (List ℕ)) (records : List Record) (s t : S)
+      → EndsBy M exact typed0 typed1 goes primary backup held screens records s t
+      → EndsBy M false typed0 typed1 goes primary backup held screens records s t
+  loosely false typed0 typed1 goes primary backup held screens records s t ends = ends
+  loosely true typed0 typed1 goes primary backup held screens records s t ends =
+      looser typed0 typed1 goes primary backup held screens records s t ends
 
 -- ---- the generations that are left
 

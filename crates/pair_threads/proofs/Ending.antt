@@ -115,11 +115,11 @@ no_other (suc (suc n)) other is = inr cc
 how_long : {T : Type 0} (v : Vec T Global) → vec_len v ≡ length v.items
 how_long v = omega (arith, v.ok.0)
 
--- a guest that has repeated the whole list is between no two entries
+-- a guest that has repeated the whole list is at its last entry, if it keeps the list; one that is to be exact does
 all_repeated : {B S : Type 0} (state : B → S) (N : Machine S) (exact : Bool) (boot : S) (b : BackupWorker B)
-    → IsAt state N exact boot b.guest → b.guest.replayed ≡ length b.guest.list.items
+    → IsAt state N exact boot b.guest → (exact ≡ true → b.plan.keeps ≡ true) → b.guest.replayed ≡ length b.guest.list.items
     → Repeats N exact boot b.guest.list.items false (state b.guest.board)
-all_repeated state N exact boot b at all = go b.guest.between refl
+all_repeated state N exact boot b at keeps all = go b.guest.between refl
   where
     whole : Repeats N exact boot b.guest.list.items b.guest.between (state b.guest.board)
     whole = subst (λ l. Repeats N exact boot l b.guest.between (state b.guest.board))
@@ -127,14 +127,17 @@ all_repeated state N exact boot b at all = go b.guest.between refl
 
     go : (between : Bool) → b.guest.between ≡ between → Repeats N exact boot b.guest.list.items false (state b.guest.board)
     go false is = subst (λ between. Repeats N exact boot b.guest.list.items between (state b.guest.board)) is whole
-    go true is = absurd (let a = b.guest.towards is in omega (arith, a, all))
+    go true is = record {
+      ran = whole.ran;
+      at = λ stands here. absurd (let a = b.guest.towards (b.keeps ∙ keeps stands) is in omega (arith, a, all));
+    }
 
 module _ {B S : Type 0} (state : B → S) (N : Machine S) (counts : Counts N) (laws : ComesAndGoes N) (exact : Bool) (boot : S)
     (first : List Record) (lawful : Lawful (booted_from N boot (bytes_in first))) (p : PrimaryWorker B) (b : BackupWorker B)
     (terminal : TerminalView) (disk : DiskView) (tail held winner : ℕ)
     (settled : Settled p.seat.core.known.primary b.seat.core.known.backup terminal disk tail held winner)
     (records : List Record) (leads : WorkerLeads state N boot p) (at : IsAt state N exact boot b.guest)
-    (store : IsStore (bytes_in first) records disk) (contested : Bool) (rests : contested ≡ false → IsAtRest state N p)
+    (keeps : exact ≡ true → b.plan.keeps ≡ true) (store : IsStore (bytes_in first) records disk) (contested : Bool) (rests : contested ≡ false → IsAtRest state N p)
     (repeated : (contested ≡ false) ⊎ (b.seat.core.known.backup.winner ≡ 2) → b.guest.replayed ≡ length b.guest.list.items) where
   abbrev M : Machine S
   M = booted_from N boot (bytes_in first)
@@ -155,7 +158,7 @@ module _ {B S : Type 0} (state : B → S) (N : Machine S) (counts : Counts N) (l
   repeats : b.guest.replayed ≡ length b.guest.list.items → Repeats M exact boot backup.list false (state b.guest.board)
   repeats all = subst (λ l. Repeats M exact boot l false (state b.guest.board)) b.same
       (repeats_there N boot (bytes_in first) exact boot b.guest.list.items false (state b.guest.board)
-      (all_repeated state N exact boot b at all))
+      (all_repeated state N exact boot b at keeps all))
 
   less0 : p.port0.accepted ≤ primary.counted0
   less0 = (let a = p.accepted.0 in let b = p.saw_counted.0 in omega (arith, a, b))

@@ -1,13 +1,17 @@
 -- The guest of a backup's worker: entries that arrive leave what it has repeated as it was; steps towards an entry keep it,
 -- and the entry's own move adds the entry.
 use Rattle.std.proofs.Common.{◌≡◌, ◌⊎◌, inl, inr, ℕ, suc, ◌+◌, ◌≤◌, Bool, true, false, Option, Some, None, Ok, Err, List, [], ◌∷◌, ◌++◌, length, take, refl, sym, ap, subst, ◌∙◌, arith}
-use Rattle.std.specs.Prelude.{is_some, slice_get}
+use Rattle.std.specs.Prelude.{is_some, nat_lt, slice_get}
+use Rattle.std.proofs.lemmas.Bool.{false≢true, true≢false}
 use Rattle.std.proofs.Math.Seq.{take-suc}
 use Rattle.std.proofs.lemmas.List.{take-append-le}
 use Rattle.std.proofs.lemmas.Option.{get_or_from_slice_get, slice_get_within}
 use Rattle.guest_lockstep.specs.Lockstep.{StepsUnless, step_refusal}
 use Rattle.guest_lockstep.specs.Machine.{Machine}
 use Rattle.guest_lockstep.specs.Recorded.{Counts}
+use Rattle.guest_lockstep.specs.Running.{AllTurns, Gives, IsRefused, Quiet, RunsOn}
+use Rattle.guest_lockstep.specs.declared.running.Stopped.{Stopped}
+use Rattle.guest_lockstep.proofs.QuietSteps.{quiet_count}
 use Rattle.i8080_words.specs.declared.refusal.Fault.{Fault}
 use Rattle.i8080_words.specs.declared.refusal.Fault.TheVariants.{OutOfMemory}
 use Rattle.log_entry.specs.Entries.{count_of, last_count}
@@ -19,7 +23,7 @@ use Rattle.replayer.proofs.FollowedEntries.{following_is_recording}
 use Rattle.pair_rule.specs.Seats.{Seat}
 use Rattle.pair_threads.specs.Asking.{AsksIn, HasAsked, MayAsk}
 use Rattle.pair_threads.proofs.Asking.{asks_so}
-use Rattle.pair_threads.specs.Repeating.{FollowsFor, GoesOn, IsAt, IsStuck, Repeats}
+use Rattle.pair_threads.specs.Repeating.{FollowsFor, GoesOn, IsAt, IsStuck, Repeats, ran_ahead}
 use Rattle.pair_threads.specs.declared.backup.BackupWorker.{BackupWorker}
 use Rattle.pair_threads.specs.declared.plan.Plan.{Plan}
 use Rattle.pair_threads.specs.declared.repeater.Repeater.{Repeater}
@@ -30,6 +34,26 @@ last_more count (x ∷ list) e = last_more (count_of x) list e
 
 pub at_first : {S : Type 0} (M : Machine S) (exact : Bool) (boot : S) → Repeats M exact boot [] false boot
 at_first M exact boot = record { ran = record { moves = []; runs = refl; entries_are = refl }; at = λ stands here. refl }
+
+-- whoever repeats a list exactly repeats it
+pub loosely : {S : Type 0} (M : Machine S) (exact : Bool) (boot s : S) (list : List Entry) (between : Bool)
+    → Repeats M exact boot list between s → Repeats M false boot list between s
+loosely M exact boot s list between r = record { ran = r.ran; at = λ stands here. absurd (false≢true stands) }
+
+-- a guest that runs past its last entry and gives no operation there makes quiet steps
+pub ran_quietly : {S : Type 0} (M : Machine S) (s t : S) (most : ℕ) (stopped : Stopped) (ran : Bool)
+    → RunsOn M s most stopped t → ran_ahead stopped.steps stopped.reason ≡ Ok ran → Quiet M s stopped.steps t
+ran_quietly M s t most _ ran (AllTurns q) is = q
+ran_quietly M s t most _ ran (Gives lt q allowed made) is = absurd cc
+ran_quietly M s t most _ ran (IsRefused lt q) is = q
+
+-- it has made some if its count has risen
+more_by : (n before after : ℕ) → after ≡ n + before → nat_lt 0 n ≡ nat_lt before after
+more_by n before after is = grind (arith, is)
+
+pub risen : {S : Type 0} (M : Machine S) → Counts M → (s t : S) (n : ℕ) → Quiet M s n t
+    → nat_lt 0 n ≡ nat_lt (M.count s) (M.count t)
+risen M counts s t n quiet = more_by n (M.count s) (M.count t) (quiet_count M s t n counts quiet)
 
 module _ {S : Type 0} (M : Machine S) (exact : Bool) (boot s : S) (list : List Entry) (between : Bool) where
   -- one more entry comes
@@ -46,6 +70,13 @@ module _ {S : Type 0} (M : Machine S) (exact : Bool) (boot s : S) (list : List E
           ran = (following_is_recording M counts boot s list r.ran).quietly n t follows.3;
           at = λ stands not_between. absurd cc;
         }
+
+    -- it makes steps past its last entry
+    pub runs_on : (n : ℕ) (t : S) → Repeats M exact boot list between s → Quiet M s n t → Repeats M exact boot list true t
+    runs_on n t r quiet = record {
+      ran = (following_is_recording M counts boot s list r.ran).quietly n t quiet;
+      at = λ stands not_between. absurd (true≢false not_between);
+    }
 
     pub reaches : (e : Entry) (t : S) → Repeats M exact boot list between s → Reaches M s e t
         → Repeats M exact boot (list ++ e ∷ []) false t

@@ -1,5 +1,5 @@
 -- What the turns of a backup are.
-use Rattle.std.specs.Prelude.{◌≡◌, ◌⊎◌, ◌||◌, not, ℕ, Bool, true, false, if◌then◌else◌, Option, is_some, option_map}
+use Rattle.std.specs.Prelude.{◌≡◌, ◌⊎◌, not, ℕ, Bool, true, false, if◌then◌else◌, Option, is_some, option_map}
 use Rattle.pair_rule.specs.declared.mailbox.Mailbox.TheVariants.{Inbox}
 use Rattle.pair_rule.specs.declared.payload.Packet.{Packet}
 use Rattle.pair_rule.specs.declared.payload.Payload.TheVariants.{Log}
@@ -18,25 +18,30 @@ next_chore Take = Hold
 next_chore Hold = Replay
 next_chore Replay = Take
 
--- a look into its box: it waits if it found no packet and has repeated all
-abbrev pub turn_of_take : Bool → Bool → Turn
-turn_of_take found all = if found || not all then Moved else Waits
+-- a turn that did nothing: if it has repeated all, it waits, or looks for something else at once
+abbrev pub turn_of_nothing : Bool → Bool → Turn
+turn_of_nothing waits all = if all then (if waits then Waits else Looks) else Moved
 
--- its other chores: if it has repeated all, it looks into its box at once
-abbrev pub turn_of_others : Bool → Turn
-turn_of_others all = if all then Looks else Moved
+-- it waits once in a rotation: after a look into its box, unless its guest is past its last entry, for then it may run on
+abbrev pub turn_of_take : Bool → Bool → Bool → Turn
+turn_of_take found past all = if found then Moved else turn_of_nothing (not past) all
+
+-- and then it waits after it has tried to run on; if it has run ahead, it moved
+abbrev pub turn_of_replay : Bool → Bool → Bool → Turn
+turn_of_replay ran past all = if ran then Moved else turn_of_nothing past all
 
 -- a look into its box, unless its guest is too far behind: then it goes on to repeat
-abbrev pub IsLook : Bool → Core → Core → Bool → Turn → Type 0
-IsLook true old new all turn = (new ≡ old) × (turn ≡ Looks)
-IsLook false old new all turn =
-    (found : Option Packet) × Empties Inbox (option_map Log found) old new × (turn ≡ turn_of_take (is_some found) all)
+abbrev pub IsLook : Bool → Bool → Core → Core → Bool → Turn → Type 0
+IsLook true past old new all turn = (new ≡ old) × (turn ≡ Looks)
+IsLook false past old new all turn =
+    (found : Option Packet) × Empties Inbox (option_map Log found) old new × (turn ≡ turn_of_take (is_some found) past all)
 
--- a turn by its chore, by whether its guest was too far behind, by what was found in the box, and by whether it has then repeated all
-abbrev pub IsTurnOf : Chore → Bool → Core → Core → Bool → Turn → Type 0
-IsTurnOf Take far old new all turn = IsLook far old new all turn
-IsTurnOf Hold far old new all turn = turn ≡ turn_of_others all
-IsTurnOf Replay far old new all turn = turn ≡ turn_of_others all
+-- a turn by its chore, by whether its guest was too far behind, and whether it ran ahead; by what was found in the box; and by whether
+-- its guest is then between two entries or past the last, and has repeated all
+abbrev pub IsTurnOf : Chore → Bool → Bool → Bool → Core → Core → Bool → Turn → Type 0
+IsTurnOf Take far ran past old new all turn = IsLook far past old new all turn
+IsTurnOf Hold far ran past old new all turn = turn ≡ turn_of_nothing false all
+IsTurnOf Replay far ran past old new all turn = turn ≡ turn_of_replay ran past all
 
 -- a turn in which it asks to go on alone: it moves if it has won, and is at its end if it has lost
 abbrev pub turn_of_asking : Bool → Turn

@@ -9,6 +9,7 @@ pub mod Fates
 pub mod Screens
 pub mod Showing
 pub mod Stores
+pub mod Lagging
 pub mod Repeating
 pub mod Keeping
 pub mod Leading

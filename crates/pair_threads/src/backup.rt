@@ -1,21 +1,20 @@
 //! The backup's worker: it takes packets, acknowledges its list, repeats its entries, and may go on alone.
-ghost use Rattle.std.specs.Prelude.{◌≡◌, ◌≢◌, ◌<◌, ◌≤◌, Bool, cond, if◌then◌else◌, min, [], false, true, length, is_some, option_map, Option, IfErr, IfOk, IsTrue, OnOk};
+ghost use Rattle.std.specs.Prelude.{◌≡◌, ◌≢◌, ◌<◌, ◌≤◌, Bool, cond, min, [], false, true, length, is_some, option_map, Option, IfErr, IfOk, IsTrue, OnOk};
 ghost use Rattle.pair_rule.specs.declared.mailbox.Mailbox.TheVariants.{Inbox};
 ghost use Rattle.pair_rule.specs.declared.payload.Packet.{Packet};
 ghost use Rattle.pair_rule.specs.declared.payload.Payload.TheVariants.{Log};
 ghost use Rattle.pair_rule.specs.declared.view.Core.{Core};
 ghost use Rattle.pair_rule.specs.Seats.{Empties};
-ghost use Rattle.pair_threads.specs.BackupTurns.{IsTurnOf, next_chore, turn_of_asking, turn_of_draining, turn_of_take};
+ghost use Rattle.pair_threads.specs.BackupTurns.{IsTurnOf, next_chore, turn_of_asking, turn_of_draining, turn_of_nothing, turn_of_replay, turn_of_take};
 ghost use Rattle.pair_threads.specs.Ending.{IsEnding};
-ghost use Rattle.pair_threads.specs.Repeating.{FollowsFor, GoesOn, IsAt, Repeats, has_all, is_far_behind};
+ghost use Rattle.pair_threads.specs.Repeating.{Advances, FollowsFor, GoesOn, IsAt, Repeats, has_all, has_run_ahead, is_far_behind};
 ghost use Rattle.pair_threads.specs.Turns.{Leaves};
 ghost use Rattle.pair_threads.specs.declared.backup.Chore.TheVariants as task;
-ghost use Rattle.pair_threads.specs.declared.worker.Turn.TheVariants as turn;
 
 use crate::gate::Progress;
 use crate::plan::Plan;
 use crate::repeater::Repeater;
-use crate::signals::Told;
+use crate::signals::{Signals, Told};
 use crate::worker::{Turn, Worker};
 use guest_lockstep::Lockstep;
 use i8080_words::{Fault, R};
@@ -117,7 +116,7 @@ impl<B: Lockstep> BackupWorker<B> {
         ensures leaves { Leaves result (Unit {0}) ⊥ }
         ensures turn { IfOk result (λ turn. (found : Option Packet)
             × Empties Inbox (option_map Log found) self.old.seat.core self.new.seat.core
-            × (turn ≡ turn_of_take (is_some found) (has_all self.new.guest))) }
+            × (turn ≡ turn_of_take (is_some found) self.new.guest.between (has_all self.new.guest))) }
         ensures refused { IfErr result IsEnding }
     {
         if !self.seat.has_swaps_left() {
@@ -134,7 +133,7 @@ impl<B: Lockstep> BackupWorker<B> {
             }
             None => {
                 self.stride = self.stride.saturating_mul(2);
-                Ok(self.pace(Turn::Waits))
+                Ok(self.pace(!self.guest.between))
             }
         }
     }
@@ -190,21 +189,59 @@ impl<B: Lockstep> BackupWorker<B> {
         Ok(Turn::Moved)
     }
 
-    // `Moved` if anything is left to repeat, and otherwise `nothing`.
-    fn pace(&self, nothing: Turn) -> Turn
-        requires { Leaves (Ok nothing) (Unit {0}) ⊥ }
+    // What a turn is that did nothing: `Moved` if anything is left to repeat.
+    fn pace(&self, waits: bool) -> Turn
         ensures leaves { Leaves (Ok result) (Unit {0}) ⊥ }
-        ensures turn { result ≡ (if has_all self.now.guest then nothing else turn.Moved) }
+        ensures turn { result ≡ turn_of_nothing waits (has_all self.now.guest) }
     {
-        if self.guest.has_replayed_all() {
-            nothing
-        } else {
-            Turn::Moved
+        if !self.guest.has_replayed_all() {
+            return Turn::Moved;
         }
+        if waits { Turn::Waits } else { Turn::Looks }
+    }
+
+    // Repeats the next entry, or runs ahead, and says how far its guest is, unless the lists are kept whole.
+    fn repeat(&mut self, signals: &Signals) -> R<Turn>
+        ensures seat { self.new.seat ≡ self.old.seat }
+        ensures same { (self.new.plan ≡ self.old.plan) × (self.new.won ≡ self.old.won) × (self.new.chore ≡ self.old.chore) }
+        ensures goes_on { OnOk result (GoesOn B.state B.machine self.old.guest self.new.guest) }
+        ensures leaves { Leaves result (Unit {0}) ⊥ }
+        ensures turn { IfOk result (λ turn. turn ≡ turn_of_replay (has_run_ahead B.state B.machine self.old.guest self.new.guest)
+            self.new.guest.between (has_all self.new.guest)) }
+        ensures steps { OnOk result (Advances B.state B.machine (has_all self.old.guest)
+            (min self.old.plan.steps self.old.stride) self.old.guest self.new.guest) }
+        ensures refused { IfErr result IsEnding }
+    {
+        let ran = self.advance(signals)?;
+        if !self.plan.keeps {
+            signals.follows(self.guest.board.count());
+        }
+        if ran {
+            return Ok(Turn::Moved);
+        }
+        Ok(self.pace(self.guest.between))
+    }
+
+    // Follows the next entry; past the last one, it runs ahead up to where the primary's guest is. Returns whether it ran ahead.
+    fn advance(&mut self, signals: &Signals) -> R<bool>
+        ensures seat { self.new.seat ≡ self.old.seat }
+        ensures same { (self.new.plan ≡ self.old.plan) × (self.new.won ≡ self.old.won) × (self.new.chore ≡ self.old.chore) }
+        ensures goes_on { OnOk result (GoesOn B.state B.machine self.old.guest self.new.guest) }
+        ensures ran { IfOk result (λ ran. ran ≡ has_run_ahead B.state B.machine self.old.guest self.new.guest) }
+        ensures steps { OnOk result (Advances B.state B.machine (has_all self.old.guest)
+            (min self.old.plan.steps self.old.stride) self.old.guest self.new.guest) }
+        ensures refused { IfErr result IsEnding }
+    {
+        let steps = self.plan.steps.min(self.stride);
+        if self.guest.has_replayed_all() {
+            return self.guest.run_ahead(signals.lead(), steps);
+        }
+        self.guest.replay(steps)?;
+        Ok(false)
     }
 
     // Takes, acknowledges or repeats, in rotation.
-    fn follow(&mut self, fabric: &Fabric) -> R<Turn>
+    fn follow(&mut self, fabric: &Fabric, signals: &Signals) -> R<Turn>
         requires table { self.old.seat.table ≡ fabric.now }
         requires before { self.old.seat.core.known.backup.winner ≡ 0 }
         ensures table { self.new.seat.table ≡ self.old.seat.table }
@@ -214,9 +251,10 @@ impl<B: Lockstep> BackupWorker<B> {
         ensures leaves { Leaves result (Unit {0}) ⊥ }
         ensures next { OnOk result (self.new.chore ≡ next_chore self.old.chore) }
         ensures turn { IfOk result
-            (IsTurnOf self.old.chore (is_far_behind B.state B.machine self.old.guest) self.old.seat.core self.new.seat.core
-            (has_all self.new.guest)) }
-        ensures steps { self.old.chore ≡ task.Replay → OnOk result (FollowsFor B.state B.machine
+            (IsTurnOf self.old.chore (is_far_behind B.state B.machine self.old.guest)
+            (has_run_ahead B.state B.machine self.old.guest self.new.guest) self.new.guest.between self.old.seat.core
+            self.new.seat.core (has_all self.new.guest)) }
+        ensures steps { self.old.chore ≡ task.Replay → OnOk result (Advances B.state B.machine (has_all self.old.guest)
             (min self.old.plan.steps self.old.stride) self.old.guest self.new.guest) }
         ensures refused { IfErr result IsEnding }
     {
@@ -227,12 +265,9 @@ impl<B: Lockstep> BackupWorker<B> {
             Chore::Take => self.take(fabric),
             Chore::Hold => {
                 self.hold(fabric);
-                Ok(self.pace(Turn::Looks))
+                Ok(self.pace(false))
             }
-            Chore::Replay => {
-                self.guest.replay(self.plan.steps.min(self.stride))?;
-                Ok(self.pace(Turn::Looks))
-            }
+            Chore::Replay => self.repeat(signals),
         }
     }
 }
@@ -240,7 +275,7 @@ impl<B: Lockstep> BackupWorker<B> {
 impl<B: Lockstep> Worker for BackupWorker<B> {
     ghost use Rattle.std.specs.Prelude.{◌≡◌, ◌⊎◌, ◌&&◌, ◌||◌, not, cond, false, Some, length};
     ghost use Rattle.pair_threads.specs.Asking.{AsksAt, HasAsked};
-    ghost use Rattle.pair_threads.specs.Repeating.{GoesOn, has_all, is_far_behind};
+    ghost use Rattle.pair_threads.specs.Repeating.{GoesOn, has_all, has_run_ahead, is_far_behind};
     ghost use Rattle.pair_threads.specs.BackupTurns.{IsTurn, IsTurnOf};
 
     ghost table = { λ w. w.seat.table };
@@ -257,8 +292,8 @@ impl<B: Lockstep> Worker for BackupWorker<B> {
         AsksAt old.plan.asking number told old.seat.core.known.backup.winner new.seat.core.known.backup.winner };
 
     ghost turned = { λ old number told new turn. IsTurn old.won old.plan.asking number told (has_all old.guest) new.won
-        (IsTurnOf old.chore (is_far_behind B.state B.machine old.guest) old.seat.core new.seat.core (has_all new.guest) turn)
-        turn };
+        (IsTurnOf old.chore (is_far_behind B.state B.machine old.guest) (has_run_ahead B.state B.machine old.guest new.guest)
+        new.guest.between old.seat.core new.seat.core (has_all new.guest) turn) turn };
 
     ghost ends_by = { λ w told. not w.won && told.primary_ended
         && (not (not w.plan.contested || w.plan.watched) || has_all w.guest) };
@@ -271,14 +306,14 @@ impl<B: Lockstep> Worker for BackupWorker<B> {
       steps = B.machine.count (B.state w.guest.board);
     }) };
 
-    fn turn(&mut self, fabric: &Fabric, number: u64, told: bool) -> R<Turn> {
+    fn turn(&mut self, fabric: &Fabric, signals: &Signals, number: u64, told: bool) -> R<Turn> {
         if self.won {
             return self.drain();
         }
         if self.plan.asks_at(number, told) {
             return Ok(self.contest(fabric));
         }
-        self.follow(fabric)
+        self.follow(fabric, signals)
     }
 
     fn may_end(&self, told: Told) -> bool {

@@ -6,6 +6,7 @@ mod chore;
 mod disk;
 mod gate;
 mod join;
+mod lag;
 mod link;
 mod pace;
 mod plan;
@@ -24,6 +25,7 @@ mod yields;
 
 pub use chore::Chore;
 pub use gate::{Gate, OpenGate, Progress, Who};
+pub use lag::Lead;
 pub use link::{Fate, fate_of};
 pub use primary::KEY_STEPS;
 pub use rest::Rest;

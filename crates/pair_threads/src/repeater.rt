@@ -11,12 +11,13 @@ use log_journal::Journal;
 pub(crate) struct Repeater<B> {
     pub(crate) list: Journal,
     pub(crate) board: B,
-    // How many entries it has repeated, and whether it has made steps towards the next one.
+    // How many entries it has repeated, and whether it has made steps since: towards the next one, or, if it does not keep its
+    // list, past the last.
     pub(crate) replayed: usize,
     pub(crate) between: bool,
     // Whether it keeps the entries that it has repeated.
     pub(crate) keeps: bool,
     ghost forgot: { list.forgotten ≡ first_kept keeps replayed },
     ghost within: { replayed ≤ length list.items },
-    ghost towards: { between ≡ true → replayed < length list.items },
+    ghost towards: { keeps ≡ true → between ≡ true → replayed < length list.items },
 }

@@ -38,7 +38,8 @@ use std::thread::Threads;
 use std::time::Clock;
 
 /// Runs a further generation, where a run of the machine that booted first was settled: with the whole lists, and with all
-/// that the terminals have accepted. It ends as `run_generation` does, and its end is that machine's, with the whole lists.
+/// that the terminals have accepted. It ends as `run_generation` does, and its end is that machine's, with the whole lists; but its
+/// backup's guest may have gone on past the last entry.
 #[tactic(auto, using(crate::proofs::Typing::typed_same, crate::proofs::Showing::shows_same))]
 pub fn run_generation_at<
     B: Lockstep + Send + Drop,
@@ -79,7 +80,7 @@ pub fn run_generation_at<
         (by_port (take resumed.taken.0 resumed.workers.typed0.items) (take resumed.taken.1 resumed.workers.typed1.items) [])
         (by_port resumed.start.accepted0 resumed.start.accepted1 0) (B.state resumed.workers.primary)
         (B.state resumed.workers.backup) (D.records resumed.workers.disk)
-        → IfOk result (λ e. EndsBy (booted_from B.machine boot (bytes_in first)) exact e.typed0.items e.typed1.items
+        → IfOk result (λ e. EndsBy (booted_from B.machine boot (bytes_in first)) false e.typed0.items e.typed1.items
         e.winner e.primary.items e.backup.items e.held (map (λ v. v.items) e.accepted)
         (D.records e.disk) (B.state e.primary_board) (B.state e.backup_board)) }
     ensures over { IfOk result (IsOver resumed.workers.typed0.items resumed.workers.typed1.items resumed.lines

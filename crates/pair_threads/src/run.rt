@@ -226,7 +226,7 @@ fn conclude<B: Lockstep + Drop, D: SectorStore>(
     ensures ends { (boot : B.State) (first : List Record) (exact : Bool)
         → Lawful (booted_from B.machine boot (bytes_in first))
         → WorkerLeads B.state B.machine boot primary → IsAt B.state B.machine exact boot backup.guest
-        → IsStore (bytes_in first) (D.records disk.disk) disk.seat.core.known.disk
+        → (exact ≡ true → backup.plan.keeps ≡ true) → IsStore (bytes_in first) (D.records disk.disk) disk.seat.core.known.disk
         → IfOk result (λ e. EndsBy (booted_from B.machine boot (bytes_in first)) exact e.typed0.items e.typed1.items
         e.winner e.primary.items e.backup.items e.held (map (λ v. v.items) e.accepted) (D.records e.disk)
         (B.state e.primary_board) (B.state e.backup_board)) }
@@ -332,6 +332,7 @@ pub(crate) fn finish<B: Lockstep + Drop, D: SectorStore>(
         → Lawful (booted_from B.machine boot (bytes_in first))
         → OnOk five.primary.1 (WorkerLeads B.state B.machine boot five.primary.0)
         → OnOk five.backup.1 (IsAt B.state B.machine exact boot five.backup.0.guest)
+        → OnOk five.backup.1 (exact ≡ true → five.backup.0.plan.keeps ≡ true)
         → OnOk five.disk.1 (IsStore (bytes_in first) (D.records five.disk.0.disk) five.disk.0.seat.core.known.disk)
         → IfOk result (λ e. EndsBy (booted_from B.machine boot (bytes_in first)) exact e.typed0.items e.typed1.items
         e.winner e.primary.items e.backup.items e.held (map (λ v. v.items) e.accepted) (D.records e.disk)
@@ -380,7 +381,7 @@ pub(crate) fn finish<B: Lockstep + Drop, D: SectorStore>(
 /// taken and no more come, nothing is outstanding, under way or due, and all entries are acknowledged and repeated. Otherwise
 /// it ends when it is decided who goes on alone; a backup that does has repeated its list. A watched generation ends in the
 /// first of these two ways: a host fails in it when the gate says so (`Gate::suspects`), and it waits for keys as long as it
-/// takes. `Stalled` if it ends in no such way, `OutOfMemory` if memory or a thread is refused.
+/// takes; its backup's guest may have gone on past the last entry. `Stalled` if it ends in no such way, `OutOfMemory` if memory or a thread is refused.
 #[tactic(auto, using(crate::proofs::Beginning::nothing_yet, crate::proofs::Serving::first_disk, crate::proofs::Typing::typed_same, crate::proofs::Showing::shows_same))]
 pub fn run_generation_over<
     B: Lockstep + Send + Drop,
@@ -405,7 +406,7 @@ pub fn run_generation_over<
     ensures prefix { IfOk result (λ e. StartsWith e.primary.items e.backup.items) }
     ensures kept { IfOk result (λ e. HasKept (not watched) e.primary e.backup) }
     ensures ends { IfOk result (λ e. EndsBy (booted_from B.machine (B.state workers.primary) (bytes_in (D.records workers.disk)))
-        true e.typed0.items e.typed1.items e.winner e.primary.items e.backup.items e.held
+        (not watched) e.typed0.items e.typed1.items e.winner e.primary.items e.backup.items e.held
         (map (λ v. v.items) e.accepted) (D.records e.disk) (B.state e.primary_board) (B.state e.backup_board)) }
     ensures over { IfOk result (IsOver workers.typed0.items workers.typed1.items lines ([] ∷ [] ∷ [])) }
     ensures left { IfOk result (λ e. LeavesBy (booted_from B.machine (B.state workers.primary) (bytes_in (D.records workers.disk)))

@@ -9,7 +9,7 @@ ghost use Rattle.pair_threads.specs.Screens.{HasInHand, next_byte};
 ghost use Rattle.pair_threads.specs.Turns.{turn_by};
 
 use crate::gate::Progress;
-use crate::signals::Told;
+use crate::signals::{Signals, Told};
 use crate::worker::{Turn, Worker};
 use i8080_words::{Fault, R};
 use pair_lines::Screen;
@@ -189,7 +189,7 @@ impl Worker for TerminalWorker {
 
     ghost needs_others = { λ w. false };
 
-    fn turn(&mut self, fabric: &Fabric, _number: u64, _told: bool) -> R<Turn> {
+    fn turn(&mut self, fabric: &Fabric, _signals: &Signals, _number: u64, _told: bool) -> R<Turn> {
         let Some(byte) = self.hand else {
             return self.take(fabric);
         };

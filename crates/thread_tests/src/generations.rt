@@ -5,5 +5,6 @@ mod gates;
 mod lines;
 mod pairs;
 mod rows;
+mod silence;
 mod turns;
 mod until_over;

@@ -18,7 +18,7 @@ use crate::gate::Progress;
 use crate::plan::Plan;
 use crate::port_inputs::PortInputs;
 use crate::recording::Recording;
-use crate::signals::Told;
+use crate::signals::{Signals, Told};
 use crate::worker::{Turn, Worker};
 use guest_lockstep::Lockstep;
 use i8080_words::{Fault, R};
@@ -194,7 +194,7 @@ impl<B: Lockstep> PrimaryWorker<B> {
     }
 
     // Notes the keys that have come, and does the next chore.
-    fn listen_and_work(&mut self, fabric: &Fabric) -> R<Turn>
+    fn listen_and_work(&mut self, fabric: &Fabric, signals: &Signals) -> R<Turn>
         requires table { self.old.seat.table ≡ fabric.now }
         requires before { self.old.seat.core.known.primary.winner ≡ 0 }
         requires swaps { HasSwapsLeft self.old.seat.core }
@@ -207,7 +207,7 @@ impl<B: Lockstep> PrimaryWorker<B> {
         ensures refused { IfErr result IsEnding }
     {
         self.listen()?;
-        self.work(fabric)
+        self.work(fabric, signals)
     }
 
     // The entry to append.
@@ -263,7 +263,7 @@ impl<B: Lockstep> PrimaryWorker<B> {
     }
 
     // Does one chore, at this port if it is a port's. Returns whether it changed anything.
-    fn attempt(&mut self, fabric: &Fabric, port: u8) -> R<bool>
+    fn attempt(&mut self, fabric: &Fabric, signals: &Signals, port: u8) -> R<bool>
         requires table { self.old.seat.table ≡ fabric.now }
         requires before { self.old.seat.core.known.primary.winner ≡ 0 }
         requires swaps { HasSwapsLeft self.old.seat.core }
@@ -276,7 +276,7 @@ impl<B: Lockstep> PrimaryWorker<B> {
         match self.chore {
             Chore::Post => Ok(self.post(fabric)),
             Chore::See => Ok(self.see(fabric)),
-            Chore::Run => self.run(),
+            Chore::Run => self.lead(signals),
             Chore::Key => Ok(self.take_key(port)),
             Chore::Emit => Ok(self.emit(fabric, port)),
             Chore::Count => Ok(self.count(fabric, port)),
@@ -288,7 +288,7 @@ impl<B: Lockstep> PrimaryWorker<B> {
     }
 
     // Does the next chore.
-    fn work(&mut self, fabric: &Fabric) -> R<Turn>
+    fn work(&mut self, fabric: &Fabric, signals: &Signals) -> R<Turn>
         requires table { self.old.seat.table ≡ fabric.now }
         requires before { self.old.seat.core.known.primary.winner ≡ 0 }
         requires swaps { HasSwapsLeft self.old.seat.core }
@@ -304,7 +304,7 @@ impl<B: Lockstep> PrimaryWorker<B> {
         }
         let port = self.port();
         let second = self.is_second_after(chore);
-        let moved = self.attempt(fabric, port)?;
+        let moved = self.attempt(fabric, signals, port)?;
         self.second = second;
         self.chore = chore.next();
         self.fruitless = fruitless_after(moved, fruitless);
@@ -372,7 +372,7 @@ impl<B: Lockstep> Worker for PrimaryWorker<B> {
       steps = B.machine.count (B.state w.guest.board);
     }) };
 
-    fn turn(&mut self, fabric: &Fabric, number: u64, told: bool) -> R<Turn> {
+    fn turn(&mut self, fabric: &Fabric, signals: &Signals, number: u64, told: bool) -> R<Turn> {
         if !self.seat.has_swaps_left() {
             return Err(Fault::Stalled);
         }
@@ -382,7 +382,7 @@ impl<B: Lockstep> Worker for PrimaryWorker<B> {
         }
         match self.to_append() {
             Some(entry) => self.append(fabric, entry),
-            None => self.listen_and_work(fabric),
+            None => self.listen_and_work(fabric, signals),
         }
     }
 

@@ -1,20 +1,17 @@
 //! How a backup's guest repeats the entries of its list.
-ghost use Rattle.std.specs.Prelude.{◌≡◌, ◌⊎◌, Bool, ◌↔◌, ◌++◌, [], ◌∷◌, false, true, length, IfErr, IsTrue, OnOk};
+ghost use Rattle.std.specs.Prelude.{◌≡◌, ◌⊎◌, Bool, ◌↔◌, ◌++◌, [], ◌∷◌, false, true, nat_lt, length, IfErr, IfOk, IsTrue, OnOk};
 ghost use Rattle.i8080_words.specs.declared.refusal.Fault.TheVariants.{OutOfMemory, Stalled};
-ghost use Rattle.pair_threads.specs.Repeating.{FollowsFor, GoesOn, IsAt, IsStuck, Repeats, has_all, is_far_behind};
+ghost use Rattle.pair_threads.specs.Repeating.{FollowsFor, GoesOn, IsAt, IsStuck, Repeats, RunsAhead, has_all, is_far_behind, may_run_ahead, ran_ahead, steps_ahead};
 
 use super::Repeater;
+use crate::lag::{Lead, is_too_far};
 use crate::plan::first_kept;
-use guest_lockstep::Lockstep;
+use guest_lockstep::{Lockstep, StopReason, Stopped, run};
 use i8080_words::{Fault, R};
 use log_entry::Entry;
 use log_journal::Journal;
 use replayer::{Followed, follow};
 use std::alloc::Global;
-
-/// How many steps a backup may be behind the last entry that it holds and still take another: about those of a twentieth of a second. The
-/// primary's log fills up meanwhile, and its output waits, so it slows down (VMware FT, section 3.2.2).
-const MOST_BEHIND: u64 = 10_000_000;
 
 impl<B: Lockstep> Repeater<B> {
     /// A guest at boot, with an empty list; `keeps` says whether it keeps the entries that it has repeated.
@@ -60,7 +57,8 @@ impl<B: Lockstep> Repeater<B> {
         self.replayed == self.list.len()
     }
 
-    /// Whether its guest has to make so many steps up to the last entry that it takes no further one.
+    /// Whether its guest has to make so many steps up to the last entry that it takes no further one. The primary's log fills up
+    /// meanwhile, and its output waits, so it slows down.
     pub(crate) fn is_far_behind(&self) -> bool
         ensures { result ≡ is_far_behind B.state B.machine self.now }
     {
@@ -68,7 +66,7 @@ impl<B: Lockstep> Repeater<B> {
             return false;
         }
         let last = self.list.entry(self.list.len() - 1);
-        last.count().saturating_sub(self.board.count()) > MOST_BEHIND
+        is_too_far(self.board.count(), last.count())
     }
 
     /// An entry arrives.
@@ -109,5 +107,58 @@ impl<B: Lockstep> Repeater<B> {
             Err(Fault::OutOfMemory) => Err(Fault::OutOfMemory),
             Ok(Followed::Differs) | Err(_) => Err(Fault::Stalled),
         }
+    }
+
+    /// Makes at most `steps` steps past its last entry, up to where the primary's guest is, and returns whether it has made any.
+    /// `Stalled` if the primary was wrong, and its guest has given an operation there.
+    pub(crate) fn run_ahead(&mut self, lead: Lead, steps: u64) -> R<bool>
+        ensures same { (self.new.list ≡ self.old.list) × (self.new.replayed ≡ self.old.replayed) × (self.new.keeps ≡ self.old.keeps) }
+        ensures goes_on { OnOk result (GoesOn B.state B.machine self.old self.new) }
+        ensures ahead { RunsAhead B.state B.machine lead steps self.old self.new result }
+        ensures between { result ≡ Ok true → self.new.between ≡ true }
+        ensures unchanged { result ≡ Ok false → (self.new.board ≡ self.old.board) × (self.new.between ≡ self.old.between) }
+        ensures rises { IfOk result (λ ran. ran
+            ≡ nat_lt (B.machine.count (B.state self.old.board)) (B.machine.count (B.state self.new.board))) }
+        ensures refused { IfErr result (λ fault. (fault ≡ OutOfMemory) ⊎ (fault ≡ Stalled)) }
+    {
+        let most = steps.min(self.steps_ahead(lead));
+        let stopped = run(&mut self.board, most);
+        let ran = ran_ahead(stopped)?;
+        if !ran {
+            return Ok(false);
+        }
+        self.between = true;
+        Ok(true)
+    }
+
+    // How many steps it has to make up to where the primary's guest is, if it may.
+    fn steps_ahead(&self, lead: Lead) -> u64
+        ensures { result ≡ steps_ahead B.state B.machine lead self.now }
+    {
+        if !self.may_run_ahead(lead) {
+            return 0;
+        }
+        lead.steps.saturating_sub(self.board.count())
+    }
+
+    // Whether it may run past its last entry: it has repeated all entries, among them those that the primary had, and does not keep
+    // its list.
+    fn may_run_ahead(&self, lead: Lead) -> bool
+        ensures { result ≡ may_run_ahead lead self.now }
+    {
+        !self.keeps && self.has_replayed_all() && lead.entries <= self.list.len() as u64
+    }
+}
+
+// Whether a guest that has stopped so past its last entry has made any steps there.
+fn ran_ahead(stopped: Stopped) -> R<bool>
+    ensures is { result ≡ ran_ahead stopped.steps stopped.reason }
+    ensures some { IfOk result (λ ran. ran ≡ nat_lt 0 stopped.steps) }
+    ensures refused { IfErr result (λ fault. (fault ≡ OutOfMemory) ⊎ (fault ≡ Stalled)) }
+{
+    match stopped.reason {
+        StopReason::Operation(_) => Err(Fault::Stalled),
+        StopReason::Refused(Fault::OutOfMemory) if stopped.steps == 0 => Err(Fault::OutOfMemory),
+        StopReason::Turns | StopReason::Refused(_) => Ok(stopped.steps > 0),
     }
 }

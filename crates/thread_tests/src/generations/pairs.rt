@@ -9,7 +9,7 @@ use altair_laws::altairs_are_lawful;
 use disk_dcdd::SectorAddress;
 use event_callbacks::{Callbacks, Completes, plain_completions};
 use guest_board::{Board, Setup};
-use guest_lockstep::{Lockstep, Reads};
+use guest_lockstep::{Lockstep, Reads, StopReason, run};
 use i8080_words::{Fault, R};
 use pair_lines::Lines;
 use pair_threads::{Gate, GenerationEnd, Who, Workers, run_generation_over};
@@ -21,33 +21,39 @@ use std::time::Clock;
 /// Records on a device whose read or write fails once if a case says so.
 pub(super) type Store = FailOnce<MemoryStore>;
 
-/// What a pair runs: a program at 0000, one step in each turn; which access of the disk fails (0 if none), when the backup asks
-/// to go on alone, and how many turns there are.
+/// What a pair runs: a program at 0000, with so many steps in each turn; which access of the disk fails (0 if none), when the backup
+/// asks to go on alone, and how many turns there are; and how many steps the backup's guest then makes by itself, at most.
 #[derive(Clone, Copy)]
 pub(super) struct Case<'a> {
     pub(super) program: &'a [u8],
+    pub(super) steps: u64,
     pub(super) fails: u64,
     pub(super) backup_contests: Option<u64>,
     pub(super) turns: u64,
+    pub(super) later: u64,
 }
 
-/// A program alone, a million turns.
+/// A program alone, a million turns of one step.
 pub(super) fn alone(program: &[u8]) -> Case<'_> {
     Case {
         program,
+        steps: 1,
         fails: 0,
         backup_contests: None,
         turns: 1_000_000,
+        later: 0,
     }
 }
 
-/// How a pair has ended: who goes on alone, the count of the primary's guest, how many entries its list has, whether the backup's
-/// is the same, how many are acknowledged, what port 0 has accepted first, how many bytes each port has, and the number of
-/// the last write of sector 0 of track 0.
+/// How a pair has ended: who goes on alone, the counts of the primary's guest and of the backup's, at which count the latter then
+/// gave an operation, how many entries the primary's list has, whether the backup's is the same, how many are acknowledged, what
+/// port 0 has accepted first, how many bytes each port has, and the number of the last write of sector 0 of track 0.
 #[derive(Clone, Copy)]
 pub(super) struct Outcome {
     pub(super) winner: Option<Who>,
     pub(super) count: u64,
+    pub(super) backup_count: u64,
+    pub(super) gave_at: Option<u64>,
     pub(super) entries: usize,
     pub(super) is_repeated: bool,
     pub(super) held: u64,
@@ -56,8 +62,20 @@ pub(super) struct Outcome {
     pub(super) write: u64,
 }
 
-// What has come of a pair that is kept.
-fn look_at<B: Lockstep + Drop>(alloc: Global, end: &mut GenerationEnd<B, Store>) -> R<Outcome> {
+// At which count a guest gives an operation that makes so many steps by itself at most, if it gives one.
+fn gives_at<B: Lockstep>(board: &mut B, steps: u64) -> Option<u64> {
+    match run(board, steps).reason {
+        StopReason::Operation(_) => Some(board.count()),
+        StopReason::Turns | StopReason::Refused(_) => None,
+    }
+}
+
+// What has come of a pair that is kept, whose backup's guest then makes so many steps.
+fn look_at<B: Lockstep + Drop>(
+    alloc: Global,
+    end: &mut GenerationEnd<B, Store>,
+    later: u64,
+) -> R<Outcome> {
     let sector = end.disk.get(SectorAddress {
         drive: 0,
         track: 0,
@@ -68,6 +86,8 @@ fn look_at<B: Lockstep + Drop>(alloc: Global, end: &mut GenerationEnd<B, Store>)
     Ok(Outcome {
         winner: end.winner,
         count: end.primary_board.count(),
+        backup_count: end.backup_board.count(),
+        gave_at: gives_at(&mut end.backup_board, later),
         entries: end.primary.len(),
         is_repeated: end.primary.len() == end.backup.len() && primary == backup,
         held: end.held,
@@ -78,8 +98,12 @@ fn look_at<B: Lockstep + Drop>(alloc: Global, end: &mut GenerationEnd<B, Store>)
 }
 
 // What has come of a pair.
-fn outcome_of<B: Lockstep + Drop>(alloc: Global, mut end: GenerationEnd<B, Store>) -> R<Outcome> {
-    look_at(alloc, &mut end)
+fn outcome_of<B: Lockstep + Drop>(
+    alloc: Global,
+    mut end: GenerationEnd<B, Store>,
+    later: u64,
+) -> R<Outcome> {
+    look_at(alloc, &mut end, later)
 }
 
 // A guest with one drive, whose memory begins with this program.
@@ -152,7 +176,7 @@ fn workers_of<B: Lockstep + Drop>(
         fates: Vec::new(alloc),
         primary_contests: None,
         backup_contests: planned(watched, case.backup_contests),
-        steps: 1,
+        steps: case.steps,
     })
 }
 
@@ -184,7 +208,7 @@ fn run_with<
     let backup = boot(alloc, setup, Callbacks::of(sent, sector, written))?;
     let workers = workers_of(alloc, case, watched, primary, backup)?;
     match run_generation_over(rt, alloc, workers, lines, watched, gate, case.turns) {
-        Ok(end) => outcome_of(alloc, end),
+        Ok(end) => outcome_of(alloc, end, case.later),
         Err(fault) => Err(fault),
     }
 }

@@ -5,7 +5,7 @@ ghost use Rattle.event_callbacks.specs.Keeping.{Keeps};
 ghost use Rattle.guest_board.specs.Guest.{guest_at_boot};
 ghost use Rattle.shared_disk.specs.Records.{HasWholeSectors, IsAtBoot, IsUnwritten};
 
-use super::lines::ECHO;
+use super::lines::{ECHO, SLOW_ECHO};
 use super::pairs::{boot, setup_of};
 use board_image::DraftedBoard;
 use event_callbacks::{Callbacks, Completes, plain_completions};
@@ -37,10 +37,11 @@ const ROOM: usize = 8;
 // The key that is typed as the steward hears the first event, the second, and so on.
 static KEYS: [u8; 9] = [0x41, 0x42, 0x43, 0x44, 0x45, 0x46, 0x47, 0x48, 0x49];
 
-// How a pair runs: whether a host fails in each generation once all that was typed is echoed, whether no key comes after the first,
-// how many spare hosts there are, how many of them fail before they have the guest, whether each of them comes only once the guest
-// has run alone and echoed all that was typed, and what its steward hears.
+// How a pair runs: whether its guest computes before it echoes, whether a host fails in each generation once all that was typed is
+// echoed, whether no key comes after the first, how many spare hosts there are, how many of them fail before they have the guest,
+// whether each of them comes only once the guest has run alone and echoed all that was typed, and what its steward hears.
 struct Case {
+    is_slow: bool,
     fails: bool,
     closes: bool,
     spares: u32,
@@ -50,6 +51,24 @@ struct Case {
 }
 
 static FAILING: Case = Case {
+    is_slow: false,
+    fails: true,
+    closes: false,
+    spares: 1,
+    lost: 0,
+    is_late: false,
+    events: &[
+        PairEvent::Begins(1),
+        PairEvent::Won(Who::Backup),
+        PairEvent::Copies,
+        PairEvent::Begins(2),
+        PairEvent::Won(Who::Primary),
+        PairEvent::Alone,
+    ],
+};
+
+static SLOW: Case = Case {
+    is_slow: true,
     fails: true,
     closes: false,
     spares: 1,
@@ -66,6 +85,7 @@ static FAILING: Case = Case {
 };
 
 static WAITING: Case = Case {
+    is_slow: false,
     fails: true,
     closes: false,
     spares: 2,
@@ -87,6 +107,7 @@ static WAITING: Case = Case {
 };
 
 static LOSING: Case = Case {
+    is_slow: false,
     fails: true,
     closes: false,
     spares: 2,
@@ -106,6 +127,7 @@ static LOSING: Case = Case {
 };
 
 static RESTING: Case = Case {
+    is_slow: false,
     fails: false,
     closes: true,
     spares: 1,
@@ -418,7 +440,8 @@ fn run_shown<H: Threads + Clock + Sync>(
 
 // Runs a pair as a case says. All keys are taken and echoed in the end, once, and the steward has heard what it is to hear.
 fn expect<H: Threads + Clock + Sync + Abort>(rt: &H, alloc: Global, case: &Case) -> R<()> {
-    let setup = setup_of(alloc, &ECHO)?;
+    let program: &[u8] = if case.is_slow { &SLOW_ECHO } else { &ECHO };
+    let setup = setup_of(alloc, program)?;
     let hosts = Hosts::new(case.fails);
     let (shown, end) = run_shown(rt, alloc, &setup, case, &hosts)?;
     let end = end?;
@@ -434,6 +457,12 @@ fn expect<H: Threads + Clock + Sync + Abort>(rt: &H, alloc: Global, case: &Case)
 #[test]
 fn a_pair_whose_hosts_fail_goes_on_until_it_is_over(rt: HostRuntime) -> R<()> {
     expect(&rt, rt.alloc(), &FAILING)
+}
+
+// The next generation begins where both guests have made more steps than a backup may be behind.
+#[test]
+fn a_pair_goes_on_late(rt: HostRuntime) -> R<()> {
+    expect(&rt, rt.alloc(), &SLOW)
 }
 
 #[test]

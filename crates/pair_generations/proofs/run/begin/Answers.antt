@@ -1,6 +1,7 @@
 -- The first generation ends as one of the machine that booted.
+use Rattle.std.specs.Prelude.{not}
 use Rattle.pair_generations.proofs.Over.{won_first}
-use Rattle.pair_generations.proofs.Ending.{looser}
+use Rattle.pair_generations.proofs.Ending.{loosely}
 use Rattle.pair_generations.specs.Generations.{machine_at}
 use Rattle.pair_generations.proofs.run.begin.Goals as goal
 
@@ -12,8 +13,8 @@ returns-clause-ended g c =
     let e = c.in_ok-end.end in
     let ended = c.in_ok-end.ensures in
     let M = machine_at g.B.Lockstep.machine (state workers.primary) (records workers.disk) in record {
-      ends = looser M c.requires.guest.runnable.lawful e.typed0.items e.typed1.items e.winner e.primary.items e.backup.items
-          e.held _ (records e.disk) (state e.primary_board) (state e.backup_board) ended.ends;
+      ends = loosely M c.requires.guest.runnable.lawful (not c.args.watched) e.typed0.items e.typed1.items e.winner
+          e.primary.items e.backup.items e.held _ (records e.disk) (state e.primary_board) (state e.backup_board) ended.ends;
       left = ended.left;
     }
 

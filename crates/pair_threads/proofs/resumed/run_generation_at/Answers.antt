@@ -1,5 +1,6 @@
 -- The workers' ends are those of the machine that booted first.
 use Rattle.std.proofs.Common.{ap, sym, subst, ◌∙◌, Vec, Global, ℕ, refl, inl, inr, false, [], ◌∷◌}
+use Rattle.std.proofs.lemmas.Bool.{false≢true}
 use Rattle.pair_rule.specs.Seats.{Seat}
 use Rattle.pair_rule.specs.declared.view.Core.{Core}
 use Rattle.pair_threads.specs.declared.plan.Plan.{Plan}
@@ -8,6 +9,7 @@ use Rattle.pair_threads.specs.Stores.{IsStore, bytes_in}
 use Rattle.pair_threads.specs.Asking.{asking_of}
 use Rattle.pair_threads.specs.Typing.{IsTyped, typed_with}
 use Rattle.pair_threads.proofs.Ending.{on_ok}
+use Rattle.pair_threads.proofs.Repeating.{loosely}
 use Rattle.pair_threads.proofs.Showing.{shows_began}
 use Rattle.pair_threads.proofs.Typing.{typed_began, typed_same}
 use Rattle.pair_threads.proofs.Resuming.{keeps_at, leads_at, says_at}
@@ -96,13 +98,15 @@ returns-clause-ends g c = λ boot first exact lawful begins.
     (records workers.disk) begins c.in_ok-fabric.seats.primary.core opened.primary c.after.result c.after-2.result
     (c.after.ensures.0, c.after.ensures.1, c.after.ensures.2)
     (c.after-2.ensures.0, c.after-2.ensures.1, c.after-2.ensures.2) in
-    let repeats = subst (λ l. Repeats M exact boot l false (state workers.backup)) (sym c.requires.lists.1) begins.repeats in
+    let repeats = loosely M exact boot (state workers.backup) resumed.backup_list.items false
+    (subst (λ l. Repeats M exact boot l false (state workers.backup)) (sym c.requires.lists.1) begins.repeats) in
     let store = subst (λ d. IsStore (bytes_in first) (records d) c.new-2.result.seat.core.known.disk) (sym made.disk)
     (subst (λ (x : Core). IsStore (bytes_in first) (records workers.disk) x.known.disk)
     (sym (ap (λ (x : Seat). x.core) made.seat ∙ opened.disk)) begins.store) in
-    c.finish.ensures.ends boot first exact lawful
+    c.finish.ensures.ends boot first false lawful
     (on_ok served.result.primary.1 (λ end. end.0.4 boot (c.resume.ensures.leads boot leads says)) served.ensures.primary.1)
-    (on_ok served.result.backup.1 (λ end. end.0.2 exact boot (c.resume-2.ensures.at exact boot repeats)) served.ensures.backup.1)
+    (on_ok served.result.backup.1 (λ end. end.0.2 false boot (c.resume-2.ensures.at false boot repeats)) served.ensures.backup.1)
+    (on_ok served.result.backup.1 (λ end stands. absurd (false≢true stands)) served.ensures.backup.1)
     (on_ok served.result.disk.1 (λ end. end.0 (bytes_in first) store) served.ensures.disk.1)
 
 pub returns-clause-left : goal.returns-clause-left

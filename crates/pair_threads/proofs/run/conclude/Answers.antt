@@ -1,5 +1,5 @@
 -- What the workers are taken apart into, and who goes on alone.
-use Rattle.std.proofs.Common.{ap, sym, ◌∙◌, not, subst, Vec, Global, ℕ, map, arith}
+use Rattle.std.proofs.Common.{ap, sym, ◌∙◌, not, subst, Vec, Global, ℕ, false, map, take, arith}
 use Rattle.std.proofs.lemmas.Bool.{false≢true}
 use Rattle.std.specs.Option.{is_some}
 use Rattle.log_journal.specs.Written.{Written}
@@ -13,12 +13,13 @@ use Rattle.pair_threads.specs.Shown.{IsOfRun}
 use Rattle.pair_threads.specs.Stores.{bytes_in}
 use Rattle.pair_threads.specs.Typing.{IsTyped}
 use Rattle.pair_threads.proofs.Ending.{all_came, ends, ends_so, left, settled_so}
+use Rattle.pair_threads.proofs.Repeating.{loosely}
 use Rattle.pair_threads.proofs.Shown.{all_so, of_run}
 use Rattle.pair_threads.proofs.run.conclude.Goals as goal
 use Rattle.pair_threads.proofs.run.conclude.Goals.{else-undecided-via-then-undecided+else-is_none, else-undecided-via-else-undecided}
 
 pub returns-clause-ends : goal.returns-clause-ends
-returns-clause-ends g c = λ boot first exact lawful leads at store.
+returns-clause-ends g c = λ boot first exact lawful leads at keeps store.
     let p = c.args.primary in
     let b = c.args.backup in
     let parts = c.take_apart-parts.ensures in
@@ -38,7 +39,7 @@ returns-clause-ends g c = λ boot first exact lawful leads at store.
     (ap g.B.Lockstep.state parts.boards.1)
     (ends g.B.Lockstep.state g.B.Lockstep.machine g.met.B.Lockstep.counts g.met.B.Lockstep.operations exact boot first lawful p b
     c.args.terminal.seat.core.known.terminal c.args.disk.seat.core.known.disk closed.tail closed.held closed.winner settled
-    (g.D.SectorStore.records c.args.disk.disk) leads at store c.args.undecided c.requires.rests c.requires.repeated
+    (g.D.SectorStore.records c.args.disk.disk) leads at keeps store c.args.undecided c.requires.rests c.requires.repeated
     goes c.winner_of-winner.ensures
     (λ none. elim c.else-undecided.branch [
       | else-undecided-via-then-undecided+else-is_none w ↦
@@ -67,9 +68,11 @@ returns-clause-left g c = λ boot first exact lawful leads at store.
     (ap (λ (v : Written). v.items) parts.lists.0) (ap (λ (v : Written). v.items) parts.lists.1)
     parts.screens (ap g.D.SectorStore.records parts.disk) (ap g.B.Lockstep.state parts.boards.0)
     (ap g.B.Lockstep.state parts.boards.1)
-    (left g.B.Lockstep.state g.B.Lockstep.machine g.met.B.Lockstep.counts g.met.B.Lockstep.operations exact boot first lawful p b
+    (left g.B.Lockstep.state g.B.Lockstep.machine g.met.B.Lockstep.counts g.met.B.Lockstep.operations false boot first lawful p b
     c.args.terminal.seat.core.known.terminal c.args.disk.seat.core.known.disk closed.tail closed.held closed.winner settled
-    (g.D.SectorStore.records c.args.disk.disk) leads at store c.args.undecided c.requires.rests c.requires.repeated
+    (g.D.SectorStore.records c.args.disk.disk) leads
+    (loosely g.B.Lockstep.machine exact boot (g.B.Lockstep.state b.guest.board) (take b.guest.replayed b.guest.list.items)
+    b.guest.between at) (λ stands. absurd (false≢true stands)) store c.args.undecided c.requires.rests c.requires.repeated
     goes c.winner_of-winner.ensures
     (λ none. elim c.else-undecided.branch [
       | else-undecided-via-then-undecided+else-is_none w ↦

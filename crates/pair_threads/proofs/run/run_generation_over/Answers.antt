@@ -49,12 +49,16 @@ returns-clause-ends g c =
     (ap (λ (x : Seat). x.core.known.disk.puts) made.seat ∙ ap (λ (x : Core). x.known.disk.puts) opened.disk)
     (ap (λ (x : Seat). x.core.known.disk.given) made.seat ∙ ap (λ (x : Core). x.known.disk.given) opened.disk)
     (subst IsUnwritten (sym (ap records made.disk)) c.requires.unwritten) in
-    c.finish.ensures.ends (state c.args.workers.primary) (records c.args.workers.disk) true c.requires.lawful
+    let exact = not c.args.watched in
+    c.finish.ensures.ends (state c.args.workers.primary) (records c.args.workers.disk) exact c.requires.lawful
     (on_ok served.result.primary.1 (λ end. end.0.4 (state c.args.workers.primary) c.new-3.ensures.leads)
     served.ensures.primary.1)
     (on_ok served.result.backup.1
-    (λ end. end.0.2 true (state c.args.workers.primary)
-    (subst (λ b. IsAt state g.B.Lockstep.machine true b c.new-5.result.guest) c.requires.alike (c.new-5.ensures.at true)))
+    (λ end. end.0.2 exact (state c.args.workers.primary)
+    (subst (λ b. IsAt state g.B.Lockstep.machine exact b c.new-5.result.guest) c.requires.alike (c.new-5.ensures.at exact)))
+    served.ensures.backup.1)
+    (on_ok served.result.backup.1
+    (λ end stands. ap (λ (p : Plan). p.keeps) (end.0.0 ∙ c.new-5.ensures.plan.0) ∙ c.plans_of.ensures.keeps.1 ∙ stands)
     served.ensures.backup.1)
     (on_ok served.result.disk.1
     (λ end. subst (λ r. IsStore (bytes_in r) (records served.result.disk.0.disk) served.result.disk.0.seat.core.known.disk)
