@@ -1,13 +1,16 @@
 -- A copy follows a disk: by nothing, by one write, and by some after others.
-use Rattle.std.proofs.Common.{◌≡◌, ◌+◌, if◌then◌else◌, List, [], ◌∷◌, ◌++◌, Option, Some, None, Result, Ok, Err, refl, sym, ap, ◌∙◌, subst, append-nil, append_assoc, arith}
-use Rattle.std.specs.Prelude.{IfErr, OnErr, OnOk, is_some}
+use Rattle.std.proofs.Common.{◌≡◌, ℕ, ◌+◌, if◌then◌else◌, List, [], ◌∷◌, ◌++◌, Option, Some, None, Result, Ok, Err, refl, sym, ap, ◌∙◌, subst, append-nil, append_assoc, arith}
+use Rattle.std.specs.Prelude.{IfErr, IfOk, OnErr, OnOk, is_some}
+use Rattle.std.specs.Global.{Global, Vec}
 use Rattle.std.specs.Option.{option_map_or}
-use Rattle.command_console.specs.Mirrors.{Follows, after_writes}
+use Rattle.command_console.specs.Mirrors.{Follows, IsOfCopy, IsOfMoment, after_writes}
 use Rattle.command_console.specs.declared.mirror.Mirror.{Mirror}
 use Rattle.disk_dcdd.specs.Address.{address_of}
 use Rattle.disk_dcdd.specs.declared.sector.SectorWrite.{SectorWrite}
 use Rattle.i8080_words.specs.declared.refusal.Fault.{Fault}
 use Rattle.rtrb.specs.Ring.{received}
+use Rattle.rtrb.specs.declared.AnyItems.{AnyItems}
+use Rattle.rtrb.specs.declared.consumer.Consumer.{Consumer}
 use Rattle.shared_disk.specs.Arrivals.{after_meeting, after_put}
 use Rattle.shared_disk.specs.Records.{faults_in, record_at, refusal_at}
 use Rattle.shared_disk.specs.declared.store.Record.{Record}
@@ -54,3 +57,9 @@ is_put old new write (Err fault) put same why never = go (record_at old (address
         let met : refusal_at old (address_of write) ≡ Fault.DeviceFault
         = ap (λ (r : Option Record). if is_some r then Fault.DeviceFault else Fault.Unknown) e in
         absurd (none_failed fault never (why ∙ met))
+
+-- an image that is had under the lock of a copy
+pub of_copy : {E : Type 0} (result : Result (Vec ℕ) E) (copy : Mirror) (ring : Consumer SectorWrite Global AnyItems) (drive : ℕ)
+    → IfOk result (λ image. IsOfMoment copy ring drive image.items) → IfOk result (λ image. IsOfCopy drive image.items)
+of_copy (Ok image) copy ring drive is = record { copy = copy; ring = ring; of_moment = is }
+of_copy (Err e) copy ring drive is = tt

@@ -8,3 +8,4 @@ pub mod Rings
 pub mod Sitting
 pub mod Session
 pub mod Console
+pub mod Telling

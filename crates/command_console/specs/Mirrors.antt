@@ -5,7 +5,7 @@ use Rattle.command_console.specs.declared.mirror.Mirrored.{Mirrored}
 use Rattle.command_live.specs.Saving.{images_of}
 use Rattle.disk_dcdd.specs.declared.address.SectorAddress.{SectorAddress}
 use Rattle.disk_dcdd.specs.declared.sector.SectorWrite.{SectorWrite}
-use Rattle.rtrb.specs.Ring.{known_items, received, sent}
+use Rattle.rtrb.specs.Ring.{known_free, known_items, received, sent}
 use Rattle.rtrb.specs.declared.AnyItems.{AnyItems}
 use Rattle.rtrb.specs.declared.consumer.Consumer.{Consumer}
 use Rattle.shared_disk.specs.Arrivals.{after_put}
@@ -22,9 +22,11 @@ write_of address content = record {
   bytes = content.bytes;
 }
 
--- what a store has taken went through the ring too, or it says that its copy is behind from then on
+-- what a store has taken went through the ring too; or there was no room for it in the ring, and the store says that its copy is behind
+-- from then on
 abbrev pub IsMirrored : Mirrored → Mirrored → SectorWrite → Type 0
-IsMirrored old new write = (sent new.writes ≡ sent old.writes ++ write ∷ []) ⊎ IsTrue new.is_behind
+IsMirrored old new write = ((sent new.writes ≡ sent old.writes ++ write ∷ []) × (new.is_behind ≡ old.is_behind))
+    ⊎ ((known_free new.writes ≡ 0) × IsTrue new.is_behind)
 
 -- the records of a disk on which these were put, one after another
 abbrev pub after_writes : List Record → List SectorWrite → List Record
@@ -43,3 +45,9 @@ pub record IsOfMoment (old : Mirror) (ring : Consumer SectorWrite Global AnyItem
   pub came : received ring ≡ received old.writes ++ writes
   pub all : known_items ring ≡ []
   pub is : image ≡ images_of (after_writes old.disk writes) (drive ∷ [])
+
+-- an image of a drive of a copy, with all that had come by then
+pub record IsOfCopy (drive : ℕ) (image : List ℕ) : Type 0 where
+  pub copy : Mirror
+  pub ring : Consumer SectorWrite Global AnyItems
+  pub of_moment : IsOfMoment copy ring drive image

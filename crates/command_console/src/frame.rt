@@ -1,12 +1,42 @@
 //! How an image is handed to the command that writes files.
 ghost use Rattle.std.specs.Prelude.{◌≡◌, IfOk, string_bytes};
-ghost use Rattle.command_console.specs.Frames.{frame_of};
+ghost use Rattle.command_console.specs.Frames.{answer_of, frame_of, unsaved_text};
 
+use i8080_words::{Fault, R};
 use std::alloc::{AllocError, Global};
 
-/// A text that begins with the mark twice and ends with it once, and has between them, in hexadecimal digits, the number of the drive, its
-/// image and the name of a file.
-pub(crate) fn frame(
+/// What is answered to one who saves the disk of a drive: its image, for the command that writes files, or why it cannot be had.
+pub(crate) fn answer(
+    alloc: Global,
+    mark: &str,
+    drive: u8,
+    image: &R<Vec<u8>>,
+    path: &[u8],
+) -> Result<String, AllocError>
+    ensures { IfOk result (λ text. string_bytes text ≡ answer_of mark.now drive image.now path.now) }
+{
+    match image {
+        Ok(image) => frame(alloc, mark, drive, image, path),
+        Err(fault) => unsaved(alloc, drive, *fault),
+    }
+}
+
+// Why an image of a drive cannot be had.
+fn unsaved(alloc: Global, drive: u8, fault: Fault) -> Result<String, AllocError>
+    ensures { IfOk result (λ text. string_bytes text ≡ unsaved_text drive fault) }
+{
+    let reason = match fault {
+        Fault::Unknown => return format!(in alloc; "the machine has no drive {drive}"),
+        Fault::OutOfMemory => "the disk cannot be read: there is no memory for it",
+        Fault::Stalled => "the disk cannot be saved: the copy of it that is saved is behind",
+        _ => "the disk cannot be read",
+    };
+    String::from_str(alloc, reason)
+}
+
+// A text that begins with the mark twice and ends with it once, and has between them, in hexadecimal digits, the number of the drive, its
+// image and the name of a file.
+fn frame(
     alloc: Global,
     mark: &str,
     drive: u8,

@@ -5,7 +5,7 @@ use crate::link::Link;
 use crate::peers::is_told;
 use crate::spares::{next_spare, spares_left};
 use crate::speed::Speed;
-use command_live::{Reached, Replay, Roles, Takeover};
+use command_live::{Replay, Roles, Takeover};
 use pair_threads::{Progress, Who};
 use std::sync::atomic::{AtomicBool, AtomicU32, AtomicU64, Ordering};
 use std::thread;
@@ -157,26 +157,14 @@ impl Hosts {
 
     /// The backup is told now that its primary has failed, if it was not told before.
     pub(crate) fn begin_takeover<C: Clock>(&self, clock: &C) {
-        if self.takeover.has_begun() {
-            return;
-        }
-        if let Some(now) = self.reached(clock) {
-            self.takeover.begin(now);
+        if !self.takeover.has_begun() {
+            self.takeover.begin(clock, self.second.get().steps);
         }
     }
 
     /// What the backup that goes on alone now did from that moment on.
     pub(crate) fn end_takeover<C: Clock>(&self, clock: &C) -> Option<Replay> {
-        self.takeover.end(self.reached(clock)?)
-    }
-
-    // How far the backup has come now.
-    fn reached<C: Clock>(&self, clock: &C) -> Option<Reached> {
-        let time = clock.monotonic().ok()?;
-        Some(Reached {
-            steps: self.second.get().steps,
-            micros: u64::try_from(time.as_micros()).ok()?,
-        })
+        self.takeover.end(clock, self.second.get().steps)
     }
 
     /// How many spare hosts have come and are left.

@@ -1,6 +1,6 @@
 //! The pair's disk, and a copy of it that another thread saves.
-ghost use Rattle.std.specs.Prelude.{◌≡◌, ◌∷◌, [], ◌++◌, ◌+◌, ◌<◌, IfErr, IfOk, IsTrue, OnErr, OnOk};
-ghost use Rattle.command_console.specs.Mirrors.{Follows, IsMirrored, IsOfMoment, write_of};
+ghost use Rattle.std.specs.Prelude.{◌≡◌, ◌∷◌, [], ◌++◌, ◌+◌, ◌<◌, IfErr, IfOk, IsTrue, OnErr, OnOk, false};
+ghost use Rattle.command_console.specs.Mirrors.{Follows, IsMirrored, IsOfCopy, IsOfMoment, write_of};
 ghost use Rattle.rtrb.specs.Ring.{SameProducer, known_free, known_items, sent};
 ghost use Rattle.shared_disk.specs.Arrivals.{after_put};
 ghost use Rattle.shared_disk.specs.Records as table;
@@ -24,6 +24,13 @@ pub(crate) struct Mirror {
 impl Mirror {
     /// The image of a drive, with all that has come by now.
     pub(crate) fn image(&mut self, alloc: Global, drive: u8) -> R<Vec<u8>>
+        ensures { IfOk result (λ image. IsOfCopy drive image.items) }
+    {
+        self.image_now(alloc, drive)
+    }
+
+    // The same, and which writes it has.
+    fn image_now(&mut self, alloc: Global, drive: u8) -> R<Vec<u8>>
         ensures { IfOk result (λ image. IsOfMoment self.old self.new.writes drive image.items) }
     {
         if !self.catch_up() {
@@ -84,8 +91,11 @@ impl Shelf {
         }
     }
 
-    /// The image of a drive at a moment, with all that was put on the disk before. `Unknown` if there is no such drive.
-    pub(crate) fn image(&self, alloc: Global, drive: u8) -> R<Vec<u8>> {
+    /// The image of a drive at a moment, with all that was put on the disk before. `Unknown` if there is no such drive, `OutOfMemory` if
+    /// there is no memory for the image, and `Stalled` if the copy is behind.
+    pub(crate) fn image(&self, alloc: Global, drive: u8) -> R<Vec<u8>>
+        ensures { IfOk result (λ image. IsOfCopy drive image.items) }
+    {
         for _ in 0..u64::MAX {
             if self.is_behind.load(Ordering::SeqCst) {
                 break;
@@ -122,7 +132,8 @@ impl Mirrored {
         writes: Producer<SectorWrite>,
         shelf: Arc<Shelf>,
     ) -> Mirrored
-        ensures { (result.store ≡ store) × (result.writes ≡ writes) }
+        ensures given { (result.store ≡ store) × (result.writes ≡ writes) }
+        ensures whole { result.is_behind ≡ false }
     {
         Mirrored {
             store,
@@ -132,9 +143,10 @@ impl Mirrored {
         }
     }
 
-    // Waits until there is room for one more write. If the ring is full, the copy catches up.
+    // Waits until there is room for one more write. If the ring is full, the copy catches up. Says whether there is room in the end.
     fn has_room(&mut self) -> bool
         ensures room { IsTrue result → 0 < known_free self.new.writes }
+        ensures full { result ≡ false → known_free self.new.writes ≡ 0 }
         ensures same { (self.new.store ≡ self.old.store) × (self.new.is_behind ≡ self.old.is_behind) }
         ensures ring { (sent self.new.writes ≡ sent self.old.writes) × SameProducer self.old.writes self.new.writes }
     {
@@ -144,7 +156,7 @@ impl Mirrored {
             }
             self.shelf.catch_up();
         }
-        false
+        self.writes.slots() > 0
     }
 
     // From now on the copy is behind, and no image of it is given any more.

@@ -1,12 +1,12 @@
 //! What carries out the commands of a console.
-ghost use Rattle.std.specs.Prelude.{◌≡◌, None};
+ghost use Rattle.std.specs.Prelude.{◌≡◌, ◌≢◌, [], IfOk, None, string_bytes};
 ghost use Rattle.command_console.specs.Links.{percent_of};
+ghost use Rattle.command_console.specs.Frames.{IsAnswer, unaided_text};
 
-use crate::frame::frame;
+use crate::frame::answer;
 use crate::hosts::{Hosts, Stopped};
 use crate::mirror::Shelf;
 use console_terminal::{Command, HELP, Interpreter, path_in};
-use i8080_words::Fault;
 use std::alloc::{AllocError, Global};
 
 /// Has hosts fail and come and packets get lost, says how fast the guest runs and how the pair is, hands out images of its disk, and ends
@@ -97,17 +97,19 @@ impl<'a> Operator<'a> {
     }
 
     // The disk of a drive, for the command that writes files.
-    fn save(&self, drive: u8, path: &[u8]) -> Result<String, AllocError> {
+    #[tactic(auto, using(crate::proofs::Answering::is_answer))]
+    fn save(&self, drive: u8, path: &[u8]) -> Result<String, AllocError>
+        ensures unaided { self.now.mark.now ≡ [] → IfOk result (λ text. string_bytes text ≡ unaided_text) }
+        ensures aided { self.now.mark.now ≢ [] → IfOk result
+            (λ text. IsAnswer self.now.mark.now drive path.now (string_bytes text)) }
+    {
         if self.mark.is_empty() {
             return format!(in self.alloc;
                 "`save` needs the command `./pair console`, which writes files: this program opens none"
             );
         }
-        match self.shelf.image(self.alloc, drive) {
-            Ok(image) => frame(self.alloc, self.mark, drive, &image, path),
-            Err(Fault::Unknown) => format!(in self.alloc; "the machine has no drive {drive}"),
-            Err(_) => format!(in self.alloc; "the disk cannot be read: there is no memory for it"),
-        }
+        let image = self.shelf.image(self.alloc, drive);
+        answer(self.alloc, self.mark, drive, &image, path)
     }
 
     // Has a host fail.

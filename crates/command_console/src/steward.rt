@@ -1,7 +1,13 @@
 //! What is told of a pair while it runs.
+ghost use Rattle.std.specs.Prelude.{◌≡◌, ◌∷◌, [], ℕ, IfOk, IsTrue, Option, string_bytes};
+ghost use Rattle.command_console.specs.Telling.{HasTold, shown_text};
+ghost use Rattle.command_live.specs.Lines.{lines_of, with_first};
+ghost use Rattle.command_live.specs.declared.line.Line.{Line};
+ghost use Rattle.command_live.specs.declared.roles.Roles.{Roles};
+ghost use Rattle.command_live.specs.declared.takeover.Replay.{Replay};
 
 use crate::hosts::Hosts;
-use command_live::{Line, first_line, line_of};
+use command_live::{Line, Replay, Roles, first_line, line_of};
 use pair_generations::{PairEvent, Steward};
 use rtrb::Producer;
 use std::alloc::{AllocError, Global};
@@ -13,6 +19,8 @@ pub(crate) struct Announcer<'a, C> {
     hosts: &'a Hosts,
     clock: &'a C,
     lines: Producer<String>,
+    // Whether all lines of the last event were told. Contracts speak of it.
+    is_told: bool,
 }
 
 impl<C> Drop for Announcer<'_, C> {
@@ -22,6 +30,7 @@ impl<C> Drop for Announcer<'_, C> {
             hosts: _,
             clock: _,
             lines: _lines,
+            is_told: _,
         } = self;
     }
 }
@@ -39,21 +48,62 @@ impl<'a, C> Announcer<'a, C> {
             hosts,
             clock,
             lines,
+            is_told: true,
         }
     }
 
-    // A line is lost if memory is refused for it, or if the ring is full, which has room for all that a run can have.
-    fn tell(&mut self, line: Line) {
-        if let Ok(text) = text_of(self.alloc, line) {
-            let _ = self.lines.push(text);
-        }
+    // Tells of an event, before which these hosts ran the machine.
+    fn tell(&mut self, event: PairEvent, before: Roles, replay: Option<Replay>)
+        ensures { IsTrue self.new.is_told → HasTold (lines_of event before replay) self.old.lines self.new.lines }
+    {
+        let first = first_line(event, before);
+        let line = line_of(event, before.after(event), replay);
+        self.is_told = send_both(self.alloc, &mut self.lines, first, line);
     }
 }
 
+// Sends a line that may come first, and another. The second is sent even if the first is lost.
+#[tactic(auto, using(crate::proofs::Tellings::told_both))]
+fn send_both(alloc: Global, ring: &mut Producer<String>, first: Option<Line>, line: Line) -> bool
+    ensures { IsTrue result → HasTold (with_first first line) ring.old ring.new }
+{
+    let Some(first) = first else {
+        return send(alloc, ring, line);
+    };
+    let was_first = send(alloc, ring, first);
+    send(alloc, ring, line) && was_first
+}
+
+// Sends a line. It is lost if memory is refused for it, or if the ring is full, which has room for all that a run can have.
+#[tactic(auto, using(crate::proofs::Tellings::told_one))]
+fn send(alloc: Global, ring: &mut Producer<String>, line: Line) -> bool
+    ensures { IsTrue result → HasTold (line ∷ []) ring.old ring.new }
+{
+    let Ok(text) = text_of(alloc, line) else {
+        return false;
+    };
+    ring.push(text).is_ok()
+}
+
 // How a line is written at a terminal that takes each byte as it is.
-fn text_of(alloc: Global, line: Line) -> Result<String, AllocError> {
-    let text = line.text(alloc)?;
-    format!(in alloc; "\r\npair: {text}\r\n")
+fn text_of(alloc: Global, line: Line) -> Result<String, AllocError>
+    ensures { IfOk result (λ text. string_bytes text ≡ shown_text line) }
+{
+    format!(in alloc; "\r\npair: {line}\r\n")
+}
+
+impl<C: Clock> Announcer<'_, C> {
+    // What a backup did before this event, if it has won by it. If a node has won, no failure is remembered, and the steps of the guest
+    // count anew.
+    fn replay_before(&self, event: PairEvent) -> Option<Replay> {
+        let PairEvent::Won(_) = event else {
+            return None;
+        };
+        let replay = self.hosts.end_takeover(self.clock);
+        self.hosts.forget_failures();
+        self.hosts.speed().count_anew();
+        replay
+    }
 }
 
 impl<C: Clock> Steward for Announcer<'_, C> {
@@ -69,29 +119,27 @@ impl<C: Clock> Steward for Announcer<'_, C> {
         self.hosts.hold(self.clock, steps);
     }
 
-    fn loses_spare(&mut self) {
+    fn loses_spare(&mut self)
+        ensures { (host : ℕ) × (IsTrue self.new.is_told → HasTold (Line.Lost host ∷ []) self.old.lines self.new.lines) }
+    {
         let roles = self.hosts.roles();
         self.hosts.change(roles.without_spare());
-        self.tell(Line::Lost { host: roles.next });
+        let line = Line::Lost { host: roles.next };
+        self.is_told = send(self.alloc, &mut self.lines, line);
     }
 
     // Nothing is told of how a console ends.
-    fn hears(&mut self, event: PairEvent) {
+    fn hears(&mut self, event: PairEvent)
+        ensures { (before : Roles) × (replay : Option Replay) × (IsTrue self.new.is_told
+            → HasTold (lines_of event before replay) self.old.lines self.new.lines) }
+    {
         let before = self.hosts.roles();
-        let roles = before.after(event);
-        self.hosts.change(roles);
-        let mut replay = None;
-        if matches!(event, PairEvent::Won(_)) {
-            replay = self.hosts.end_takeover(self.clock);
-            self.hosts.forget_failures();
-            self.hosts.speed().count_anew();
-        }
+        self.hosts.change(before.after(event));
+        let replay = self.replay_before(event);
         if self.hosts.is_over() {
+            self.is_told = false;
             return;
         }
-        if let Some(line) = first_line(event, before) {
-            self.tell(line);
-        }
-        self.tell(line_of(event, roles, replay));
+        self.tell(event, before, replay);
     }
 }

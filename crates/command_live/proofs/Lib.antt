@@ -1,3 +1,4 @@
 pub mod Living
 pub mod Places
 pub mod Later
+pub mod Writing

@@ -18,4 +18,4 @@ pub use generations::{TRIES, drafted, sizes};
 pub use line::{Line, first_line, line_of};
 pub use roles::Roles;
 pub use saving::images_of;
-pub use takeover::{Reached, Replay, Takeover};
+pub use takeover::{Replay, Takeover};

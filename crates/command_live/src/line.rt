@@ -1,12 +1,14 @@
 //! The lines that tell of a pair.
-ghost use Rattle.std.specs.Prelude.{◌≡◌};
+ghost use Rattle.std.specs.Prelude.{◌≡◌, ◌++◌, Some};
+ghost use Rattle.std.specs.Fmt.{WritesOnOk, decimal};
 ghost use Rattle.command_live.specs.Lines.{first_line, line_of, peer_of};
+ghost use Rattle.command_live.specs.Lines.{asks_text, begins_text, copies_text, line_text, replayed_text, whole_text, won_text};
 
 use crate::roles::Roles;
 use crate::takeover::Replay;
 use pair_generations::PairEvent;
 use pair_threads::Who;
-use std::alloc::{AllocError, Global};
+use std::fmt;
 
 /// A line about a pair.
 #[derive(Clone, Copy, PartialEq, Eq)]
@@ -81,55 +83,109 @@ pub fn line_of(event: PairEvent, roles: Roles, replay: Option<Replay>) -> Line
     }
 }
 
-impl Line {
-    /// How it is written.
-    pub fn text(self, alloc: Global) -> Result<String, AllocError> {
-        match self {
-            Line::Asks { failed, host } => {
-                format!(in alloc; "host {failed} has failed, and host {host} asks to go on alone")
-            }
-            Line::Won { host, replay } => won_text(alloc, host, replay),
-            Line::Copies { host } => { format!(in alloc; "copying the machine to host {host}") }
+impl fmt::Display for Line {
+    ghost output = { λ line. Some (line_text line) };
+
+    fn fmt<W: fmt::Write>(&self, f: &mut fmt::Formatter<W>) -> fmt::Result {
+        match *self {
+            Line::Asks { failed, host } => write_asks(f, failed, host),
+            Line::Won { host, replay } => write_won(f, host, replay),
+            Line::Copies { host } => write_copies(f, host),
             Line::Lost { host } => {
-                format!(in alloc; "host {host} has failed before it had the machine")
+                write_host(f, "host ", host, " has failed before it had the machine")
             }
             Line::Begins {
                 generation,
                 primary,
                 backup,
-            } => begins_text(alloc, generation, primary, backup),
-            Line::Alone { host } => {
-                format!(in alloc;
-                    "no spare host is left; host {host} goes on without a backup until `spare` brings one"
-                )
-            }
+            } => write_begins(f, generation, primary, backup),
+            Line::Alone { host } => write_host(
+                f,
+                "no spare host is left; host ",
+                host,
+                " goes on without a backup until `spare` brings one",
+            ),
         }
     }
 }
 
-fn won_text(alloc: Global, host: u32, replay: Option<Replay>) -> Result<String, AllocError> {
-    let Some(Replay { steps, tenths }) = replay else {
-        return format!(in alloc; "host {host} has won, and goes on alone");
-    };
+// A host, by its number, between words.
+fn write_host<W: fmt::Write>(
+    f: &mut fmt::Formatter<W>,
+    before: &str,
+    host: u32,
+    after: &str,
+) -> fmt::Result
+    ensures { WritesOnOk W.write_str_gives f.old result (before.now ++ (decimal host ++ after.now)) f.new }
+{
+    write!(f, "{before}{host}{after}")
+}
+
+fn write_asks<W: fmt::Write>(f: &mut fmt::Formatter<W>, failed: u32, host: u32) -> fmt::Result
+    ensures { WritesOnOk W.write_str_gives f.old result (asks_text failed host) f.new }
+{
+    write!(
+        f,
+        "host {failed} has failed, and host {host} asks to go on alone"
+    )
+}
+
+fn write_won<W: fmt::Write>(
+    f: &mut fmt::Formatter<W>,
+    host: u32,
+    replay: Option<Replay>,
+) -> fmt::Result
+    ensures { WritesOnOk W.write_str_gives f.old result (won_text host replay) f.new }
+{
+    match replay {
+        None => write_host(f, "host ", host, " has won, and goes on alone"),
+        Some(Replay { steps, tenths }) => write_replayed(f, host, steps, tenths),
+    }
+}
+
+fn write_replayed<W: fmt::Write>(
+    f: &mut fmt::Formatter<W>,
+    host: u32,
+    steps: u64,
+    tenths: u64,
+) -> fmt::Result
+    ensures { WritesOnOk W.write_str_gives f.old result (replayed_text host steps tenths) f.new }
+{
     let (millis, tenth) = (tenths / 10, tenths % 10);
-    format!(in alloc;
+    write!(
+        f,
         "host {host} has won: replayed {steps} steps in {millis}.{tenth} ms, and goes on alone"
     )
 }
 
-// Only the first generation was whole from the beginning.
-fn begins_text(
-    alloc: Global,
+fn write_copies<W: fmt::Write>(f: &mut fmt::Formatter<W>, host: u32) -> fmt::Result
+    ensures { WritesOnOk W.write_str_gives f.old result (copies_text host) f.new }
+{
+    write!(f, "copying the machine to host {host}")
+}
+
+fn write_begins<W: fmt::Write>(
+    f: &mut fmt::Formatter<W>,
     generation: u32,
     primary: u32,
     backup: u32,
-) -> Result<String, AllocError> {
-    let whole = if generation > 1 {
+) -> fmt::Result
+    ensures { WritesOnOk W.write_str_gives f.old result (begins_text generation primary backup) f.new }
+{
+    let whole = whole_again(generation);
+    write!(
+        f,
+        "generation {generation}: host {primary} is the primary, host {backup} its backup{whole}"
+    )
+}
+
+// Only the first generation was whole from the beginning.
+fn whole_again(generation: u32) -> &'static str
+    ensures { result.now ≡ whole_text generation }
+{
+    if generation > 1 {
         "; the pair is whole again"
     } else {
         ""
-    };
-    format!(in alloc;
-        "generation {generation}: host {primary} is the primary, host {backup} its backup{whole}"
-    )
+    }
 }

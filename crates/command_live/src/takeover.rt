@@ -1,14 +1,16 @@
 //! How long a backup takes to go on alone.
-ghost use Rattle.std.specs.Prelude.{◌≡◌};
-ghost use Rattle.command_live.specs.Lines.{replay_between};
+ghost use Rattle.std.specs.Prelude.{◌≡◌, ◌≤◌, IfSome};
+ghost use Rattle.std.specs.Duration.{as_nanos};
+ghost use Rattle.command_live.specs.Lines.{moment_at, replay_between};
 
 use std::sync::atomic::{AtomicBool, AtomicU64, Ordering};
+use std::time::{Clock, Duration};
 
 /// A moment of a backup: how many steps its guest had made by then, and the microseconds of the clock.
 #[derive(Clone, Copy, PartialEq, Eq)]
-pub struct Reached {
-    pub steps: u64,
-    pub micros: u64,
+pub(crate) struct Reached {
+    pub(crate) steps: u64,
+    pub(crate) micros: u64,
 }
 
 /// What a backup did before it was alone: how many steps it repeated, and in how many tenths of a millisecond.
@@ -41,15 +43,21 @@ impl Takeover {
         self.has_begun.load(Ordering::SeqCst)
     }
 
-    /// It is told now.
-    pub fn begin(&self, now: Reached) {
+    /// It is told now that it has made so many steps.
+    pub fn begin<C: Clock>(&self, clock: &C, steps: u64) {
+        let Some(now) = moment_now(clock, steps) else {
+            return;
+        };
         self.steps.store(now.steps, Ordering::SeqCst);
         self.micros.store(now.micros, Ordering::SeqCst);
         self.has_begun.store(true, Ordering::SeqCst);
     }
 
-    /// What it has done from then on, if it was told; the next one is told nothing yet.
-    pub fn end(&self, now: Reached) -> Option<Replay> {
+    /// What it has done until now that it has made so many steps, if it was told; the next one is told nothing yet.
+    pub fn end<C: Clock>(&self, clock: &C, steps: u64) -> Option<Replay>
+        ensures { IfSome result (λ replay. replay.steps ≤ steps) }
+    {
+        let now = moment_now(clock, steps)?;
         if !self.has_begun.swap(false, Ordering::SeqCst) {
             return None;
         }
@@ -58,6 +66,24 @@ impl Takeover {
             micros: self.micros.load(Ordering::SeqCst),
         };
         Some(replay_between(told, now))
+    }
+}
+
+// How far a backup has come now that it has made so many steps, if the clock can be read.
+fn moment_now<C: Clock>(clock: &C, steps: u64) -> Option<Reached>
+    ensures { IfSome result (λ now. now.steps ≡ steps) }
+{
+    let time = clock.monotonic().ok()?;
+    Some(moment_at(time, steps))
+}
+
+// The moment at which the clock shows this time.
+fn moment_at(time: Duration, steps: u64) -> Reached
+    ensures { result ≡ moment_at (as_nanos time) steps }
+{
+    Reached {
+        steps,
+        micros: time.as_micros().min(u128::from(u64::MAX)) as u64,
     }
 }
 

@@ -1,10 +1,16 @@
 //! What is told of a pair over its generations.
-ghost use Rattle.std.specs.Prelude.{◌≡◌};
+ghost use Rattle.std.specs.Prelude.{◌≡◌, ◌∷◌, [], IsTrue, OnOk, Option};
+ghost use Rattle.std.specs.Io.KnownBytes.{Appends};
 ghost use Rattle.command_live.specs.Later.{turn_in};
+ghost use Rattle.command_live.specs.Lines.{lines_of, with_first, written_lines, written_text};
+ghost use Rattle.command_live.specs.Roles.{roles_after, roles_at_boot};
+ghost use Rattle.command_live.specs.declared.takeover.Replay.{Replay};
 
 use crate::line::{Line, first_line, line_of};
 use crate::roles::Roles;
+use crate::takeover::Replay;
 use crate::watch::Watch;
+use command_ending::Failure;
 use command_line::Asker;
 use pair_generations::{PairEvent, Steward};
 use std::alloc::Global;
@@ -41,6 +47,8 @@ pub(crate) struct Teller<'a, C, N> {
     asks: BackupAsks<'a>,
     roles: Roles,
     notes: &'a mut N,
+    // Whether all lines of the last event were written. Contracts speak of it.
+    is_told: bool,
 }
 
 impl<C, N> Drop for Teller<'_, C, N> {
@@ -52,6 +60,7 @@ impl<C, N> Drop for Teller<'_, C, N> {
             asks: _,
             roles: _,
             notes: _notes,
+            is_told: _,
         } = self;
     }
 }
@@ -63,7 +72,9 @@ impl<'a, C, N: Write> Teller<'a, C, N> {
         watch: &'a Watch,
         asks: BackupAsks<'a>,
         notes: &'a mut N,
-    ) -> Teller<'a, C, N> {
+    ) -> Teller<'a, C, N>
+        ensures { result.roles ≡ roles_at_boot }
+    {
         Teller {
             alloc,
             clock,
@@ -71,11 +82,14 @@ impl<'a, C, N: Write> Teller<'a, C, N> {
             asks,
             roles: Roles::at_boot(),
             notes,
+            is_told: true,
         }
     }
 
     // The turn at which the backup of a generation asks.
-    fn asks_in(&self, generation: u32) -> Option<u64> {
+    fn asks_in(&self, generation: u32) -> Option<u64>
+        ensures { result ≡ turn_in self.now.asks.first self.now.asks.next.now self.now.asks.next_at.now generation }
+    {
         let BackupAsks {
             first,
             next,
@@ -84,14 +98,68 @@ impl<'a, C, N: Write> Teller<'a, C, N> {
         turn_in(first, next, next_at, generation)
     }
 
-    fn tell(&mut self, line: Line) {
-        let Ok(text) = line.text(self.alloc) else {
-            return;
-        };
-        let Ok(line) = format!(in self.alloc; "pair: {text}\n") else {
-            return;
-        };
-        let _ = self.notes.write_all(line.as_bytes());
+    // Notes which hosts run the machine after an event, and writes what is told of it.
+    fn tell(&mut self, event: PairEvent, replay: Option<Replay>)
+        ensures roles { self.new.roles ≡ roles_after event self.old.roles }
+        ensures written { IsTrue self.new.is_told → Appends (N.contents self.old.notes.now) (N.contents self.new.notes.now)
+            (written_lines (lines_of event self.old.roles replay)) }
+    {
+        let first = first_line(event, self.roles);
+        self.roles = self.roles.after(event);
+        let line = line_of(event, self.roles, replay);
+        self.is_told = write_lines(self.alloc, self.notes, first, line).is_ok();
+    }
+}
+
+// Writes a line that may come first, and another.
+#[tactic(auto, using(crate::proofs::Writing::one_written))]
+fn write_lines<N: Write>(
+    alloc: Global,
+    notes: &mut N,
+    first: Option<Line>,
+    line: Line,
+) -> Result<(), Failure>
+    ensures { OnOk result (Appends (N.contents notes.old) (N.contents notes.new) (written_lines (with_first first line))) }
+{
+    match first {
+        Some(first) => write_both(alloc, notes, first, line),
+        None => write_line(alloc, notes, line),
+    }
+}
+
+// Writes two lines. The second is written even if the first is lost.
+#[tactic(auto, using(crate::proofs::Writing::both_written))]
+fn write_both<N: Write>(
+    alloc: Global,
+    notes: &mut N,
+    first: Line,
+    line: Line,
+) -> Result<(), Failure>
+    ensures { OnOk result (Appends (N.contents notes.old) (N.contents notes.new) (written_lines (first ∷ line ∷ []))) }
+{
+    let was_first = write_line(alloc, notes, first);
+    write_line(alloc, notes, line)?;
+    was_first?;
+    Ok(())
+}
+
+// Writes a line at once.
+#[tactic(auto, unfolding(crate::specs::Lines::written_text))]
+fn write_line<N: Write>(alloc: Global, notes: &mut N, line: Line) -> Result<(), Failure>
+    ensures { OnOk result (Appends (N.contents notes.old) (N.contents notes.new) (written_text line)) }
+{
+    let text = format!(in alloc; "pair: {line}\n")?;
+    notes.write_all(text.as_bytes())?;
+    Ok(())
+}
+
+impl<C: Clock, N> Teller<'_, C, N> {
+    // What a backup did before this event, if it has won by it.
+    fn replay_before(&self, event: PairEvent) -> Option<Replay> {
+        match event {
+            PairEvent::Won(_) => self.watch.end_takeover(self.clock),
+            _ => None,
+        }
     }
 }
 
@@ -100,19 +168,16 @@ impl<C: Clock, N: Write> Steward for Teller<'_, C, N> {
         false
     }
 
-    fn hears(&mut self, event: PairEvent) {
-        let before = self.roles;
-        self.roles = before.after(event);
+    fn hears(&mut self, event: PairEvent)
+        ensures roles { self.new.roles ≡ roles_after event self.old.roles }
+        ensures written { (replay : Option Replay) × (IsTrue self.new.is_told
+            → Appends (N.contents self.old.notes.now) (N.contents self.new.notes.now)
+            (written_lines (lines_of event self.old.roles replay))) }
+    {
         if let PairEvent::Begins(generation) = event {
             self.watch.expect(self.asks_in(generation));
         }
-        let replay = match event {
-            PairEvent::Won(_) => self.watch.end_takeover(self.clock),
-            _ => None,
-        };
-        if let Some(line) = first_line(event, before) {
-            self.tell(line);
-        }
-        self.tell(line_of(event, self.roles, replay));
+        let replay = self.replay_before(event);
+        self.tell(event, replay);
     }
 }

@@ -1,6 +1,6 @@
 //! What is noted of a pair while its threads run, so that it can be told of.
 
-use crate::takeover::{Reached, Replay, Takeover};
+use crate::takeover::{Replay, Takeover};
 use pair_threads::{Gate, Progress, Who};
 use std::sync::atomic::{AtomicU64, Ordering};
 use std::time::Clock;
@@ -33,26 +33,19 @@ impl Watch {
 
     // The backup is at a turn: if it asks in it, its takeover begins.
     fn passes<C: Clock>(&self, clock: &C, turn: u64) {
-        if turn != self.asks_at.load(Ordering::SeqCst) {
-            return;
-        }
-        if let Some(now) = self.reached(clock) {
-            self.takeover.begin(now);
+        if turn == self.asks_at.load(Ordering::SeqCst) {
+            self.takeover.begin(clock, self.steps());
         }
     }
 
     /// What a backup that goes on alone did after it had asked.
     pub(crate) fn end_takeover<C: Clock>(&self, clock: &C) -> Option<Replay> {
-        self.takeover.end(self.reached(clock)?)
+        self.takeover.end(clock, self.steps())
     }
 
-    // How far the backup has come now.
-    fn reached<C: Clock>(&self, clock: &C) -> Option<Reached> {
-        let time = clock.monotonic().ok()?;
-        Some(Reached {
-            steps: self.steps.load(Ordering::SeqCst),
-            micros: u64::try_from(time.as_micros()).ok()?,
-        })
+    // How many steps the backup has made.
+    fn steps(&self) -> u64 {
+        self.steps.load(Ordering::SeqCst)
     }
 }
 
