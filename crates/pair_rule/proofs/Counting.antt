@@ -3,9 +3,9 @@ use Rattle.std.proofs.Common.{◌≡◌, ◌≢◌, ℕ, ◌+◌, ◌<◌, List,
 use Rattle.atomic_table.proofs.Lists.{set_here, set_else}
 use Rattle.event_callbacks.specs.declared.operations.Operation.TheVariants.{Byte, Write}
 use Rattle.pair_rule.specs.declared.mailbox.Mailbox.{Mailbox}
-use Rattle.pair_rule.specs.declared.mailbox.Mailbox.TheVariants.{Outbox, Inbox, Bytes0, Bytes1, Requests, Answers}
+use Rattle.pair_rule.specs.declared.mailbox.Mailbox.TheVariants.{Outbox, Inbox, Bytes0, Bytes1, Requests, Answers, Lookups, Sectors}
 use Rattle.pair_rule.specs.declared.payload.Payload.{Payload}
-use Rattle.pair_rule.specs.declared.payload.Payload.TheVariants.{Log, Out, Request, Answer}
+use Rattle.pair_rule.specs.declared.payload.Payload.TheVariants.{Log, Out, Request, Answer, Lookup, Sector}
 use Rattle.pair_rule.specs.declared.view.Side.{Side}
 use Rattle.pair_rule.specs.declared.view.Knowledge.{Knowledge}
 use Rattle.pair_rule.specs.Boxes.{box_index}
@@ -42,119 +42,165 @@ module _ (fills empties : List Side) (k : Knowledge) (z : CountedBy fills emptie
   }
 
   -- a box is filled
-  pub fill_counted : length fills ≡ 6 → (b : Mailbox) (q : Payload) (y : Side)
+  pub fill_counted : length fills ≡ 8 → (b : Mailbox) (q : Payload) (y : Side)
       → y.number ≡ (side_at fills (box_index b)).number + 1 → Fits b (after_fill b q k) q
       → CountedBy (set fills (box_index b) y) empties (after_fill b q k)
-  fill_counted six Outbox q y more fit = fill_else 0 y (λ e. omega (arith, e)) (λ e. omega (arith, e))
-  fill_counted six Inbox q y more fit = fill_else 1 y (λ e. omega (arith, e)) (λ e. omega (arith, e))
-  fill_counted six Bytes0 (Out (Byte to number byte)) y more fit =
+  fill_counted eight Outbox q y more fit = fill_else 0 y (λ e. omega (arith, e)) (λ e. omega (arith, e))
+  fill_counted eight Inbox q y more fit = fill_else 1 y (λ e. omega (arith, e)) (λ e. omega (arith, e))
+  fill_counted eight Bytes0 (Out (Byte to number byte)) y more fit =
       fill_else 2 y (λ e. omega (arith, e)) (λ e. omega (arith, e))
-  fill_counted six Bytes0 (Out (Write w)) y more fit = absurd fit
-  fill_counted six Bytes0 (Log p) y more fit = absurd fit
-  fill_counted six Bytes0 (Request r) y more fit = absurd fit
-  fill_counted six Bytes0 (Answer a) y more fit = absurd fit
-  fill_counted six Bytes1 (Out (Byte to number byte)) y more fit =
+  fill_counted eight Bytes0 (Out (Write w)) y more fit = absurd fit
+  fill_counted eight Bytes0 (Log p) y more fit = absurd fit
+  fill_counted eight Bytes0 (Request r) y more fit = absurd fit
+  fill_counted eight Bytes0 (Answer a) y more fit = absurd fit
+  fill_counted eight Bytes0 (Lookup x) y more fit = absurd fit
+  fill_counted eight Bytes0 (Sector x) y more fit = absurd fit
+  fill_counted eight Bytes1 (Out (Byte to number byte)) y more fit =
       fill_else 3 y (λ e. omega (arith, e)) (λ e. omega (arith, e))
-  fill_counted six Bytes1 (Out (Write w)) y more fit = absurd fit
-  fill_counted six Bytes1 (Log p) y more fit = absurd fit
-  fill_counted six Bytes1 (Request r) y more fit = absurd fit
-  fill_counted six Bytes1 (Answer a) y more fit = absurd fit
-  fill_counted six Requests (Request r) y more fit = record {
+  fill_counted eight Bytes1 (Out (Write w)) y more fit = absurd fit
+  fill_counted eight Bytes1 (Log p) y more fit = absurd fit
+  fill_counted eight Bytes1 (Request r) y more fit = absurd fit
+  fill_counted eight Bytes1 (Answer a) y more fit = absurd fit
+  fill_counted eight Bytes1 (Lookup x) y more fit = absurd fit
+  fill_counted eight Bytes1 (Sector x) y more fit = absurd fit
+  fill_counted eight Requests (Request r) y more fit = record {
     asked_before = z.asked_before;
     given_before = z.given_before;
-    asked_is = (let h = ap (λ (x : Side). x.number) (here fills 4 y (omega (arith, six))) in let a = z.asked_is in
+    asked_is = (let h = ap (λ (x : Side). x.number) (here fills 4 y (omega (arith, eight))) in let a = z.asked_is in
         omega (arith, h, a, more));
     taken = z.taken;
     given_is = ap (λ (x : Side). z.given_before + x.number) (elsewhere fills 4 5 y (λ e. omega (arith, e))) ∙ z.given_is;
     came = z.came;
   }
-  fill_counted six Requests (Log p) y more fit = absurd fit
-  fill_counted six Requests (Out o) y more fit = absurd fit
-  fill_counted six Requests (Answer a) y more fit = absurd fit
-  fill_counted six Answers (Answer a) y more fit = record {
+  fill_counted eight Requests (Log p) y more fit = absurd fit
+  fill_counted eight Requests (Out o) y more fit = absurd fit
+  fill_counted eight Requests (Answer a) y more fit = absurd fit
+  fill_counted eight Requests (Lookup x) y more fit = absurd fit
+  fill_counted eight Requests (Sector x) y more fit = absurd fit
+  fill_counted eight Answers (Answer a) y more fit = record {
     asked_before = z.asked_before;
     given_before = z.given_before;
     asked_is = ap (λ (x : Side). z.asked_before + x.number) (elsewhere fills 5 4 y (λ e. omega (arith, e))) ∙ z.asked_is;
     taken = z.taken;
-    given_is = (let h = ap (λ (x : Side). x.number) (here fills 5 y (omega (arith, six))) in let g = z.given_is in
+    given_is = (let h = ap (λ (x : Side). x.number) (here fills 5 y (omega (arith, eight))) in let g = z.given_is in
         let l = length-append k.disk.given (a ∷ []) in omega (arith, h, g, l, more));
     came = z.came;
   }
-  fill_counted six Answers (Log p) y more fit = absurd fit
-  fill_counted six Answers (Out o) y more fit = absurd fit
-  fill_counted six Answers (Request r) y more fit = absurd fit
+  fill_counted eight Answers (Log p) y more fit = absurd fit
+  fill_counted eight Answers (Out o) y more fit = absurd fit
+  fill_counted eight Answers (Request r) y more fit = absurd fit
+  fill_counted eight Answers (Lookup x) y more fit = absurd fit
+  fill_counted eight Answers (Sector x) y more fit = absurd fit
+  fill_counted eight Lookups (Lookup x) y more fit = fill_else 6 y (λ e. omega (arith, e)) (λ e. omega (arith, e))
+  fill_counted eight Lookups (Log p) y more fit = absurd fit
+  fill_counted eight Lookups (Out o) y more fit = absurd fit
+  fill_counted eight Lookups (Request r) y more fit = absurd fit
+  fill_counted eight Lookups (Answer a) y more fit = absurd fit
+  fill_counted eight Lookups (Sector x) y more fit = absurd fit
+  fill_counted eight Sectors (Sector x) y more fit = fill_else 7 y (λ e. omega (arith, e)) (λ e. omega (arith, e))
+  fill_counted eight Sectors (Log p) y more fit = absurd fit
+  fill_counted eight Sectors (Out o) y more fit = absurd fit
+  fill_counted eight Sectors (Request r) y more fit = absurd fit
+  fill_counted eight Sectors (Answer a) y more fit = absurd fit
+  fill_counted eight Sectors (Lookup x) y more fit = absurd fit
 
   -- a box is emptied of something new
-  pub empty_counted : length empties ≡ 6 → (b : Mailbox) (q : Payload) (y : Side)
+  pub empty_counted : length empties ≡ 8 → (b : Mailbox) (q : Payload) (y : Side)
       → (side_at empties (box_index b)).met < y.met → Fits b k q
       → CountedBy fills (set empties (box_index b) y) (after_empty b q k)
-  empty_counted six Outbox (Log p) y more fit = empty_else 0 y (λ e. omega (arith, e)) (λ e. omega (arith, e))
-  empty_counted six Outbox (Out o) y more fit = absurd fit
-  empty_counted six Outbox (Request r) y more fit = absurd fit
-  empty_counted six Outbox (Answer a) y more fit = absurd fit
-  empty_counted six Inbox (Log p) y more fit = empty_else 1 y (λ e. omega (arith, e)) (λ e. omega (arith, e))
-  empty_counted six Inbox (Out o) y more fit = absurd fit
-  empty_counted six Inbox (Request r) y more fit = absurd fit
-  empty_counted six Inbox (Answer a) y more fit = absurd fit
-  empty_counted six Bytes0 (Out o) y more fit = empty_else 2 y (λ e. omega (arith, e)) (λ e. omega (arith, e))
-  empty_counted six Bytes0 (Log p) y more fit = absurd fit
-  empty_counted six Bytes0 (Request r) y more fit = absurd fit
-  empty_counted six Bytes0 (Answer a) y more fit = absurd fit
-  empty_counted six Bytes1 (Out o) y more fit = empty_else 3 y (λ e. omega (arith, e)) (λ e. omega (arith, e))
-  empty_counted six Bytes1 (Log p) y more fit = absurd fit
-  empty_counted six Bytes1 (Request r) y more fit = absurd fit
-  empty_counted six Bytes1 (Answer a) y more fit = absurd fit
-  empty_counted six Requests (Request r) y more fit = record {
+  empty_counted eight Outbox (Log p) y more fit = empty_else 0 y (λ e. omega (arith, e)) (λ e. omega (arith, e))
+  empty_counted eight Outbox (Out o) y more fit = absurd fit
+  empty_counted eight Outbox (Request r) y more fit = absurd fit
+  empty_counted eight Outbox (Answer a) y more fit = absurd fit
+  empty_counted eight Outbox (Lookup x) y more fit = absurd fit
+  empty_counted eight Outbox (Sector x) y more fit = absurd fit
+  empty_counted eight Inbox (Log p) y more fit = empty_else 1 y (λ e. omega (arith, e)) (λ e. omega (arith, e))
+  empty_counted eight Inbox (Out o) y more fit = absurd fit
+  empty_counted eight Inbox (Request r) y more fit = absurd fit
+  empty_counted eight Inbox (Answer a) y more fit = absurd fit
+  empty_counted eight Inbox (Lookup x) y more fit = absurd fit
+  empty_counted eight Inbox (Sector x) y more fit = absurd fit
+  empty_counted eight Bytes0 (Out o) y more fit = empty_else 2 y (λ e. omega (arith, e)) (λ e. omega (arith, e))
+  empty_counted eight Bytes0 (Log p) y more fit = absurd fit
+  empty_counted eight Bytes0 (Request r) y more fit = absurd fit
+  empty_counted eight Bytes0 (Answer a) y more fit = absurd fit
+  empty_counted eight Bytes0 (Lookup x) y more fit = absurd fit
+  empty_counted eight Bytes0 (Sector x) y more fit = absurd fit
+  empty_counted eight Bytes1 (Out o) y more fit = empty_else 3 y (λ e. omega (arith, e)) (λ e. omega (arith, e))
+  empty_counted eight Bytes1 (Log p) y more fit = absurd fit
+  empty_counted eight Bytes1 (Request r) y more fit = absurd fit
+  empty_counted eight Bytes1 (Answer a) y more fit = absurd fit
+  empty_counted eight Bytes1 (Lookup x) y more fit = absurd fit
+  empty_counted eight Bytes1 (Sector x) y more fit = absurd fit
+  empty_counted eight Requests (Request r) y more fit = record {
     asked_before = z.asked_before;
     given_before = z.given_before;
     asked_is = z.asked_is;
-    taken = (let e = ap (λ (x : Side). x.met) (here empties 4 y (omega (arith, six))) in let a = z.taken in
+    taken = (let e = ap (λ (x : Side). x.met) (here empties 4 y (omega (arith, eight))) in let a = z.taken in
         omega (arith, e, a, more));
     given_is = z.given_is;
     came = (let e = ap (λ (x : Side). x.met) (elsewhere empties 4 5 y (λ e. omega (arith, e))) in let a = z.came in
         omega (arith, e, a));
   }
-  empty_counted six Requests (Log p) y more fit = absurd fit
-  empty_counted six Requests (Out o) y more fit = absurd fit
-  empty_counted six Requests (Answer a) y more fit = absurd fit
-  empty_counted six Answers (Answer a) y more fit = record {
+  empty_counted eight Requests (Log p) y more fit = absurd fit
+  empty_counted eight Requests (Out o) y more fit = absurd fit
+  empty_counted eight Requests (Answer a) y more fit = absurd fit
+  empty_counted eight Requests (Lookup x) y more fit = absurd fit
+  empty_counted eight Requests (Sector x) y more fit = absurd fit
+  empty_counted eight Answers (Answer a) y more fit = record {
     asked_before = z.asked_before;
     given_before = z.given_before;
     asked_is = z.asked_is;
     taken = (let e = ap (λ (x : Side). x.met) (elsewhere empties 5 4 y (λ e. omega (arith, e))) in let t = z.taken in
         omega (arith, e, t));
     given_is = z.given_is;
-    came = (let e = ap (λ (x : Side). x.met) (here empties 5 y (omega (arith, six))) in let t = z.came in
+    came = (let e = ap (λ (x : Side). x.met) (here empties 5 y (omega (arith, eight))) in let t = z.came in
         let l = length-append k.primary.answers (a ∷ []) in omega (arith, e, t, l, more));
   }
-  empty_counted six Answers (Log p) y more fit = absurd fit
-  empty_counted six Answers (Out o) y more fit = absurd fit
-  empty_counted six Answers (Request r) y more fit = absurd fit
+  empty_counted eight Answers (Log p) y more fit = absurd fit
+  empty_counted eight Answers (Out o) y more fit = absurd fit
+  empty_counted eight Answers (Request r) y more fit = absurd fit
+  empty_counted eight Answers (Lookup x) y more fit = absurd fit
+  empty_counted eight Answers (Sector x) y more fit = absurd fit
+  empty_counted eight Lookups (Lookup x) y more fit = empty_else 6 y (λ e. omega (arith, e)) (λ e. omega (arith, e))
+  empty_counted eight Lookups (Log p) y more fit = absurd fit
+  empty_counted eight Lookups (Out o) y more fit = absurd fit
+  empty_counted eight Lookups (Request r) y more fit = absurd fit
+  empty_counted eight Lookups (Answer a) y more fit = absurd fit
+  empty_counted eight Lookups (Sector x) y more fit = absurd fit
+  empty_counted eight Sectors (Sector x) y more fit = empty_else 7 y (λ e. omega (arith, e)) (λ e. omega (arith, e))
+  empty_counted eight Sectors (Log p) y more fit = absurd fit
+  empty_counted eight Sectors (Out o) y more fit = absurd fit
+  empty_counted eight Sectors (Request r) y more fit = absurd fit
+  empty_counted eight Sectors (Answer a) y more fit = absurd fit
+  empty_counted eight Sectors (Lookup x) y more fit = absurd fit
 
   -- a box is found empty
-  pub found_counted : length empties ≡ 6 → (b : Mailbox) (y : Side) → y.met ≡ (side_at empties (box_index b)).met
+  pub found_counted : length empties ≡ 8 → (b : Mailbox) (y : Side) → y.met ≡ (side_at empties (box_index b)).met
       → CountedBy fills (set empties (box_index b) y) k
-  found_counted six Outbox y same = empty_else 0 y (λ e. omega (arith, e)) (λ e. omega (arith, e))
-  found_counted six Inbox y same = empty_else 1 y (λ e. omega (arith, e)) (λ e. omega (arith, e))
-  found_counted six Bytes0 y same = empty_else 2 y (λ e. omega (arith, e)) (λ e. omega (arith, e))
-  found_counted six Bytes1 y same = empty_else 3 y (λ e. omega (arith, e)) (λ e. omega (arith, e))
-  found_counted six Requests y same = record {
+  found_counted eight Outbox y same = empty_else 0 y (λ e. omega (arith, e)) (λ e. omega (arith, e))
+  found_counted eight Inbox y same = empty_else 1 y (λ e. omega (arith, e)) (λ e. omega (arith, e))
+  found_counted eight Bytes0 y same = empty_else 2 y (λ e. omega (arith, e)) (λ e. omega (arith, e))
+  found_counted eight Bytes1 y same = empty_else 3 y (λ e. omega (arith, e)) (λ e. omega (arith, e))
+  found_counted eight Lookups y same = empty_else 6 y (λ e. omega (arith, e)) (λ e. omega (arith, e))
+  found_counted eight Sectors y same = empty_else 7 y (λ e. omega (arith, e)) (λ e. omega (arith, e))
+  found_counted eight Requests y same = record {
     asked_before = z.asked_before;
     given_before = z.given_before;
     asked_is = z.asked_is;
-    taken = (let e = ap (λ (x : Side). x.met) (here empties 4 y (omega (arith, six))) in let a = z.taken in
+    taken = (let e = ap (λ (x : Side). x.met) (here empties 4 y (omega (arith, eight))) in let a = z.taken in
         omega (arith, e, a, same));
     given_is = z.given_is;
     came = (let e = ap (λ (x : Side). x.met) (elsewhere empties 4 5 y (λ e. omega (arith, e))) in let a = z.came in
         omega (arith, e, a));
   }
-  found_counted six Answers y same = record {
+  found_counted eight Answers y same = record {
     asked_before = z.asked_before;
     given_before = z.given_before;
     asked_is = z.asked_is;
     taken = (let e = ap (λ (x : Side). x.met) (elsewhere empties 5 4 y (λ e. omega (arith, e))) in let a = z.taken in
         omega (arith, e, a));
     given_is = z.given_is;
-    came = (let e = ap (λ (x : Side). x.met) (here empties 5 y (omega (arith, six))) in let a = z.came in
+    came = (let e = ap (λ (x : Side). x.met) (here empties 5 y (omega (arith, eight))) in let a = z.came in
         omega (arith, e, a, same));
   }

@@ -1,26 +1,31 @@
 -- What held still holds after boxes are emptied.
-use Rattle.std.proofs.Common.{◌+◌, [], ◌∷◌, ◌++◌, length, refl, Some}
+use Rattle.std.proofs.Common.{◌+◌, [], ◌∷◌, ◌++◌, length, refl, Option, Some}
+use Rattle.disk_dcdd.specs.declared.address.SectorAddress.{SectorAddress}
 use Rattle.event_callbacks.specs.declared.operations.Operation.{Operation}
+use Rattle.log_entry.specs.declared.entry.Entry.{Entry}
+use Rattle.shared_disk.specs.declared.disk.SectorRead.{SectorRead}
 use Rattle.pair_protocol.specs.Lawful.{Among}
 use Rattle.pair_rule.specs.declared.mailbox.Mailbox.{Mailbox}
-use Rattle.pair_rule.specs.declared.mailbox.Mailbox.TheVariants.{Outbox, Inbox, Bytes0, Bytes1, Requests, Answers}
+use Rattle.pair_rule.specs.declared.mailbox.Mailbox.TheVariants.{Outbox, Inbox, Bytes0, Bytes1, Requests, Answers, Lookups, Sectors}
 use Rattle.pair_rule.specs.declared.payload.Packet.{Packet}
 use Rattle.pair_rule.specs.declared.payload.Payload.{Payload}
-use Rattle.pair_rule.specs.declared.payload.Payload.TheVariants.{Log, Out, Request, Answer}
+use Rattle.pair_rule.specs.declared.payload.Payload.TheVariants.{Log, Out, Request, Answer, Lookup, Sector}
 use Rattle.pair_rule.specs.declared.payload.DiskRequest.{DiskRequest}
 use Rattle.pair_rule.specs.declared.payload.DiskAnswer.{DiskAnswer}
 use Rattle.pair_rule.specs.declared.view.Knowledge.{Knowledge}
-use Rattle.pair_rule.specs.Knowledge.{IsEntryOf, IsByteOf, IsAsked, Fits, Stands, grown, after_empty}
+use Rattle.pair_rule.specs.Knowledge.{IsEntryOf, IsByteOf, IsAsked, Fits, Stands, after_empty, after_sector, completed, grown}
 use Rattle.pair_rule.proofs.BoxSwaps.{Keeps}
 use Rattle.pair_rule.proofs.Filled.{all_more}
-use Rattle.pair_rule.proofs.ListsThatGrow.{grown_prefix, rising_higher, grown_length}
+use Rattle.pair_rule.proofs.ListsThatGrow.{grown_length, grown_prefix, grown_wanted, longer_by_length, longer_by_prefix, longer_by_wanted, rising_higher}
+use Rattle.pair_rule.proofs.Agree.{completes}
 
 module _ (k : Knowledge) (s : Stands k) where
-  link_has : (p : Packet) → IsEntryOf k.generation k.primary.list p → Keeps (λ k. record k { link = Some p }) k
+  link_has : (p : Packet) → IsEntryOf k.generation k.primary.list k.disk.given p → Keeps (λ k. record k { link = Some p }) k
   link_has p i = record {
     stands = record {
       log = record {
         prefix = s.log.prefix;
+        wanted = s.log.wanted;
         in_link = i;
         rising = s.log.rising;
         behind = s.log.behind;
@@ -35,14 +40,16 @@ module _ (k : Knowledge) (s : Stands k) where
     fits = λ b x f. f;
   }
 
-  backup_has : (p : Packet) → IsEntryOf k.generation k.primary.list p
-      → Keeps (λ k. record k { backup = record k.backup { list = grown k.backup.list p } }) k
+  backup_has : (p : Packet) → IsEntryOf k.generation k.primary.list k.disk.given p
+      → Keeps (λ k. record k { backup = grown k.backup p }) k
   backup_has p i = record {
     stands = record {
       log = record {
-        prefix = grown_prefix k.primary.list k.backup.list p _ refl s.log.prefix i.1;
+        prefix = grown_prefix k.primary.list k.backup.list k.disk.given p.index p.carried i.1.0 _ refl s.log.prefix i.1.1 i.1.2;
+        wanted = grown_wanted k.primary.list k.backup.list k.disk.given k.backup.wanted p.index p.carried i.1.0 _ refl i.1.1
+            i.1.2 s.log.wanted;
         in_link = s.log.in_link;
-        rising = rising_higher 0 (length k.backup.list) _ k.backup.held_values (grown_length k.backup.list p _) s.log.rising;
+        rising = rising_higher 0 (length k.backup.list) _ k.backup.held_values (grown_length k.backup.list p.carried _) s.log.rising;
         behind = s.log.behind;
         once = s.log.once;
       };
@@ -50,6 +57,47 @@ module _ (k : Knowledge) (s : Stands k) where
       port0 = s.port0;
       port1 = s.port1;
       disk = s.disk;
+    };
+    words = refl;
+    fits = λ b x f. f;
+  }
+
+  -- a sector came, and if it is the one that is wanted, the list grows by its entry
+  sector_has : (r : SectorRead) → Among r k.disk.found → Keeps (λ k. record k { backup = after_sector k.backup r }) k
+  sector_has r i = let x : Option Entry = completed k.backup.wanted r in record {
+    stands = record {
+      log = record {
+        prefix = longer_by_prefix k.primary.list k.backup.list x
+            (completes k.disk k.primary.list k.backup.list k.backup.wanted s.disk.agree s.log.wanted r i) s.log.prefix;
+        wanted = longer_by_wanted k.primary.list k.backup.list k.disk.given k.backup.wanted x s.log.wanted;
+        in_link = s.log.in_link;
+        rising = rising_higher 0 (length k.backup.list) _ k.backup.held_values (longer_by_length k.backup.list x) s.log.rising;
+        behind = s.log.behind;
+        once = s.log.once;
+      };
+      decided = s.decided;
+      port0 = s.port0;
+      port1 = s.port1;
+      disk = s.disk;
+    };
+    words = refl;
+    fits = λ b x f. f;
+  }
+
+  lookup_has : (a : SectorAddress) → Keeps (λ k. record k { disk = record k.disk { sought = Some a } }) k
+  lookup_has a = record {
+    stands = record {
+      log = s.log;
+      decided = s.decided;
+      port0 = s.port0;
+      port1 = s.port1;
+      disk = record {
+        taken = s.disk.taken;
+        puts = s.disk.puts;
+        answers = s.disk.answers;
+        replies = s.disk.replies;
+        agree = s.disk.agree;
+      };
     };
     words = refl;
     fits = λ b x f. f;
@@ -91,7 +139,13 @@ module _ (k : Knowledge) (s : Stands k) where
       decided = s.decided;
       port0 = s.port0;
       port1 = s.port1;
-      disk = record { taken = i; puts = s.disk.puts; answers = s.disk.answers; replies = s.disk.replies };
+      disk = record {
+        taken = i;
+        puts = s.disk.puts;
+        answers = s.disk.answers;
+        replies = s.disk.replies;
+        agree = s.disk.agree;
+      };
     };
     words = refl;
     fits = λ b x f. f;
@@ -110,6 +164,7 @@ module _ (k : Knowledge) (s : Stands k) where
         puts = s.disk.puts;
         answers = all_more k.primary.answers a (λ a. Among a k.disk.given) s.disk.answers i;
         replies = s.disk.replies;
+        agree = s.disk.agree;
       };
     };
     words = refl;
@@ -121,23 +176,47 @@ module _ (k : Knowledge) (s : Stands k) where
   empty_keeps Outbox (Out o) f = absurd f
   empty_keeps Outbox (Request r) f = absurd f
   empty_keeps Outbox (Answer a) f = absurd f
+  empty_keeps Outbox (Lookup x) f = absurd f
+  empty_keeps Outbox (Sector x) f = absurd f
   empty_keeps Inbox (Log p) f = backup_has p f
   empty_keeps Inbox (Out o) f = absurd f
   empty_keeps Inbox (Request r) f = absurd f
   empty_keeps Inbox (Answer a) f = absurd f
+  empty_keeps Inbox (Lookup x) f = absurd f
+  empty_keeps Inbox (Sector x) f = absurd f
   empty_keeps Bytes0 (Out o) f = hand0_has o f
   empty_keeps Bytes0 (Log p) f = absurd f
   empty_keeps Bytes0 (Request r) f = absurd f
   empty_keeps Bytes0 (Answer a) f = absurd f
+  empty_keeps Bytes0 (Lookup x) f = absurd f
+  empty_keeps Bytes0 (Sector x) f = absurd f
   empty_keeps Bytes1 (Out o) f = hand1_has o f
   empty_keeps Bytes1 (Log p) f = absurd f
   empty_keeps Bytes1 (Request r) f = absurd f
   empty_keeps Bytes1 (Answer a) f = absurd f
+  empty_keeps Bytes1 (Lookup x) f = absurd f
+  empty_keeps Bytes1 (Sector x) f = absurd f
   empty_keeps Requests (Request r) f = taken_has r f
   empty_keeps Requests (Log p) f = absurd f
   empty_keeps Requests (Out o) f = absurd f
   empty_keeps Requests (Answer a) f = absurd f
+  empty_keeps Requests (Lookup x) f = absurd f
+  empty_keeps Requests (Sector x) f = absurd f
   empty_keeps Answers (Answer a) f = answer_has a f
   empty_keeps Answers (Log p) f = absurd f
   empty_keeps Answers (Out o) f = absurd f
   empty_keeps Answers (Request r) f = absurd f
+  empty_keeps Answers (Lookup x) f = absurd f
+  empty_keeps Answers (Sector x) f = absurd f
+  empty_keeps Lookups (Lookup x) f = lookup_has x
+  empty_keeps Lookups (Log p) f = absurd f
+  empty_keeps Lookups (Out o) f = absurd f
+  empty_keeps Lookups (Request r) f = absurd f
+  empty_keeps Lookups (Answer a) f = absurd f
+  empty_keeps Lookups (Sector x) f = absurd f
+  empty_keeps Sectors (Sector x) f = sector_has x f
+  empty_keeps Sectors (Log p) f = absurd f
+  empty_keeps Sectors (Out o) f = absurd f
+  empty_keeps Sectors (Request r) f = absurd f
+  empty_keeps Sectors (Answer a) f = absurd f
+  empty_keeps Sectors (Lookup x) f = absurd f

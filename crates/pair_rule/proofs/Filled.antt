@@ -1,5 +1,6 @@
 -- What each step does to what is known: who may make it, and that what held still holds.
-use Rattle.std.proofs.Common.{◌≡◌, ℕ, ◌+◌, List, [], ◌∷◌, ◌++◌, sym, refl, ap, ◌∙◌, subst, inl, inr, ⊎_elim, Option, Some, None}
+use Rattle.std.proofs.Common.{◌≡◌, ℕ, ◌+◌, List, [], ◌∷◌, ◌++◌, length, sym, refl, ◌∙◌, subst, inl, inr, Option, Some, None}
+use mathlib.Core.Option.{some}
 use lib.ListN.{get_elem?}
 use Rattle.atomic_table.proofs.Lists.{at_longer}
 use Rattle.disk_dcdd.specs.declared.address.SectorAddress.{SectorAddress}
@@ -9,10 +10,10 @@ use Rattle.event_callbacks.specs.declared.operations.Operation.TheVariants.{Byte
 use Rattle.log_entry.specs.declared.entry.Entry.{Entry}
 use Rattle.pair_protocol.specs.Lawful.{Among}
 use Rattle.pair_rule.specs.declared.mailbox.Mailbox.{Mailbox}
-use Rattle.pair_rule.specs.declared.mailbox.Mailbox.TheVariants.{Outbox, Inbox, Bytes0, Bytes1, Requests, Answers}
+use Rattle.pair_rule.specs.declared.mailbox.Mailbox.TheVariants.{Outbox, Inbox, Bytes0, Bytes1, Requests, Answers, Lookups, Sectors}
 use Rattle.pair_rule.specs.declared.payload.Packet.{Packet}
 use Rattle.pair_rule.specs.declared.payload.Payload.{Payload}
-use Rattle.pair_rule.specs.declared.payload.Payload.TheVariants.{Log, Out, Request, Answer}
+use Rattle.pair_rule.specs.declared.payload.Payload.TheVariants.{Log, Out, Request, Answer, Lookup, Sector}
 use Rattle.pair_rule.specs.declared.payload.DiskRequest.{DiskRequest}
 use Rattle.pair_rule.specs.declared.payload.DiskRequest.TheVariants as ask
 use Rattle.pair_rule.specs.declared.payload.DiskAnswer.{DiskAnswer}
@@ -22,34 +23,17 @@ use Rattle.pair_rule.specs.declared.view.PrimaryCall.{PrimaryCall}
 use Rattle.pair_rule.specs.declared.view.PrimaryView.{PrimaryView}
 use Rattle.pair_rule.specs.declared.view.DiskView.{DiskView}
 use Rattle.pair_rule.specs.declared.view.Knowledge.{Knowledge}
+use Rattle.pair_rule.specs.declared.payload.NamedSector.{NamedSector}
+use Rattle.shared_disk.specs.declared.disk.SectorRead.{SectorRead}
 use Rattle.pair_rule.specs.Boxes.{filler, emptier}
-use Rattle.pair_rule.specs.Knowledge.{IsEntryOf, IsByteOf, IsAsked, IsReplied, Fits, WhereSome, AllAre, PortStands, Stands, grown, put_by, with_release, with_request, after_fill, after_empty, CanFill}
+use Rattle.pair_rule.specs.Knowledge.{Agrees, AgreesOf, Carries, IsEntryOf, IsNext, after_sector, IsByteOf, IsAsked, IsReplied, Fits, WhereSome, AllAre, PortStands, Stands, grown, put_by, with_release, with_request, after_fill, after_empty, CanFill}
 use Rattle.pair_rule.specs.Rules.{SamePart}
 use Rattle.pair_rule.proofs.Parts.{Local, nothing, on_primary, on_link, on_backup, on_terminal, on_disk}
 use Rattle.pair_rule.proofs.BoxSwaps.{Keeps, keeps_all}
+use Rattle.pair_rule.proofs.Agree.{agree_answer, agree_found, carries_all, entry_given, next_given}
+pub use Rattle.pair_rule.proofs.Elements.{all_map, all_more, among_last, among_more, if_map}
 
--- ---- lists that only grow
-
-module _ {A : Type 0} where
-  pub among_more : (x : A) (xs ys : List A) → Among x xs → Among x (xs ++ ys)
-  among_more x [] ys a = absurd a
-  among_more x (y ∷ xs) ys a = ⊎_elim (λ e. inl e) (λ i. inr (among_more x xs ys i)) a
-
-  pub among_last : (x : A) (xs : List A) → Among x (xs ++ x ∷ [])
-  among_last x [] = inl refl
-  among_last x (y ∷ xs) = inr (among_last x xs)
-
-  pub all_map : (xs : List A) (P Q : A → Type 0) → ((x : A) → P x → Q x) → AllAre xs P → AllAre xs Q
-  all_map [] P Q f a = a
-  all_map (x ∷ xs) P Q f a = (f x a.0, all_map xs P Q f a.1)
-
-  pub all_more : (xs : List A) (x : A) (P : A → Type 0) → AllAre xs P → P x → AllAre (xs ++ x ∷ []) P
-  all_more [] x P a p = (p, tt)
-  all_more (y ∷ xs) x P a p = (a.0, all_more xs x P a.1 p)
-
-  pub if_map : (x : Option A) (P Q : A → Type 0) → ((x : A) → P x → Q x) → WhereSome x P → WhereSome x Q
-  if_map None P Q f i = i
-  if_map (Some x) P Q f i = f x i
+-- ---- what holds of a list goes on to hold of a longer one
 
 byte_more : (port : ℕ) (xs ys : List Operation) (o : Operation) → IsByteOf port xs o → IsByteOf port (xs ++ ys) o
 byte_more port xs ys (Byte to number byte) i = (i.0, among_more (Byte to number byte) xs ys i.1)
@@ -59,8 +43,13 @@ asked_more : (xs ys : List Operation) (r : DiskRequest) → IsAsked xs r → IsA
 asked_more xs ys (ask.Write w) i = among_more (Write w) xs ys i
 asked_more xs ys (ask.Read a) i = i
 
-pub entry_more : (g : ℕ) (list : List Entry) (e : Entry) (p : Packet) → IsEntryOf g list p → IsEntryOf g (list ++ e ∷ []) p
-entry_more g list e p i = (i.0, at_longer list (e ∷ []) p.index p.entry i.1)
+pub entry_more : (g : ℕ) (list : List Entry) (given : List DiskAnswer) (e : Entry) (p : Packet) → IsEntryOf g list given p
+    → IsEntryOf g (list ++ e ∷ []) given p
+entry_more g list given e p i = (i.0, (i.1.0, at_longer list (e ∷ []) p.index i.1.0 i.1.1, i.1.2))
+
+pub next_more : (list : List Entry) (given : List DiskAnswer) (copy : List Entry) (e : Entry) (t : NamedSector)
+    → IsNext list given copy t → IsNext (list ++ e ∷ []) given copy t
+next_more list given copy e t i = (i.0, at_longer list (e ∷ []) (length copy) i.0 i.1, i.2)
 
 -- what was put stays put
 pub put_more : (t : Option DiskRequest) (puts : List SectorWrite) (w : SectorWrite) → Among w puts → Among w (put_by t puts)
@@ -74,6 +63,12 @@ replied_more t puts (answer.Written n) i = (i.0, put_more t puts i.0 i.1, i.2)
 replied_more t puts (answer.Read r) (inl e) = inl e
 replied_more t puts (answer.Read r) (inr i) = inr (i.0, put_more t puts i.0 i.1, i.2, i.3, i.4)
 
+-- what the disk reads agrees with what it read before
+abbrev pub AgreesBy : Mailbox → Knowledge → Payload → Type 0
+AgreesBy Answers k (Answer a) = AgreesOf k.disk a
+AgreesBy Sectors k (Sector r) = Agrees k.disk r
+AgreesBy _ k _ = Unit {0}
+
 -- ---- whose each change is
 
 pub local_fill : (b : Mailbox) (q : Payload) → Local (filler b) (after_fill b q)
@@ -83,44 +78,88 @@ local_fill Bytes0 (Out o) = on_primary (with_release o)
 local_fill Bytes0 (Log p) = nothing _
 local_fill Bytes0 (Request r) = nothing _
 local_fill Bytes0 (Answer a) = nothing _
+local_fill Bytes0 (Lookup x) = nothing _
+local_fill Bytes0 (Sector x) = nothing _
 local_fill Bytes1 (Out o) = on_primary (with_release o)
 local_fill Bytes1 (Log p) = nothing _
 local_fill Bytes1 (Request r) = nothing _
 local_fill Bytes1 (Answer a) = nothing _
+local_fill Bytes1 (Lookup x) = nothing _
+local_fill Bytes1 (Sector x) = nothing _
 local_fill Requests (Request r) = on_primary (with_request r)
 local_fill Requests (Log p) = nothing _
 local_fill Requests (Out o) = nothing _
 local_fill Requests (Answer a) = nothing _
+local_fill Requests (Lookup x) = nothing _
+local_fill Requests (Sector x) = nothing _
 local_fill Answers (Answer a) = on_disk (λ d. record d { puts = put_by d.taken d.puts; given = d.given ++ a ∷ [] })
 local_fill Answers (Log p) = nothing _
 local_fill Answers (Out o) = nothing _
 local_fill Answers (Request r) = nothing _
+local_fill Answers (Lookup x) = nothing _
+local_fill Answers (Sector x) = nothing _
+local_fill Lookups (Log p) = nothing _
+local_fill Lookups (Out o) = nothing _
+local_fill Lookups (Request r) = nothing _
+local_fill Lookups (Answer a) = nothing _
+local_fill Lookups (Lookup x) = nothing _
+local_fill Lookups (Sector x) = nothing _
+local_fill Sectors (Sector x) = on_disk (λ d. record d { found = d.found ++ x ∷ [] })
+local_fill Sectors (Log p) = nothing _
+local_fill Sectors (Out o) = nothing _
+local_fill Sectors (Request r) = nothing _
+local_fill Sectors (Answer a) = nothing _
+local_fill Sectors (Lookup x) = nothing _
 
 pub local_empty : (b : Mailbox) (q : Payload) → Local (emptier b) (after_empty b q)
 local_empty Outbox (Log p) = on_link (λ _. Some p)
 local_empty Outbox (Out o) = nothing _
 local_empty Outbox (Request r) = nothing _
 local_empty Outbox (Answer a) = nothing _
-local_empty Inbox (Log p) = on_backup (λ b. record b { list = grown b.list p })
+local_empty Outbox (Lookup x) = nothing _
+local_empty Outbox (Sector x) = nothing _
+local_empty Inbox (Log p) = on_backup (λ b. grown b p)
 local_empty Inbox (Out o) = nothing _
 local_empty Inbox (Request r) = nothing _
 local_empty Inbox (Answer a) = nothing _
+local_empty Inbox (Lookup x) = nothing _
+local_empty Inbox (Sector x) = nothing _
 local_empty Bytes0 (Out o) = on_terminal (λ t. record t { hand0 = Some o })
 local_empty Bytes0 (Log p) = nothing _
 local_empty Bytes0 (Request r) = nothing _
 local_empty Bytes0 (Answer a) = nothing _
+local_empty Bytes0 (Lookup x) = nothing _
+local_empty Bytes0 (Sector x) = nothing _
 local_empty Bytes1 (Out o) = on_terminal (λ t. record t { hand1 = Some o })
 local_empty Bytes1 (Log p) = nothing _
 local_empty Bytes1 (Request r) = nothing _
 local_empty Bytes1 (Answer a) = nothing _
+local_empty Bytes1 (Lookup x) = nothing _
+local_empty Bytes1 (Sector x) = nothing _
 local_empty Requests (Request r) = on_disk (λ d. record d { taken = Some r; takes = d.takes + 1 })
 local_empty Requests (Log p) = nothing _
 local_empty Requests (Out o) = nothing _
 local_empty Requests (Answer a) = nothing _
+local_empty Requests (Lookup x) = nothing _
+local_empty Requests (Sector x) = nothing _
 local_empty Answers (Answer a) = on_primary (λ p. record p { answers = p.answers ++ a ∷ [] })
 local_empty Answers (Log p) = nothing _
 local_empty Answers (Out o) = nothing _
 local_empty Answers (Request r) = nothing _
+local_empty Answers (Lookup x) = nothing _
+local_empty Answers (Sector x) = nothing _
+local_empty Lookups (Lookup x) = on_disk (λ d. record d { sought = Some x })
+local_empty Lookups (Log p) = nothing _
+local_empty Lookups (Out o) = nothing _
+local_empty Lookups (Request r) = nothing _
+local_empty Lookups (Answer a) = nothing _
+local_empty Lookups (Sector x) = nothing _
+local_empty Sectors (Sector x) = on_backup (λ b. after_sector b x)
+local_empty Sectors (Log p) = nothing _
+local_empty Sectors (Out o) = nothing _
+local_empty Sectors (Request r) = nothing _
+local_empty Sectors (Answer a) = nothing _
+local_empty Sectors (Lookup x) = nothing _
 
 -- ---- what stands goes on to stand: where boxes are filled
 
@@ -153,6 +192,7 @@ module _ (k : Knowledge) (s : Stands k) where
       puts = all_map k.disk.puts _ _ (λ w i. among_more (Write w) k.primary.released more i) s.disk.puts;
       answers = s.disk.answers;
       replies = s.disk.replies;
+      agree = s.disk.agree;
     };
   }
 
@@ -164,15 +204,23 @@ module _ (k : Knowledge) (s : Stands k) where
   released_fits more Bytes0 (Log p) f = f
   released_fits more Bytes0 (Request r) f = f
   released_fits more Bytes0 (Answer a) f = f
+  released_fits more Bytes0 (Lookup x) f = f
+  released_fits more Bytes0 (Sector x) f = f
   released_fits more Bytes1 (Out o) f = byte_more 1 k.primary.released more o f
   released_fits more Bytes1 (Log p) f = f
   released_fits more Bytes1 (Request r) f = f
   released_fits more Bytes1 (Answer a) f = f
+  released_fits more Bytes1 (Lookup x) f = f
+  released_fits more Bytes1 (Sector x) f = f
   released_fits more Requests (Request r) f = asked_more k.primary.released more r f
   released_fits more Requests (Log p) f = f
   released_fits more Requests (Out o) f = f
   released_fits more Requests (Answer a) f = f
+  released_fits more Requests (Lookup x) f = f
+  released_fits more Requests (Sector x) f = f
   released_fits more Answers x f = f
+  released_fits more Lookups x f = f
+  released_fits more Sectors x f = f
 
   release_keeps : (o : Operation) → Keeps (λ k. record k { primary = with_release o k.primary }) k
   release_keeps o = record {
@@ -204,9 +252,16 @@ module _ (k : Knowledge) (s : Stands k) where
   puts_more (Some (ask.Write w)) i = all_more k.disk.puts w (λ w. Among (Write w) k.primary.released) s.disk.puts i
   puts_more (Some (ask.Read a)) i = s.disk.puts
 
-  answered_stands : (a : DiskAnswer) → IsReplied (put_by k.disk.taken k.disk.puts) a → Stands (answered a)
-  answered_stands a can = record {
-    log = s.log;
+  answered_stands : (a : DiskAnswer) → IsReplied (put_by k.disk.taken k.disk.puts) a → AgreesOf k.disk a → Stands (answered a)
+  answered_stands a can agrees = record {
+    log = record {
+      prefix = s.log.prefix;
+      wanted = if_map k.backup.wanted _ _ (next_given k.primary.list k.disk.given (a ∷ []) k.backup.list) s.log.wanted;
+      in_link = if_map k.link _ _ (entry_given k.generation k.primary.list k.disk.given (a ∷ [])) s.log.in_link;
+      rising = s.log.rising;
+      behind = s.log.behind;
+      once = s.log.once;
+    };
     decided = s.decided;
     port0 = s.port0;
     port1 = s.port1;
@@ -216,6 +271,7 @@ module _ (k : Knowledge) (s : Stands k) where
       answers = all_map k.primary.answers _ _ (λ x i. among_more x k.disk.given (a ∷ []) i) s.disk.answers;
       replies = all_more k.disk.given a (IsReplied (put_by k.disk.taken k.disk.puts))
           (all_map k.disk.given _ _ (λ x i. replied_more k.disk.taken k.disk.puts x i) s.disk.replies) can;
+      agree = agree_answer k.disk (put_by k.disk.taken k.disk.puts) a s.disk.agree agrees;
     };
   }
 
@@ -224,79 +280,184 @@ module _ (k : Knowledge) (s : Stands k) where
   answered_fits a Answers (Log p) f = f
   answered_fits a Answers (Out o) f = f
   answered_fits a Answers (Request r) f = f
-  answered_fits a Outbox x f = f
-  answered_fits a Inbox x f = f
+  answered_fits a Answers (Lookup x) f = f
+  answered_fits a Answers (Sector x) f = f
+  answered_fits a Outbox (Log p) f = entry_given k.generation k.primary.list k.disk.given (a ∷ []) p f
+  answered_fits a Outbox (Out o) f = f
+  answered_fits a Outbox (Request r) f = f
+  answered_fits a Outbox (Answer x) f = f
+  answered_fits a Outbox (Lookup x) f = f
+  answered_fits a Outbox (Sector x) f = f
+  answered_fits a Inbox (Log p) f = entry_given k.generation k.primary.list k.disk.given (a ∷ []) p f
+  answered_fits a Inbox (Out o) f = f
+  answered_fits a Inbox (Request r) f = f
+  answered_fits a Inbox (Answer x) f = f
+  answered_fits a Inbox (Lookup x) f = f
+  answered_fits a Inbox (Sector x) f = f
   answered_fits a Bytes0 x f = f
   answered_fits a Bytes1 x f = f
   answered_fits a Requests x f = f
+  answered_fits a Lookups x f = f
+  answered_fits a Sectors x f = f
+
+  -- the disk answered a lookup
+  abbrev found : SectorRead → Knowledge
+  found r = record k { disk = record k.disk { found = k.disk.found ++ r ∷ [] } }
+
+  found_stands : (r : SectorRead) → Agrees k.disk r → Stands (found r)
+  found_stands r agrees = record {
+    log = s.log;
+    decided = s.decided;
+    port0 = s.port0;
+    port1 = s.port1;
+    disk = record {
+      taken = s.disk.taken;
+      puts = s.disk.puts;
+      answers = s.disk.answers;
+      replies = s.disk.replies;
+      agree = agree_found k.disk r s.disk.agree agrees;
+    };
+  }
+
+  found_fits : (r : SectorRead) (b : Mailbox) (x : Payload) → Fits b k x → Fits b (found r) x
+  found_fits r Sectors (Sector x) f = among_more x k.disk.found (r ∷ []) f
+  found_fits r Sectors (Log p) f = f
+  found_fits r Sectors (Out o) f = f
+  found_fits r Sectors (Request x) f = f
+  found_fits r Sectors (Answer a) f = f
+  found_fits r Sectors (Lookup x) f = f
+  found_fits r Outbox x f = f
+  found_fits r Inbox x f = f
+  found_fits r Bytes0 x f = f
+  found_fits r Bytes1 x f = f
+  found_fits r Requests x f = f
+  found_fits r Answers x f = f
+  found_fits r Lookups x f = f
 
   abbrev MayFill : Mailbox → Payload → Type 0
   MayFill b q = Keeps (after_fill b q) k × Fits b (after_fill b q k) q
 
-  pub fill_keeps : (b : Mailbox) (q : Payload) → CanFill b k q → MayFill b q
-  fill_keeps Outbox (Log p) can = (keeps_all k s, can)
-  fill_keeps Outbox (Out o) can = absurd can
-  fill_keeps Outbox (Request r) can = absurd can
-  fill_keeps Outbox (Answer a) can = absurd can
-  fill_keeps Inbox (Log p) can = (keeps_all k s, subst (λ x. WhereSome x (IsEntryOf k.generation k.primary.list)) can s.log.in_link)
-  fill_keeps Inbox (Out o) can = absurd can
-  fill_keeps Inbox (Request r) can = absurd can
-  fill_keeps Inbox (Answer a) can = absurd can
-  fill_keeps Bytes0 (Out (Byte to number byte)) can =
+  pub fill_keeps : (b : Mailbox) (q : Payload) → CanFill b k q → AgreesBy b k q → MayFill b q
+  fill_keeps Outbox (Log p) can agrees = (
+    keeps_all k s,
+    (can.0, (can.1.0, can.1.1, carries_all k.primary.answers k.disk.given s.disk.answers p.carried can.1.0 can.1.2)),
+  )
+  fill_keeps Outbox (Out o) can agrees = absurd can
+  fill_keeps Outbox (Request r) can agrees = absurd can
+  fill_keeps Outbox (Answer a) can agrees = absurd can
+  fill_keeps Outbox (Lookup x) can agrees = absurd can
+  fill_keeps Outbox (Sector x) can agrees = absurd can
+  fill_keeps Inbox (Log p) can agrees = (keeps_all k s, subst (λ x. WhereSome x (IsEntryOf k.generation k.primary.list k.disk.given)) can s.log.in_link)
+  fill_keeps Inbox (Out o) can agrees = absurd can
+  fill_keeps Inbox (Request r) can agrees = absurd can
+  fill_keeps Inbox (Answer a) can agrees = absurd can
+  fill_keeps Inbox (Lookup x) can agrees = absurd can
+  fill_keeps Inbox (Sector x) can agrees = absurd can
+  fill_keeps Bytes0 (Out (Byte to number byte)) can agrees =
       (release_keeps (Byte to number byte), (can, among_last (Byte to number byte) k.primary.released))
-  fill_keeps Bytes0 (Out (Write w)) can = absurd can
-  fill_keeps Bytes0 (Log p) can = absurd can
-  fill_keeps Bytes0 (Request r) can = absurd can
-  fill_keeps Bytes0 (Answer a) can = absurd can
-  fill_keeps Bytes1 (Out (Byte to number byte)) can =
+  fill_keeps Bytes0 (Out (Write w)) can agrees = absurd can
+  fill_keeps Bytes0 (Log p) can agrees = absurd can
+  fill_keeps Bytes0 (Request r) can agrees = absurd can
+  fill_keeps Bytes0 (Answer a) can agrees = absurd can
+  fill_keeps Bytes0 (Lookup x) can agrees = absurd can
+  fill_keeps Bytes0 (Sector x) can agrees = absurd can
+  fill_keeps Bytes1 (Out (Byte to number byte)) can agrees =
       (release_keeps (Byte to number byte), (can, among_last (Byte to number byte) k.primary.released))
-  fill_keeps Bytes1 (Out (Write w)) can = absurd can
-  fill_keeps Bytes1 (Log p) can = absurd can
-  fill_keeps Bytes1 (Request r) can = absurd can
-  fill_keeps Bytes1 (Answer a) can = absurd can
-  fill_keeps Requests (Request (ask.Write w)) can = (release_keeps (Write w), among_last (Write w) k.primary.released)
-  fill_keeps Requests (Request (ask.Read a)) can = (asks_keeps a, tt)
-  fill_keeps Requests (Log p) can = absurd can
-  fill_keeps Requests (Out o) can = absurd can
-  fill_keeps Requests (Answer a) can = absurd can
-  fill_keeps Answers (Answer a) can = (
+  fill_keeps Bytes1 (Out (Write w)) can agrees = absurd can
+  fill_keeps Bytes1 (Log p) can agrees = absurd can
+  fill_keeps Bytes1 (Request r) can agrees = absurd can
+  fill_keeps Bytes1 (Answer a) can agrees = absurd can
+  fill_keeps Bytes1 (Lookup x) can agrees = absurd can
+  fill_keeps Bytes1 (Sector x) can agrees = absurd can
+  fill_keeps Requests (Request (ask.Write w)) can agrees = (release_keeps (Write w), among_last (Write w) k.primary.released)
+  fill_keeps Requests (Request (ask.Read a)) can agrees = (asks_keeps a, tt)
+  fill_keeps Requests (Log p) can agrees = absurd can
+  fill_keeps Requests (Out o) can agrees = absurd can
+  fill_keeps Requests (Answer a) can agrees = absurd can
+  fill_keeps Requests (Lookup x) can agrees = absurd can
+  fill_keeps Requests (Sector x) can agrees = absurd can
+  fill_keeps Answers (Answer a) can agrees = (
     record {
-      stands = answered_stands a can;
+      stands = answered_stands a can agrees;
       words = refl;
       fits = answered_fits a;
     },
     among_last a k.disk.given,
   )
-  fill_keeps Answers (Log p) can = absurd can
-  fill_keeps Answers (Out o) can = absurd can
-  fill_keeps Answers (Request r) can = absurd can
+  fill_keeps Answers (Log p) can agrees = absurd can
+  fill_keeps Answers (Out o) can agrees = absurd can
+  fill_keeps Answers (Request r) can agrees = absurd can
+  fill_keeps Answers (Lookup x) can agrees = absurd can
+  fill_keeps Answers (Sector x) can agrees = absurd can
+  fill_keeps Lookups (Lookup x) can agrees = (keeps_all k s, tt)
+  fill_keeps Lookups (Log p) can agrees = absurd can
+  fill_keeps Lookups (Out o) can agrees = absurd can
+  fill_keeps Lookups (Request r) can agrees = absurd can
+  fill_keeps Lookups (Answer a) can agrees = absurd can
+  fill_keeps Lookups (Sector x) can agrees = absurd can
+  fill_keeps Sectors (Sector x) can agrees = (
+    record { stands = found_stands x agrees; words = refl; fits = found_fits x },
+    among_last x k.disk.found,
+  )
+  fill_keeps Sectors (Log p) can agrees = absurd can
+  fill_keeps Sectors (Out o) can agrees = absurd can
+  fill_keeps Sectors (Request r) can agrees = absurd can
+  fill_keeps Sectors (Answer a) can agrees = absurd can
+  fill_keeps Sectors (Lookup x) can agrees = absurd can
 
 -- whether it may be filled is known to the seat that fills it
 pub can_same : (b : Mailbox) (q : Payload) (k l : Knowledge) → k.generation ≡ l.generation → SamePart (filler b) k l
     → CanFill b k q → CanFill b l q
-can_same Outbox (Log p) k l g e can = (can.0 ∙ g, ap (λ (z : PrimaryView). get_elem? z.list p.index) (sym e) ∙ can.1)
+can_same Outbox (Log p) k l g e can = (
+  can.0 ∙ g,
+  subst (λ (z : PrimaryView). (x : Entry) × (get_elem? z.list p.index ≡ some x) × Carries z.answers p.carried x) e can.1,
+)
 can_same Outbox (Out o) k l g e can = can
 can_same Outbox (Request r) k l g e can = can
 can_same Outbox (Answer a) k l g e can = can
+can_same Outbox (Lookup x) k l g e can = can
+can_same Outbox (Sector x) k l g e can = can
 can_same Inbox (Log p) k l g e can = sym e ∙ can
 can_same Inbox (Out o) k l g e can = can
 can_same Inbox (Request r) k l g e can = can
 can_same Inbox (Answer a) k l g e can = can
+can_same Inbox (Lookup x) k l g e can = can
+can_same Inbox (Sector x) k l g e can = can
 can_same Bytes0 (Out (Byte to number byte)) k l g e can = can
 can_same Bytes0 (Out (Write w)) k l g e can = can
 can_same Bytes0 (Log p) k l g e can = can
 can_same Bytes0 (Request r) k l g e can = can
 can_same Bytes0 (Answer a) k l g e can = can
+can_same Bytes0 (Lookup x) k l g e can = can
+can_same Bytes0 (Sector x) k l g e can = can
 can_same Bytes1 (Out (Byte to number byte)) k l g e can = can
 can_same Bytes1 (Out (Write w)) k l g e can = can
 can_same Bytes1 (Log p) k l g e can = can
 can_same Bytes1 (Request r) k l g e can = can
 can_same Bytes1 (Answer a) k l g e can = can
+can_same Bytes1 (Lookup x) k l g e can = can
+can_same Bytes1 (Sector x) k l g e can = can
 can_same Requests (Request r) k l g e can = can
 can_same Requests (Log p) k l g e can = can
 can_same Requests (Out o) k l g e can = can
 can_same Requests (Answer a) k l g e can = can
+can_same Requests (Lookup x) k l g e can = can
+can_same Requests (Sector x) k l g e can = can
 can_same Answers (Answer a) k l g e can = subst (λ (d : DiskView). IsReplied (put_by d.taken d.puts) a) e can
 can_same Answers (Log p) k l g e can = can
 can_same Answers (Out o) k l g e can = can
 can_same Answers (Request r) k l g e can = can
+can_same Answers (Lookup x) k l g e can = can
+can_same Answers (Sector x) k l g e can = can
+can_same Lookups (Log p) k l g e can = can
+can_same Lookups (Out o) k l g e can = can
+can_same Lookups (Request r) k l g e can = can
+can_same Lookups (Answer a) k l g e can = can
+can_same Lookups (Lookup x) k l g e can = can
+can_same Lookups (Sector x) k l g e can = can
+can_same Sectors (Log p) k l g e can = can
+can_same Sectors (Out o) k l g e can = can
+can_same Sectors (Request r) k l g e can = can
+can_same Sectors (Answer a) k l g e can = can
+can_same Sectors (Lookup x) k l g e can = can
+can_same Sectors (Sector x) k l g e can = can

@@ -57,7 +57,7 @@ module _ (g : ℕ) (boxes : List ℕ) (homes : Homes) (c : Core) (f : Facts g bo
       fills = f.sized.fills;
       empties = f.sized.empties;
     };
-    six = f.six;
+    eight = f.eight;
     laid = laid;
     boxed = λ j w p q aw ap' aq. box_stays w homes (set homes h y) p q
         (home_else boxes c.hands c.has_slot homes f.laid (seat_index s) h at y (box_index j) w aw) _ (f.boxed j w p q aw ap' aq);

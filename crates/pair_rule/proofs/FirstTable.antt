@@ -1,24 +1,25 @@
 -- The table at the start meets the rule.
-use Rattle.std.proofs.Common.{◌≡◌, ℕ, zero, suc, ◌+◌, ◌<◌, ◌≤◌, List, [], ◌∷◌, length, sym, refl, ◌∙◌, subst, inl, le_refl, arith, None, replicate}
+use Rattle.std.proofs.Common.{◌≡◌, ℕ, zero, suc, ◌+◌, ◌<◌, ◌≤◌, List, [], ◌∷◌, length, sym, refl, ◌∙◌, subst, inl, inr, le_refl, arith, None, replicate}
 use mathlib.Core.Option.{some, some-injective, some-ne-none}
 use lib.ListN.{get_elem?}
 use Rattle.atomic_table.specs.Table.{opening}
 use Rattle.pair_rule.specs.declared.mailbox.Mailbox.{Mailbox}
-use Rattle.pair_rule.specs.declared.mailbox.Mailbox.TheVariants.{Outbox, Inbox, Bytes0, Bytes1, Requests, Answers}
+use Rattle.pair_rule.specs.declared.mailbox.Mailbox.TheVariants.{Outbox, Inbox, Bytes0, Bytes1, Requests, Answers, Lookups, Sectors}
 use Rattle.pair_rule.specs.declared.view.Side.{Side}
 use Rattle.pair_rule.specs.declared.view.Knowledge.{Knowledge}
 use Rattle.pair_rule.specs.declared.view.SeatView.{SeatView}
 use Rattle.pair_rule.specs.Boxes.{slot_of, is_full, Boxed, Homes, box_index, Who, Primary, Link, Backup, Terminal, Disk}
 use Rattle.pair_rule.specs.Knowledge.{Fits, Stands, WhereSome, winner_of}
 use Rattle.pair_rule.specs.Histories.{Opens}
+use Rattle.pair_rule.proofs.Agree.{AllAgree}
 use Rattle.pair_rule.specs.Rules.{SamePart, Sized, Same, has, IsStart, Rule, first_known, core_of, view_of, new_side}
 
 abbrev homes0 : Homes
 homes0 = some None ∷ some None ∷ some None ∷ some None ∷ some None ∷ some None ∷ some None ∷ some None ∷ some None ∷ some None
-    ∷ some None ∷ []
+    ∷ some None ∷ some None ∷ some None ∷ []
 
 abbrev boxes0 : List ℕ
-boxes0 = 0 ∷ 1 ∷ 2 ∷ 3 ∷ 4 ∷ 5 ∷ []
+boxes0 = 0 ∷ 1 ∷ 2 ∷ 3 ∷ 4 ∷ 5 ∷ 6 ∷ 7 ∷ []
 
 slot0 : (j w : ℕ) → get_elem? boxes0 j ≡ some w → (slot_of w ≡ j) × (get_elem? homes0 (slot_of w) ≡ some (some None))
 slot0 zero w e = subst (λ w. (slot_of w ≡ 0) × (get_elem? homes0 (slot_of w) ≡ some (some None))) (some-injective 0 w e)
@@ -33,22 +34,26 @@ slot0 (suc (suc (suc (suc zero)))) w e = subst (λ w. (slot_of w ≡ 4) × (get_
     (some-injective 4 w e) (refl, refl)
 slot0 (suc (suc (suc (suc (suc zero))))) w e = subst (λ w. (slot_of w ≡ 5) × (get_elem? homes0 (slot_of w) ≡ some (some None)))
     (some-injective 5 w e) (refl, refl)
-slot0 (suc (suc (suc (suc (suc (suc j)))))) w e = absurd (some-ne-none w (sym e))
+slot0 (suc (suc (suc (suc (suc (suc zero)))))) w e =
+    subst (λ w. (slot_of w ≡ 6) × (get_elem? homes0 (slot_of w) ≡ some (some None))) (some-injective 6 w e) (refl, refl)
+slot0 (suc (suc (suc (suc (suc (suc (suc zero))))))) w e =
+    subst (λ w. (slot_of w ≡ 7) × (get_elem? homes0 (slot_of w) ≡ some (some None))) (some-injective 7 w e) (refl, refl)
+slot0 (suc (suc (suc (suc (suc (suc (suc (suc j)))))))) w e = absurd (some-ne-none w (sym e))
 
 abbrev hands0 : List ℕ
-hands0 = 6 ∷ 7 ∷ 8 ∷ 9 ∷ 10 ∷ []
+hands0 = 8 ∷ 9 ∷ 10 ∷ 11 ∷ 12 ∷ []
 
-hand0 : (s h : ℕ) → get_elem? hands0 s ≡ some h → (h ≡ 6 + s) × (h < 11) × (get_elem? homes0 h ≡ some (some None))
-hand0 zero h e = subst (λ h. (h ≡ 6) × (h < 11) × (get_elem? homes0 h ≡ some (some None))) (some-injective 6 h e)
+hand0 : (s h : ℕ) → get_elem? hands0 s ≡ some h → (h ≡ 8 + s) × (h < 13) × (get_elem? homes0 h ≡ some (some None))
+hand0 zero h e = subst (λ h. (h ≡ 8) × (h < 13) × (get_elem? homes0 h ≡ some (some None))) (some-injective 8 h e)
     (refl, omega arith, refl)
-hand0 (suc zero) h e = subst (λ h. (h ≡ 7) × (h < 11) × (get_elem? homes0 h ≡ some (some None))) (some-injective 7 h e)
+hand0 (suc zero) h e = subst (λ h. (h ≡ 9) × (h < 13) × (get_elem? homes0 h ≡ some (some None))) (some-injective 9 h e)
     (refl, omega arith, refl)
-hand0 (suc (suc zero)) h e = subst (λ h. (h ≡ 8) × (h < 11) × (get_elem? homes0 h ≡ some (some None))) (some-injective 8 h e)
+hand0 (suc (suc zero)) h e = subst (λ h. (h ≡ 10) × (h < 13) × (get_elem? homes0 h ≡ some (some None))) (some-injective 10 h e)
     (refl, omega arith, refl)
-hand0 (suc (suc (suc zero))) h e = subst (λ h. (h ≡ 9) × (h < 11) × (get_elem? homes0 h ≡ some (some None)))
-    (some-injective 9 h e) (refl, omega arith, refl)
+hand0 (suc (suc (suc zero))) h e = subst (λ h. (h ≡ 11) × (h < 13) × (get_elem? homes0 h ≡ some (some None)))
+    (some-injective 11 h e) (refl, omega arith, refl)
 hand0 (suc (suc (suc (suc zero)))) h e =
-    subst (λ h. (h ≡ 10) × (h < 11) × (get_elem? homes0 h ≡ some (some None))) (some-injective 10 h e) (refl, omega arith, refl)
+    subst (λ h. (h ≡ 12) × (h < 13) × (get_elem? homes0 h ≡ some (some None))) (some-injective 12 h e) (refl, omega arith, refl)
 hand0 (suc (suc (suc (suc (suc s))))) h e = absurd (some-ne-none h (sym e))
 
 box0 : (b : Mailbox) → (get_elem? boxes0 (box_index b) ≡ some (box_index b)) ×
@@ -60,6 +65,8 @@ box0 Bytes0 = (refl, refl, (refl, refl, (None, refl)))
 box0 Bytes1 = (refl, refl, (refl, refl, (None, refl)))
 box0 Requests = (refl, refl, (refl, refl, (None, refl)))
 box0 Answers = (refl, refl, (refl, refl, (None, refl)))
+box0 Lookups = (refl, refl, (refl, refl, (None, refl)))
+box0 Sectors = (refl, refl, (refl, refl, (None, refl)))
 
 first_has : (k : Knowledge) (n : Who) → has (view_of k) n
 first_has k Primary = refl
@@ -89,9 +96,14 @@ none_more n = omega arith
 most_before : (m n : ℕ) → m ≤ n → m ≤ n + 0
 most_before m n le = omega (arith, le)
 
+-- no read yet
+none_read : AllAgree (first_known 0).disk
+none_read r (inl at) = absurd at
+none_read r (inr at) = absurd at
+
 pub first_stands : (g : ℕ) → Stands (first_known g)
 first_stands g = record {
-  log = record { prefix = ([], refl); in_link = tt; rising = le_refl 0; behind = le_refl 0; once = inl refl };
+  log = record { prefix = ([], refl); wanted = tt; in_link = tt; rising = le_refl 0; behind = le_refl 0; once = inl refl };
   decided = record {
     few = omega arith;
     same = λ x y. absurd (x refl);
@@ -100,11 +112,11 @@ first_stands g = record {
   };
   port0 = record { accepted = le_refl 0; in_hand = tt; arrived = tt };
   port1 = record { accepted = le_refl 0; in_hand = tt; arrived = tt };
-  disk = record { taken = tt; puts = tt; answers = tt; replies = tt };
+  disk = record { taken = tt; puts = tt; answers = tt; replies = tt; agree = none_read };
 }
 
 pub opens : (g n a0 a1 : ℕ) (k : Knowledge) → IsStart g n a0 a1 k
-    → Rule g (opening (n ∷ n ∷ 0 ∷ a0 ∷ a1 ∷ 0 ∷ 1 ∷ 2 ∷ 3 ∷ 4 ∷ 5 ∷ []) (replicate 11 None) (view_of k))
+    → Rule g (opening (n ∷ n ∷ 0 ∷ a0 ∷ a1 ∷ 0 ∷ 1 ∷ 2 ∷ 3 ∷ 4 ∷ 5 ∷ 6 ∷ 7 ∷ []) (replicate 13 None) (view_of k))
 opens g n a0 a1 k start = let v : SeatView = view_of k in record {
   core = core_of k;
   boxes = boxes0;
@@ -129,7 +141,7 @@ opens g n a0 a1 k start = let v : SeatView = view_of k in record {
   facts = record {
     generation = sym start.generation_is;
     sized = first_sized k;
-    six = refl;
+    eight = refl;
     laid = record {
       owner = λ slot. slot;
       deep = refl;
@@ -170,6 +182,7 @@ at_first g = record {
   list = refl;
   seen = refl;
   copy = refl;
+  nothing_wanted = refl;
   held = refl;
   primary_waits = refl;
   backup_waits = refl;

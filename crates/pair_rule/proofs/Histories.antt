@@ -1,16 +1,16 @@
 -- What a seat may do is known to the seat itself.
 use Rattle.std.proofs.Common.{◌≡◌, sym, ap, ◌∙◌, subst}
 use Rattle.pair_rule.specs.declared.mailbox.Mailbox.{Mailbox}
-use Rattle.pair_rule.specs.declared.mailbox.Mailbox.TheVariants.{Outbox, Inbox, Bytes0, Bytes1, Requests, Answers}
+use Rattle.pair_rule.specs.declared.mailbox.Mailbox.TheVariants.{Outbox, Inbox, Bytes0, Bytes1, Requests, Answers, Lookups, Sectors}
 use Rattle.pair_rule.specs.declared.payload.Payload.{Payload}
-use Rattle.pair_rule.specs.declared.payload.Payload.TheVariants.{Log, Out, Request, Answer}
+use Rattle.pair_rule.specs.declared.payload.Payload.TheVariants.{Log, Out, Request, Answer, Lookup, Sector}
 use Rattle.pair_rule.specs.declared.view.BackupView.{BackupView}
 use Rattle.pair_rule.specs.declared.view.DiskView.{DiskView}
 use Rattle.pair_rule.specs.declared.view.Knowledge.{Knowledge}
 use Rattle.pair_rule.specs.declared.view.PrimaryView.{PrimaryView}
 use Rattle.pair_rule.specs.Boxes.{Who, Primary, Link, Backup, Terminal, Disk, filler}
 use Rattle.pair_rule.specs.Histories.{AsksNot, IsReply, MayAppend, MayPut}
-use Rattle.pair_rule.specs.Knowledge.{Replies}
+use Rattle.pair_rule.specs.Knowledge.{Finds, FirstsAgree, FirstsAgreeOf, Replies}
 use Rattle.pair_rule.specs.Rules.{SamePart}
 
 pub asks_same : (s : Who) (k l : Knowledge) → SamePart s k l → AsksNot s k → AsksNot s l
@@ -21,10 +21,19 @@ asks_same Terminal k l e none = tt
 asks_same Disk k l e none = tt
 
 reply_same : (b : Mailbox) (q : Payload) (k l : Knowledge) → SamePart (filler b) k l → IsReply b k q → IsReply b l q
-reply_same Answers (Answer a) k l e r = subst (λ (d : DiskView). Replies d a) e r
+reply_same Answers (Answer a) k l e r = subst (λ (d : DiskView). Replies d a × FirstsAgreeOf d a) e r
 reply_same Answers (Log p) k l e r = tt
 reply_same Answers (Out o) k l e r = tt
 reply_same Answers (Request x) k l e r = tt
+reply_same Answers (Lookup x) k l e r = tt
+reply_same Answers (Sector x) k l e r = tt
+reply_same Lookups q k l e r = tt
+reply_same Sectors (Sector x) k l e r = subst (λ (d : DiskView). Finds d x × FirstsAgree d x) e r
+reply_same Sectors (Log p) k l e r = tt
+reply_same Sectors (Out o) k l e r = tt
+reply_same Sectors (Request x) k l e r = tt
+reply_same Sectors (Answer a) k l e r = tt
+reply_same Sectors (Lookup x) k l e r = tt
 reply_same Outbox q k l e r = tt
 reply_same Inbox q k l e r = tt
 reply_same Bytes0 q k l e r = tt

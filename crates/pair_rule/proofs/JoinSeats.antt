@@ -7,7 +7,7 @@ use lib.ListN.{get_elem?}
 use Rattle.atomic_table.specs.Table.{Joins, Final, Seen}
 use Rattle.atomic_table.proofs.Lists.{at_set, set_here, set_else}
 use Rattle.pair_rule.specs.declared.mailbox.Mailbox.{Mailbox}
-use Rattle.pair_rule.specs.declared.mailbox.Mailbox.TheVariants.{Outbox, Inbox, Bytes0, Bytes1, Requests, Answers}
+use Rattle.pair_rule.specs.declared.mailbox.Mailbox.TheVariants.{Outbox, Inbox, Bytes0, Bytes1, Requests, Answers, Lookups, Sectors}
 use Rattle.pair_rule.specs.declared.payload.Payload.{Payload}
 use Rattle.pair_rule.specs.declared.view.Side.{Side}
 use Rattle.pair_rule.specs.declared.view.Knowledge.{Knowledge}
@@ -33,17 +33,19 @@ at_mixed who s own rest Bytes0 = refl
 at_mixed who s own rest Bytes1 = refl
 at_mixed who s own rest Requests = refl
 at_mixed who s own rest Answers = refl
+at_mixed who s own rest Lookups = refl
+at_mixed who s own rest Sectors = refl
 
-mixed_own : (who : Mailbox → Who) (s : Who) (own rest : List Side) (b : Mailbox) → length own ≡ 6 → who b ≡ s
+mixed_own : (who : Mailbox → Who) (s : Who) (own rest : List Side) (b : Mailbox) → length own ≡ 8 → who b ≡ s
     → get_elem? (mixed who s own rest) (box_index b) ≡ get_elem? own (box_index b)
-mixed_own who s own rest b six is = at_mixed who s own rest b ∙ ap
+mixed_own who s own rest b eight is = at_mixed who s own rest b ∙ ap
     (λ (z : Bool). some (which z (side_at own (box_index b)) (side_at rest (box_index b))))
     (eq-eqb (seat_index (who b)) (seat_index s) (ap seat_index is)) ∙ sym
     (at_or own (box_index b) new_side (let few = few_boxes b in omega arith))
 
-mixed_rest : (who : Mailbox → Who) (s : Who) (own rest : List Side) (b : Mailbox) → length rest ≡ 6
+mixed_rest : (who : Mailbox → Who) (s : Who) (own rest : List Side) (b : Mailbox) → length rest ≡ 8
     → seat_index (who b) ≢ seat_index s → get_elem? (mixed who s own rest) (box_index b) ≡ get_elem? rest (box_index b)
-mixed_rest who s own rest b six ne = at_mixed who s own rest b ∙ ap
+mixed_rest who s own rest b eight ne = at_mixed who s own rest b ∙ ap
     (λ (z : Bool). some (which z (side_at own (box_index b)) (side_at rest (box_index b))))
     (ne_eqb (seat_index (who b)) (seat_index s) ne) ∙ sym
     (at_or rest (box_index b) new_side (let few = few_boxes b in omega arith))

@@ -19,7 +19,7 @@ use Rattle.pair_protocol.specs.World.{World}
 use Rattle.pair_protocol.proofs.Traces.Recorded.{recorded-runs}
 use Rattle.pair_rule.specs.declared.view.Knowledge.{Knowledge}
 use Rattle.pair_rule.specs.Knowledge.{IsByteOf, Stands, WhereSome}
-use Rattle.pair_rule.specs.Law.{HasPort, HasRun, IsCovered, Runnable, Appends, Holds, Sees, Takes, PrimaryWins, PrimaryLoses, BackupWins, BackupLoses, Releases, Arrives, Puts, StepsAreEvents, StepsAreFaithful, with_released}
+use Rattle.pair_rule.specs.Law.{HasPort, HasRun, IsCovered, Runnable, Appends, Holds, Sees, Takes, Completes, PrimaryWins, PrimaryLoses, BackupWins, BackupLoses, Releases, Arrives, Puts, StepsAreEvents, StepsAreFaithful, with_released}
 use Rattle.pair_rule.specs.Shown.{Happens, First, Nothing, Leads, Shows, hand_of, notes_from}
 use Rattle.pair_rule.proofs.AppendSteps.{append_leads}
 use Rattle.pair_rule.proofs.SameRecord.{port_there}
@@ -27,7 +27,7 @@ use Rattle.pair_rule.proofs.Covered.{is_acknowledged}
 use Rattle.pair_rule.proofs.LongerRuns.{run_goes_on}
 use Rattle.pair_rule.proofs.Growth.{step_grows}
 use Rattle.pair_rule.proofs.QuietSteps.{notes_more, quiet_finds, silent_notes}
-use Rattle.pair_rule.proofs.Acknowledged.{hold_leads, see_leads, take_leads}
+use Rattle.pair_rule.proofs.Acknowledged.{complete_leads, hold_leads, see_leads, take_leads}
 use Rattle.pair_rule.proofs.Asked.{primary_wins, primary_loses, backup_wins, backup_loses}
 use Rattle.pair_rule.proofs.Released.{release_leads, arrive_leads, put_leads}
 
@@ -65,7 +65,9 @@ steps_lead M C may typed0 typed1 k new w z st (Appends e run free told) =
     append_leads M C may typed0 typed1 k w z st free e run told
 steps_lead M C may typed0 typed1 k new w z st (Holds waits) = hold_leads M C typed0 typed1 k w z waits
 steps_lead M C may typed0 typed1 k new w z st (Sees serves) = see_leads M C typed0 typed1 k w z st serves
-steps_lead M C may typed0 typed1 k new w z st (Takes p waits is) = take_leads M C typed0 typed1 k w z p waits is
+steps_lead M C may typed0 typed1 k new w z st (Takes p e waits whole at) = take_leads M C typed0 typed1 k w z p e waits whole at
+steps_lead M C may typed0 typed1 k new w z st (Completes r e waits done found) =
+    complete_leads M C typed0 typed1 k w z st r e waits done found
 steps_lead M C may typed0 typed1 k new w z st (PrimaryWins serves waits) = primary_wins M C typed0 typed1 k w z serves waits
 steps_lead M C may typed0 typed1 k new w z st (PrimaryLoses serves other) = primary_loses M C typed0 typed1 k w z serves other
 steps_lead M C may typed0 typed1 k new w z st (BackupWins serves waits) = backup_wins M C typed0 typed1 k w z serves waits

@@ -44,7 +44,7 @@ takes_slot_first g n id me v s h k is mine core hand =
 
 pub opened : (s : Who) (k : Knowledge) (table id : TableId) (me me' : Mine) (r h : ℕ) (v : SeatView) → id ≡ table
     → me ≡ (v, []) → takes_first_slot s me r me' → has v s → v.core ≡ core_of k → v.mine ≡ set nobody (seat_index s) true
-    → get_elem? (core_of k).hands (seat_index s) ≡ some h → h < 11 → Opened s k table id me' h zeros zeros
+    → get_elem? (core_of k).hands (seat_index s) ≡ some h → h < 13 → Opened s k table id me' h zeros zeros
 opened s k table id me me' r h v same is told mine core single hand small =
     let t = subst (λ (m : Mine). takes_first_slot s m r me') is told in
     let hand' = subst (λ c. get_elem? c.hands (seat_index s) ≡ some h) (sym core) hand in

@@ -6,7 +6,7 @@ use native.Mathlib.Decide.{ℕ_discrete}
 use lib.ListN.{get_elem?}
 use Rattle.atomic_table.proofs.Lists.{at_set, set_else}
 use Rattle.pair_rule.specs.declared.mailbox.Mailbox.{Mailbox}
-use Rattle.pair_rule.specs.declared.mailbox.Mailbox.TheVariants.{Outbox, Inbox, Bytes0, Bytes1, Requests, Answers}
+use Rattle.pair_rule.specs.declared.mailbox.Mailbox.TheVariants.{Outbox, Inbox, Bytes0, Bytes1, Requests, Answers, Lookups, Sectors}
 use Rattle.pair_rule.specs.declared.payload.Packet.{Packet}
 use Rattle.pair_rule.specs.declared.view.PrimaryView.{PrimaryView}
 use Rattle.pair_rule.specs.declared.view.BackupView.{BackupView}
@@ -43,7 +43,9 @@ box_at (suc zero) = Inbox
 box_at (suc (suc zero)) = Bytes0
 box_at (suc (suc (suc zero))) = Bytes1
 box_at (suc (suc (suc (suc zero)))) = Requests
-box_at (suc (suc (suc (suc (suc n))))) = Answers
+box_at (suc (suc (suc (suc (suc zero))))) = Answers
+box_at (suc (suc (suc (suc (suc (suc zero)))))) = Lookups
+box_at (suc (suc (suc (suc (suc (suc (suc n))))))) = Sectors
 
 box_of : (b : Mailbox) → box_at (box_index b) ≡ b
 unfolding box_at
@@ -53,26 +55,32 @@ box_of Bytes0 = refl
 box_of Bytes1 = refl
 box_of Requests = refl
 box_of Answers = refl
+box_of Lookups = refl
+box_of Sectors = refl
 
 pub one_box : (a b : Mailbox) → box_index a ≡ box_index b → a ≡ b
 one_box a b e = sym (box_of a) ∙ ap box_at e ∙ box_of b
 
-pub index_at : (k : ℕ) → k < 6 → (b : Mailbox) × (box_index b ≡ k)
+pub index_at : (k : ℕ) → k < 8 → (b : Mailbox) × (box_index b ≡ k)
 index_at zero few = (Outbox, refl)
 index_at (suc zero) few = (Inbox, refl)
 index_at (suc (suc zero)) few = (Bytes0, refl)
 index_at (suc (suc (suc zero))) few = (Bytes1, refl)
 index_at (suc (suc (suc (suc zero)))) few = (Requests, refl)
 index_at (suc (suc (suc (suc (suc zero))))) few = (Answers, refl)
-index_at (suc (suc (suc (suc (suc (suc k)))))) few = absurd (omega arith)
+index_at (suc (suc (suc (suc (suc (suc zero)))))) few = (Lookups, refl)
+index_at (suc (suc (suc (suc (suc (suc (suc zero))))))) few = (Sectors, refl)
+index_at (suc (suc (suc (suc (suc (suc (suc (suc k)))))))) few = absurd (omega arith)
 
-pub few_boxes : (b : Mailbox) → box_index b < 6
+pub few_boxes : (b : Mailbox) → box_index b < 8
 few_boxes Outbox = omega arith
 few_boxes Inbox = omega arith
 few_boxes Bytes0 = omega arith
 few_boxes Bytes1 = omega arith
 few_boxes Requests = omega arith
 few_boxes Answers = omega arith
+few_boxes Lookups = omega arith
+few_boxes Sectors = omega arith
 
 pub few_seats : (s : Who) → seat_index s < 5
 few_seats Primary = omega arith

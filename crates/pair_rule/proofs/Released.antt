@@ -27,7 +27,8 @@ use Rattle.pair_rule.specs.Knowledge.{WhereSome, IsAsked, Stands, after_fill, pu
 use Rattle.pair_rule.specs.Shown.{Visible, visible, terminals_of, arrival_of, notes_from, hand_of, Sent, Shows, ShowsVisible, Leads}
 use Rattle.guest_lockstep.specs.Reach.{operations}
 use Rattle.pair_rule.proofs.Filled.{among_last, put_more}
-use Rattle.pair_rule.proofs.ShownNodes.{only_more, index_of, more_sent, among_either, no_read, map_more, serving, first_node}
+use Rattle.pair_rule.proofs.Elements.{no_read}
+use Rattle.pair_rule.proofs.ShownNodes.{only_more, index_of, more_sent, among_either, map_more, serving, first_node}
 
 module _ {S : Type 0} (M : Machine S) (C : Copying S) (typed0 typed1 : List ℕ) (k : Knowledge) (w : World S)
     (z : Shows M typed0 typed1 k w) where

@@ -6,7 +6,13 @@ use Rattle.pair_rule.specs.declared.payload.DiskAnswer.{DiskAnswer}
 use Rattle.pair_rule.specs.declared.payload.DiskAnswer.TheVariants as answer
 use Rattle.pair_rule.specs.declared.view.DiskView.{DiskView}
 use Rattle.pair_rule.specs.Knowledge.{IsReplied, put_by}
+use Rattle.pair_rule.specs.Knowledge.{Finds, FirstsAgree, FirstsAgreeOf}
+use Rattle.pair_rule.specs.Histories.{MayPut}
 use Rattle.pair_rule.specs.Seats.{Replies}
+use Rattle.pair_rule.specs.declared.mailbox.Mailbox.TheVariants.{Answers, Sectors}
+use Rattle.pair_rule.specs.declared.payload.Payload.TheVariants.{Answer, Sector}
+use Rattle.pair_rule.specs.declared.view.Knowledge.{Knowledge}
+use Rattle.shared_disk.specs.declared.disk.SectorRead.{SectorRead}
 use Rattle.pair_rule.proofs.Filled.{among_last}
 
 pub can_reply : (d : DiskView) (a : DiskAnswer) → Replies d a → IsReplied (put_by d.taken d.puts) a
@@ -27,3 +33,10 @@ can_reply d (answer.Read r) (a, taken, at, last) =
       ap
           (λ (z : SectorRecord). z.bytes) (sym e ∙ last),
     )
+
+-- so it may put it into its box, and likewise what it finds for a lookup
+pub may_reply : (k : Knowledge) (a : DiskAnswer) → Replies k.disk a → FirstsAgreeOf k.disk a → MayPut Answers k (Answer a)
+may_reply k a says firsts = record { asks_not = tt; reply = (says, firsts) }
+
+pub may_find : (k : Knowledge) (r : SectorRead) → Finds k.disk r → FirstsAgree k.disk r → MayPut Sectors k (Sector r)
+may_find k r finds firsts = record { asks_not = tt; reply = (finds, firsts) }

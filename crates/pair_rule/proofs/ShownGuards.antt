@@ -1,5 +1,5 @@
 -- What the guards of a step say of what is known holds of the world that is shown.
-use Rattle.std.proofs.Common.{◌≡◌, ℕ, zero, suc, ◌+◌, ◌<◌, ◌≤◌, eqb, cond, Bool, true, false, List, [], ◌∷◌, length, map, sym, ap, ◌∙◌, subst, arith, ⊎_elim, Some, slice_get}
+use Rattle.std.proofs.Common.{◌≡◌, ℕ, zero, suc, ◌+◌, ◌<◌, ◌≤◌, eqb, cond, Bool, true, false, List, [], ◌∷◌, length, map, ap, ◌∙◌, arith, Some, slice_get}
 use Rattle.pair_protocol.specs.Lawful.{Among}
 use Rattle.pair_protocol.specs.World.{World, WriteDone, terminal, terminal_in, accepted, accepted_in}
 use Rattle.pair_protocol.specs.World.{accepted_after as bytes_after}
@@ -7,14 +7,11 @@ use Rattle.guest_lockstep.specs.Machine.{Machine}
 use Rattle.pair_rule.specs.declared.payload.DiskAnswer.TheVariants as answer
 use Rattle.pair_rule.specs.declared.view.Arrived.{Arrived}
 use Rattle.pair_rule.specs.declared.view.Knowledge.{Knowledge}
-use Rattle.pair_rule.specs.Knowledge.{AllAre, Stands, accepted_after, HasWrite, IsReplied}
+use Rattle.pair_rule.specs.Knowledge.{Stands, accepted_after, HasWrite, IsReplied}
 use Rattle.pair_rule.specs.Kinds.{counted_at}
 use Rattle.pair_rule.specs.Law.{typed_at}
 use Rattle.pair_rule.specs.Shown.{Shows, arrival_of}
-
-pub all_in : {A : Type 0} (P : A → Type 0) (xs : List A) (x : A) → AllAre xs P → Among x xs → P x
-all_in P [] x all i = absurd i
-all_in P (y ∷ xs) x all i = ⊎_elim (λ (e : x ≡ y). subst P (sym e) all.0) (λ (m : Among x xs). all_in P xs x all.1 m) i
+pub use Rattle.pair_rule.proofs.Elements.{all_in}
 
 -- the bytes accepted are as many as are counted
 as_many : (n : ℕ) (xs : List Arrived) → length (bytes_after n (map arrival_of xs)) + n ≡ accepted_after n xs

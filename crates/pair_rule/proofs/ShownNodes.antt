@@ -1,5 +1,5 @@
 -- The nodes that a world shows, and its messages.
-use Rattle.std.proofs.Common.{append_assoc, ◌∙◌, ◌≤◌, arith, ◌≡◌, ℕ, zero, suc, ◌≤◌, true, false, List, [], ◌∷◌, ◌++◌, map, sym, refl, ap, ◌∙◌, ◌⊎◌, inl, inr, ⊎_elim, arith, subst, None, Some, slice_get, nat_lt}
+use Rattle.std.proofs.Common.{append_assoc, ◌∙◌, ◌≤◌, arith, ◌≡◌, ℕ, zero, suc, ◌≤◌, true, false, List, [], ◌∷◌, ◌++◌, map, sym, refl, ap, ◌∙◌, ⊎_elim, arith, subst, Option, None, Some, slice_get, nat_lt}
 use mathlib.Core.Option.{some, some-injective, some-ne-none}
 use lib.ListN.{get_elem?}
 use Rattle.event_callbacks.specs.declared.operations.Operation.{Operation}
@@ -10,12 +10,11 @@ use Rattle.pair_protocol.specs.Copying.{Copying}
 use Rattle.pair_protocol.specs.Node.{Node, Primary, Backup}
 use Rattle.pair_protocol.specs.World as world
 use Rattle.pair_protocol.specs.World.{World, Message, LogEntry, Acknowledgement, ImagePart, Released, WriteDone}
+use Rattle.pair_rule.specs.declared.payload.NamedSector.{NamedSector}
 use Rattle.pair_rule.specs.declared.view.Knowledge.{Knowledge}
-use Rattle.pair_rule.specs.declared.payload.DiskAnswer.{DiskAnswer}
-use Rattle.pair_rule.specs.declared.payload.DiskAnswer.TheVariants as answer
 use Rattle.pair_rule.specs.Shown.{Visible, visible, IsAcknowledged, IsSentBy, primary_role, primary_runs, backup_role, backup_runs, primary_node, backup_node, Sent, Shows}
-use Rattle.shared_disk.specs.declared.disk.SectorRead.{SectorRead}
-use Rattle.pair_rule.proofs.Filled.{among_more}
+pub use Rattle.pair_rule.proofs.Elements.{among_either}
+use Rattle.pair_rule.proofs.Elements.{among_more}
 
 -- a message that is among those sent has a number
 pub index_of : {A : Type 0} (x : A) (xs : List A) → Among x xs → (m : ℕ) × (slice_get xs m ≡ Some x)
@@ -29,18 +28,6 @@ more_sent v messages more t = record {
   operations = λ o at. among_more (Released o) messages more (t.operations o at);
   writes = λ n at. among_more (WriteDone n) messages more (t.writes n at);
 }
-
-pub among_either : {A : Type 0} (x y : A) (xs : List A) → Among x (xs ++ y ∷ []) → Among x xs ⊎ (x ≡ y)
-among_either x y [] a = ⊎_elim (λ e. inr e) (λ i. absurd i) a
-among_either x y (z ∷ xs) a = ⊎_elim (λ e. inl (inl e)) (λ i. ⊎_elim (λ j. inl (inr j)) (λ e. inr e) (among_either x y xs i)) a
-
--- of the answers with one of a write more, those of reads are as before
-pub no_read : (r : SectorRead) (n : ℕ) (given : List DiskAnswer) → Among (answer.Read r) (given ++ answer.Written n ∷ [])
-    → Among (answer.Read r) given
-no_read r n [] (inl e) = absurd (let c : answer.Read r ≡ answer.Written n = e in cc)
-no_read r n [] (inr a) = a
-no_read r n (x ∷ given) (inl e) = inl e
-no_read r n (x ∷ given) (inr a) = inr (no_read r n given a)
 
 -- a list that is read as tables are read
 pub read_slice : {A : Type 0} (l : List A) (i : ℕ) (x : A) → get_elem? l i ≡ some x → slice_get l i ≡ Some x
@@ -121,3 +108,25 @@ module _ {S : Type 0} (M : Machine S) (C : Copying S) (typed0 typed1 : List ℕ)
   pub second_node : k.backup.winner ≡ 0 → slice_get w.nodes 1 ≡ Some waiting
   second_node none = ap (λ l. slice_get l 1) z.nodes ∙
       (λ i. Some (record waiting { role = backup_role (none i); running = backup_runs (none i) }))
+
+-- which sector the backup wants is not shown
+pub wants_shows : {S : Type 0} (M : Machine S) (typed0 typed1 : List ℕ) (k : Knowledge) (w : World S)
+    → Shows M typed0 typed1 k w → (wants : Option NamedSector)
+    → Shows M typed0 typed1 (record k { backup = record k.backup { wanted = wants } }) w
+wants_shows M typed0 typed1 k w z wants = record {
+  moves = z.moves;
+  s = z.s;
+  recorded = z.recorded;
+  entries_are = z.entries_are;
+  count = z.count;
+  nodes = z.nodes;
+  sent = record { logs = z.sent.logs; acks = z.sent.acks; operations = z.sent.operations; writes = z.sent.writes };
+  terminals = z.terminals;
+  winners = z.winners;
+  puts = z.puts;
+  issued = z.issued;
+  done = z.done;
+  first_reads = z.first_reads;
+  covered = z.covered;
+  only = z.only;
+}

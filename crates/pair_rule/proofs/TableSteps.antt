@@ -1,24 +1,32 @@
 -- Each kind of step of the table is events of the world, or none; and what held still holds.
 use Rattle.std.proofs.Common.{◌≡◌, ℕ, zero, suc, ◌<◌, ◌≤◌, List, sym, refl, ap, ◌∙◌, subst, inl, inr, ◌⊎◌, arith, Option, Some, None}
+use mathlib.Core.Option.{some}
+use lib.ListN.{get_elem?}
 use Rattle.event_callbacks.specs.declared.operations.Operation.{Operation}
 use Rattle.event_callbacks.specs.declared.operations.Operation.TheVariants.{Byte, Write}
 use Rattle.guest_lockstep.specs.Machine.{Machine}
+use Rattle.log_entry.specs.declared.entry.Entry.{Entry}
+use Rattle.shared_disk.specs.declared.disk.SectorRead.{SectorRead}
+use Rattle.pair_protocol.specs.Lawful.{Among}
 use Rattle.pair_rule.specs.declared.mailbox.Mailbox.{Mailbox}
-use Rattle.pair_rule.specs.declared.mailbox.Mailbox.TheVariants.{Outbox, Inbox, Bytes0, Bytes1, Requests, Answers}
+use Rattle.pair_rule.specs.declared.mailbox.Mailbox.TheVariants.{Outbox, Inbox, Bytes0, Bytes1, Requests, Answers, Lookups, Sectors}
+use Rattle.pair_rule.specs.declared.payload.Carried.{Carried}
+use Rattle.pair_rule.specs.declared.payload.Carried.TheVariants.{Whole, Named}
 use Rattle.pair_rule.specs.declared.payload.DiskAnswer.TheVariants as answer
 use Rattle.pair_rule.specs.declared.payload.DiskRequest.TheVariants as ask
+use Rattle.pair_rule.specs.declared.payload.Packet.{Packet}
 use Rattle.pair_rule.specs.declared.payload.Payload.{Payload}
-use Rattle.pair_rule.specs.declared.payload.Payload.TheVariants.{Log, Out, Request, Answer}
+use Rattle.pair_rule.specs.declared.payload.Payload.TheVariants.{Log, Out, Request, Answer, Lookup, Sector}
 use Rattle.pair_rule.specs.declared.view.Knowledge.{Knowledge}
 use Rattle.pair_rule.specs.Boxes.{filler, emptier}
 use Rattle.pair_rule.specs.Kinds.{counted_at}
-use Rattle.pair_rule.specs.Knowledge.{CanFill, Fits, IsByteOf, Stands, WhereSome, accepted_at, after_empty, after_fill, backup_asked, byte_arrived, primary_asked, winner_of}
+use Rattle.pair_rule.specs.Knowledge.{CanFill, Carries, Fits, IsByteOf, Stands, WhereSome, accepted_at, after_empty, after_fill, backup_asked, byte_arrived, completed, primary_asked, winner_of}
 use Rattle.pair_rule.specs.Law as law
-use Rattle.pair_rule.specs.Law.{SilentStep, ThreadStep, Keeps, CountsNone, Carries, TakesByte0, TakesByte1, TakesRequest, HasAnswer, AsksRead, AnswersRead}
+use Rattle.pair_rule.specs.Law.{SilentStep, ThreadStep, Keeps, CountsNone, TakesByte0, TakesByte1, TakesRequest, HasAnswer, AsksRead, AnswersRead, TakesLookup, AnswersLookup}
 use Rattle.pair_rule.specs.Shown.{hand_of}
 use Rattle.pair_rule.specs.Steps.{AsksNot, Promised, Stays, Fills, Empties, Appends, Sees, Holds, PrimaryAsks, BackupAsks, Counts, SeesCount, TableStepsAreSteps}
 use Rattle.pair_rule.proofs.Emptied.{empty_keeps}
-use Rattle.pair_rule.proofs.Filled.{fill_keeps}
+use Rattle.pair_rule.proofs.Filled.{AgreesBy, fill_keeps}
 use Rattle.pair_rule.proofs.WordChanges.{append_stays, see_stays, hold_stays, primary_asks, backup_asks, came_stays, count_stays}
 
 module _ {S : Type 0} (M : Machine S) (typed0 typed1 : List ℕ) (k : Knowledge) (st : Stands k) where
@@ -30,59 +38,141 @@ module _ {S : Type 0} (M : Machine S) (typed0 typed1 : List ℕ) (k : Knowledge)
   fills Outbox (Out o) asks can kept = absurd can
   fills Outbox (Request r) asks can kept = absurd can
   fills Outbox (Answer a) asks can kept = absurd can
+  fills Outbox (Lookup x) asks can kept = absurd can
+  fills Outbox (Sector x) asks can kept = absurd can
   fills Inbox (Log p) asks can kept = inr Keeps
   fills Inbox (Out o) asks can kept = absurd can
   fills Inbox (Request r) asks can kept = absurd can
   fills Inbox (Answer a) asks can kept = absurd can
+  fills Inbox (Lookup x) asks can kept = absurd can
+  fills Inbox (Sector x) asks can kept = absurd can
   fills Bytes0 (Out (Byte to number byte)) asks can kept =
       inl (law.Releases (Byte to number byte) kept.0 (omega (arith, can)) asks kept.1)
   fills Bytes0 (Out (Write w)) asks can kept = absurd can
   fills Bytes0 (Log p) asks can kept = absurd can
   fills Bytes0 (Request r) asks can kept = absurd can
   fills Bytes0 (Answer a) asks can kept = absurd can
+  fills Bytes0 (Lookup x) asks can kept = absurd can
+  fills Bytes0 (Sector x) asks can kept = absurd can
   fills Bytes1 (Out (Byte to number byte)) asks can kept =
       inl (law.Releases (Byte to number byte) kept.0 (omega (arith, can)) asks kept.1)
   fills Bytes1 (Out (Write w)) asks can kept = absurd can
   fills Bytes1 (Log p) asks can kept = absurd can
   fills Bytes1 (Request r) asks can kept = absurd can
   fills Bytes1 (Answer a) asks can kept = absurd can
+  fills Bytes1 (Lookup x) asks can kept = absurd can
+  fills Bytes1 (Sector x) asks can kept = absurd can
   fills Requests (Request (ask.Write w)) asks can kept = inl (law.Releases (Write w) kept.0 tt asks kept.1)
   fills Requests (Request (ask.Read a)) asks can kept = inr (AsksRead a)
   fills Requests (Log p) asks can kept = absurd can
   fills Requests (Out o) asks can kept = absurd can
   fills Requests (Answer a) asks can kept = absurd can
-  fills Answers (Answer (answer.Written n)) asks can ((w, taken, is), boots) =
+  fills Requests (Lookup x) asks can kept = absurd can
+  fills Requests (Sector x) asks can kept = absurd can
+  fills Answers (Answer (answer.Written n)) asks can ((w, taken, is), agrees, boots) =
       subst (λ m. Step (after_fill Answers (Answer (answer.Written m)) k)) (sym is) (inl (law.Puts w taken))
-  fills Answers (Answer (answer.Read r)) asks can ((a, taken, at, last), boots) = inr (AnswersRead a r taken boots)
+  fills Answers (Answer (answer.Read r)) asks can ((a, taken, at, last), agrees, boots) = inr (AnswersRead a r taken boots)
   fills Answers (Log p) asks can kept = absurd can
   fills Answers (Out o) asks can kept = absurd can
   fills Answers (Request r) asks can kept = absurd can
+  fills Answers (Lookup x) asks can kept = absurd can
+  fills Answers (Sector x) asks can kept = absurd can
+  fills Lookups (Lookup x) asks can kept = inr Keeps
+  fills Lookups (Log p) asks can kept = absurd can
+  fills Lookups (Out o) asks can kept = absurd can
+  fills Lookups (Request r) asks can kept = absurd can
+  fills Lookups (Answer a) asks can kept = absurd can
+  fills Lookups (Sector x) asks can kept = absurd can
+  fills Sectors (Sector x) asks can kept = inr (AnswersLookup x)
+  fills Sectors (Log p) asks can kept = absurd can
+  fills Sectors (Out o) asks can kept = absurd can
+  fills Sectors (Request r) asks can kept = absurd can
+  fills Sectors (Answer a) asks can kept = absurd can
+  fills Sectors (Lookup x) asks can kept = absurd can
+
+  -- a packet has a whole entry, or only names a sector
+  packet_step : (p : Packet) → k.backup.winner ≡ 0 → (c : Carried) → p.carried ≡ c → (e : Entry)
+      → get_elem? k.primary.list p.index ≡ some e → Carries k.disk.given p.carried e → Step (after_empty Inbox (Log p) k)
+  packet_step p asks (Whole x) is e at same = let whole : e ≡ x = subst (λ c. Carries k.disk.given c e) is same in
+      inl (law.Takes p x asks is (at ∙ ap some whole))
+  packet_step p asks (Named t) is e at same = inr (law.Wants p t is)
+
+  -- a sector completes the entry that is wanted, or not
+  sector_step : (r : SectorRead) → k.backup.winner ≡ 0 → Among r k.disk.found → (x : Option Entry)
+      → completed k.backup.wanted r ≡ x → Step (after_empty Sectors (Sector r) k)
+  sector_step r asks fit None is = inr (law.Misses r is)
+  sector_step r asks fit (Some e) is = inl (law.Completes r e asks is fit)
+
+  -- what the disk reads agrees with what it read before
+  agrees_kept : (b : Mailbox) (q : Payload) → Promised M k b q → AgreesBy b k q
+  agrees_kept Outbox q kept = tt
+  agrees_kept Inbox q kept = tt
+  agrees_kept Bytes0 q kept = tt
+  agrees_kept Bytes1 q kept = tt
+  agrees_kept Requests q kept = tt
+  agrees_kept Answers (Answer a) kept = kept.1
+  agrees_kept Answers (Log p) kept = tt
+  agrees_kept Answers (Out o) kept = tt
+  agrees_kept Answers (Request r) kept = tt
+  agrees_kept Answers (Lookup x) kept = tt
+  agrees_kept Answers (Sector x) kept = tt
+  agrees_kept Lookups q kept = tt
+  agrees_kept Sectors (Sector x) kept = kept.1
+  agrees_kept Sectors (Log p) kept = tt
+  agrees_kept Sectors (Out o) kept = tt
+  agrees_kept Sectors (Request r) kept = tt
+  agrees_kept Sectors (Answer a) kept = tt
+  agrees_kept Sectors (Lookup x) kept = tt
 
   empties : (b : Mailbox) (q : Payload) → AsksNot (emptier b) k → Fits b k q → Step (after_empty b q k)
-  empties Outbox (Log p) asks fit = inr (Carries p)
+  empties Outbox (Log p) asks fit = inr (law.Carries p)
   empties Outbox (Out o) asks fit = absurd fit
   empties Outbox (Request r) asks fit = absurd fit
   empties Outbox (Answer a) asks fit = absurd fit
-  empties Inbox (Log p) asks fit = inl (law.Takes p asks fit)
+  empties Outbox (Lookup x) asks fit = absurd fit
+  empties Outbox (Sector x) asks fit = absurd fit
+  empties Inbox (Log p) asks fit = packet_step p asks p.carried refl fit.1.0 fit.1.1 fit.1.2
   empties Inbox (Out o) asks fit = absurd fit
   empties Inbox (Request r) asks fit = absurd fit
   empties Inbox (Answer a) asks fit = absurd fit
+  empties Inbox (Lookup x) asks fit = absurd fit
+  empties Inbox (Sector x) asks fit = absurd fit
   empties Bytes0 (Out o) asks fit = inr (TakesByte0 o)
   empties Bytes0 (Log p) asks fit = absurd fit
   empties Bytes0 (Request r) asks fit = absurd fit
   empties Bytes0 (Answer a) asks fit = absurd fit
+  empties Bytes0 (Lookup x) asks fit = absurd fit
+  empties Bytes0 (Sector x) asks fit = absurd fit
   empties Bytes1 (Out o) asks fit = inr (TakesByte1 o)
   empties Bytes1 (Log p) asks fit = absurd fit
   empties Bytes1 (Request r) asks fit = absurd fit
   empties Bytes1 (Answer a) asks fit = absurd fit
+  empties Bytes1 (Lookup x) asks fit = absurd fit
+  empties Bytes1 (Sector x) asks fit = absurd fit
   empties Requests (Request r) asks fit = inr (TakesRequest r)
   empties Requests (Log p) asks fit = absurd fit
   empties Requests (Out o) asks fit = absurd fit
   empties Requests (Answer a) asks fit = absurd fit
+  empties Requests (Lookup x) asks fit = absurd fit
+  empties Requests (Sector x) asks fit = absurd fit
   empties Answers (Answer a) asks fit = inr (HasAnswer a)
   empties Answers (Log p) asks fit = absurd fit
   empties Answers (Out o) asks fit = absurd fit
   empties Answers (Request r) asks fit = absurd fit
+  empties Answers (Lookup x) asks fit = absurd fit
+  empties Answers (Sector x) asks fit = absurd fit
+  empties Lookups (Lookup x) asks fit = inr (TakesLookup x)
+  empties Lookups (Log p) asks fit = absurd fit
+  empties Lookups (Out o) asks fit = absurd fit
+  empties Lookups (Request r) asks fit = absurd fit
+  empties Lookups (Answer a) asks fit = absurd fit
+  empties Lookups (Sector x) asks fit = absurd fit
+  empties Sectors (Sector x) asks fit = sector_step x asks fit (completed k.backup.wanted x) refl
+  empties Sectors (Log p) asks fit = absurd fit
+  empties Sectors (Out o) asks fit = absurd fit
+  empties Sectors (Request r) asks fit = absurd fit
+  empties Sectors (Answer a) asks fit = absurd fit
+  empties Sectors (Lookup x) asks fit = absurd fit
 
   -- a primary that asks finds no winner, or the backup; a backup finds none, or the primary
   primary_step : k.primary.winner ≡ 0 → Step (primary_asked (winner_of k.primary.winner k.backup.winner) k)
@@ -131,7 +221,7 @@ counted_before k st (suc port) = st.port1.accepted
 pub table_steps : {S : Type 0} → TableStepsAreSteps S
 table_steps M typed0 typed1 k new st Stays = record { stands = st; step = inr Keeps }
 table_steps M typed0 typed1 k new st (Fills b q asks can kept) = record {
-  stands = (fill_keeps k st b q can).0.stands;
+  stands = (fill_keeps k st b q can (agrees_kept M typed0 typed1 k st b q kept)).0.stands;
   step = fills M typed0 typed1 k st b q asks can kept;
 }
 table_steps M typed0 typed1 k new st (Empties b q asks fit) = record {

@@ -13,7 +13,7 @@ use Rattle.pair_rule.specs.declared.payload.DiskAnswer.{DiskAnswer}
 use Rattle.pair_rule.specs.declared.payload.DiskAnswer.TheVariants as answer
 use Rattle.pair_rule.specs.declared.view.Knowledge.{Knowledge}
 use Rattle.pair_rule.specs.Kinds.{counted_at}
-use Rattle.pair_rule.specs.Law.{typed_at, IsTold, SilentStep, ThreadStep, Appends, Holds, Sees, Takes, PrimaryWins, PrimaryLoses, BackupWins, BackupLoses, Releases, Arrives, Puts, Keeps, CountsNone, Carries, SeesCount, TakesByte0, TakesByte1, TakesRequest, HasAnswer, AsksRead, AnswersRead}
+use Rattle.pair_rule.specs.Law.{typed_at, IsTold, SilentStep, ThreadStep, Appends, Holds, Sees, Takes, Completes, PrimaryWins, PrimaryLoses, BackupWins, BackupLoses, Releases, Arrives, Puts, Keeps, CountsNone, Carries, SeesCount, TakesByte0, TakesByte1, TakesRequest, HasAnswer, AsksRead, AnswersRead, Wants, TakesLookup, AnswersLookup, Misses}
 use Rattle.pair_rule.specs.Threads.{IsAnswered, ListIsTold, PrimaryIsTold}
 use Rattle.pair_rule.proofs.Filled.{among_more}
 use Rattle.pair_rule.proofs.ShownNodes.{among_either}
@@ -132,7 +132,8 @@ module _ {S : Type 0} (M : Machine S) (typed0 typed1 : List ℕ) (k : Knowledge)
   thread_told new (Appends e run free told) = told_more run.before e told
   thread_told new (Holds waits) = t
   thread_told new (Sees serves) = t
-  thread_told new (Takes p waits is) = t
+  thread_told new (Takes p e waits whole at) = t
+  thread_told new (Completes r e waits done found) = t
   thread_told new (PrimaryWins serves waits) = t
   thread_told new (PrimaryLoses serves other) = t
   thread_told new (BackupWins serves waits) = t
@@ -173,6 +174,10 @@ module _ {S : Type 0} (M : Machine S) (typed0 typed1 : List ℕ) (k : Knowledge)
   }
   silent_told new (AsksRead a) = t
   silent_told new (AnswersRead a r taken first) = t
+  silent_told new (Wants p sector is) = t
+  silent_told new (TakesLookup a) = t
+  silent_told new (AnswersLookup r) = t
+  silent_told new (Misses r is) = t
 
 -- an empty list was told nothing
 pub nothing_told : (typed0 typed1 : List ℕ) → ListIsTold typed0 typed1 [] [] 0 0

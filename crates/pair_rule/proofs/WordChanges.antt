@@ -6,13 +6,13 @@ use Rattle.event_callbacks.specs.declared.operations.Operation.{Operation}
 use Rattle.log_entry.specs.declared.entry.Entry.{Entry}
 use Rattle.pair_protocol.specs.Lawful.{Among}
 use Rattle.pair_rule.specs.declared.mailbox.Mailbox.{Mailbox}
-use Rattle.pair_rule.specs.declared.mailbox.Mailbox.TheVariants.{Outbox, Inbox, Bytes0, Bytes1, Requests, Answers}
+use Rattle.pair_rule.specs.declared.mailbox.Mailbox.TheVariants.{Outbox, Inbox, Bytes0, Bytes1, Requests, Answers, Lookups, Sectors}
 use Rattle.pair_rule.specs.declared.payload.Payload.{Payload}
-use Rattle.pair_rule.specs.declared.payload.Payload.TheVariants.{Log, Out, Request, Answer}
+use Rattle.pair_rule.specs.declared.payload.Payload.TheVariants.{Log, Out, Request, Answer, Lookup, Sector}
 use Rattle.pair_rule.specs.declared.view.Arrived.{Arrived}
 use Rattle.pair_rule.specs.declared.view.Knowledge.{Knowledge}
 use Rattle.pair_rule.specs.Knowledge.{accepted_after, accepted_at, arrives, last_or, winner_of, Fits, PortStands, Stands, appended, saw, held, winner_after, primary_asked, backup_asked, byte_arrived, saw_count}
-use Rattle.pair_rule.proofs.Filled.{among_more, if_map, entry_more}
+use Rattle.pair_rule.proofs.Filled.{among_more, if_map, entry_more, next_more}
 use Rattle.pair_rule.proofs.ListsThatGrow.{longer_prefix, last_below, rising_more, last_more, last_among, fewer_arrived, all_arrived, decide_primary, decide_backup}
 
 -- the byte in a terminal's hand arrives; the primary sees how many were accepted
@@ -36,25 +36,32 @@ module _ (k : Knowledge) (s : Stands k) where
   Stays turn = Stands (turn k) × ((b : Mailbox) (x : Payload) → Fits b k x → Fits b (turn k) x)
 
   appended_fits : (e : Entry) (b : Mailbox) (x : Payload) → Fits b k x → Fits b (appended e k) x
-  appended_fits e Outbox (Log p) f = entry_more k.generation k.primary.list e p f
+  appended_fits e Outbox (Log p) f = entry_more k.generation k.primary.list k.disk.given e p f
   appended_fits e Outbox (Out o) f = f
   appended_fits e Outbox (Request r) f = f
   appended_fits e Outbox (Answer a) f = f
-  appended_fits e Inbox (Log p) f = entry_more k.generation k.primary.list e p f
+  appended_fits e Outbox (Lookup x) f = f
+  appended_fits e Outbox (Sector x) f = f
+  appended_fits e Inbox (Log p) f = entry_more k.generation k.primary.list k.disk.given e p f
   appended_fits e Inbox (Out o) f = f
   appended_fits e Inbox (Request r) f = f
   appended_fits e Inbox (Answer a) f = f
+  appended_fits e Inbox (Lookup x) f = f
+  appended_fits e Inbox (Sector x) f = f
   appended_fits e Bytes0 x f = f
   appended_fits e Bytes1 x f = f
   appended_fits e Requests x f = f
   appended_fits e Answers x f = f
+  appended_fits e Lookups x f = f
+  appended_fits e Sectors x f = f
 
   pub append_stays : (e : Entry) → Stays (appended e)
   append_stays e = (
     record {
       log = record {
         prefix = longer_prefix k.primary.list k.backup.list e s.log.prefix;
-        in_link = if_map k.link _ _ (entry_more k.generation k.primary.list e) s.log.in_link;
+        wanted = if_map k.backup.wanted _ _ (next_more k.primary.list k.disk.given k.backup.list e) s.log.wanted;
+        in_link = if_map k.link _ _ (entry_more k.generation k.primary.list k.disk.given e) s.log.in_link;
         rising = s.log.rising;
         behind = s.log.behind;
         once = s.log.once;
@@ -72,6 +79,7 @@ module _ (k : Knowledge) (s : Stands k) where
     record {
       log = record {
         prefix = s.log.prefix;
+        wanted = s.log.wanted;
         in_link = s.log.in_link;
         rising = s.log.rising;
         behind = le_refl (last_or 0 k.backup.held_values);
@@ -97,6 +105,7 @@ module _ (k : Knowledge) (s : Stands k) where
     record {
       log = record {
         prefix = s.log.prefix;
+        wanted = s.log.wanted;
         in_link = s.log.in_link;
         rising = rising_more 0 (length k.backup.list) k.backup.held_values s.log.rising;
         behind = (let low = held_low in let b = s.log.behind in let e =

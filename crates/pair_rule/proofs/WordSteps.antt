@@ -5,6 +5,9 @@ use lib.ListN.{get_elem?}
 use prog.Atomic.{either}
 use Rattle.atomic_table.specs.Table.{keeps, carried_after, Allows}
 use Rattle.pair_rule.specs.declared.mailbox.Mailbox.{Mailbox}
+use Rattle.log_entry.specs.declared.entry.Entry.{Entry}
+use Rattle.pair_rule.specs.declared.payload.Carried.{Carried}
+use Rattle.pair_rule.specs.declared.payload.Carried.TheVariants.{Whole, Named}
 use Rattle.pair_rule.specs.declared.payload.Packet.{Packet}
 use Rattle.pair_rule.specs.declared.payload.Payload.{Payload}
 use Rattle.pair_rule.specs.declared.payload.Payload.TheVariants.{Log}
@@ -13,7 +16,6 @@ use Rattle.pair_rule.specs.declared.view.BackupView.{BackupView}
 use Rattle.pair_rule.specs.declared.view.TerminalView.{TerminalView}
 use Rattle.pair_rule.specs.declared.view.Knowledge.{Knowledge}
 use Rattle.pair_rule.specs.declared.view.Core.{Core}
-use Rattle.pair_rule.specs.declared.view.SeatView.{SeatView}
 use Rattle.pair_rule.specs.Boxes.{Homes, Who, Primary, Backup, Terminal}
 use Rattle.pair_rule.specs.Knowledge.{last_or, words_of, winner_of, Fits, Stands, appended, with_entry, saw, held, winner_after, primary_asked, backup_asked, arrives, byte_arrived, saw_count, accepted_after, accepted_with}
 use Rattle.pair_rule.specs.Histories.{MayAppend, PlainRun, PlainStep}
@@ -64,7 +66,7 @@ knows_facts : (g : ℕ) (boxes : List ℕ) (homes : Homes) (c : Core) (turn : Kn
 knows_facts g boxes homes c turn same stands fits counted ran f = record {
   generation = same ∙ f.generation;
   sized = record { hands = f.sized.hands; has_slot = f.sized.has_slot; fills = f.sized.fills; empties = f.sized.empties };
-  six = f.six;
+  eight = f.eight;
   laid = f.laid;
   boxed = f.boxed;
   fitting = λ b z e. last_fits z.last (Fits b c.known) (Fits b (turn c.known)) (fits b) (f.fitting b z e);
@@ -112,24 +114,33 @@ module _ (g : ℕ) (s : Table) (r : Rule g s) (id : ℕ) (me : Mine) (at : get_e
     tells,
   )
 
-pub append_allowed : (g n id : ℕ) (me : Mine) (h : ℕ) (p : Packet) → has me.0 Primary → me.1 ≡ (h, Some (Log p)) ∷ []
+pub append_allowed : (g n id : ℕ) (me : Mine) (h : ℕ) (p : Packet) (e : Entry) → p.carried ≡ Whole e → has me.0 Primary
+    → me.1 ≡ (h, Some (Log p)) ∷ []
     → length me.0.core.known.primary.list < 2 ^ 62 → MayAppend me.0.core.known
     → Allows (Rule g) n id me 0 (λ x. (x + 1) % 2 ^ 64) (appends me)
-append_allowed g n id me h p mine holds few may s r deep at _ =
+append_allowed g n id me h p e whole mine holds few may s r deep at _ =
     let k : Knowledge = r.core.known in let same : me.0.core.known.primary ≡ k.primary =
-    (own g s r id me.0 at Primary mine).known in let st = append_stays k r.facts.stands p.entry in
+    (own g s r id me.0 at Primary mine).known in let st = append_stays k r.facts.stands e in
     let long : length me.0.core.known.primary.list ≡ length k.primary.list = ap (λ (z : PrimaryView). length z.list) same in
-    let count : (length k.primary.list + 1) % 2 ^ 64 ≡ length (k.primary.list ++ p.entry ∷ []) =
-    omega (arith, length-append k.primary.list (p.entry ∷ [])) in
-    word_goes g s r id me at Primary 0 (λ x. (x + 1) % 2 ^ 64) (appends me) (appended p.entry) mine
-    (on_primary (with_entry p.entry)) st.0 st.1 r.facts.counted (plain.Appends p.entry (may_append me.0.core.known k same may))
+    let count : (length k.primary.list + 1) % 2 ^ 64 ≡ length (k.primary.list ++ e ∷ []) =
+    omega (arith, length-append k.primary.list (e ∷ [])) in
+    word_goes g s r id me at Primary 0 (λ x. (x + 1) % 2 ^ 64) (appends me) (appended e) mine
+    (on_primary (with_entry e)) st.0 st.1 r.facts.counted (plain.Appends e (may_append me.0.core.known k same may))
     (λ i. count i ∷ last_or 0 k.backup.held_values ∷ winner_of k.primary.winner k.backup.winner
-    ∷ accepted_after 0 k.terminal.arrivals0 ∷ accepted_after 0 k.terminal.arrivals1 ∷ r.boxes)
-    (sym long, refl, λ y q has'. ap (λ (z : Payload). append_as z) (same_load me.1 h y (Log p) (Log q) holds has'))
+    ∷ accepted_after 0 k.terminal.arrivals0 ∷ accepted_after 0 k.terminal.arrivals1 ∷ r.boxes) (
+      sym long,
+      refl,
+      λ y q d whole' has'. ap (λ x. with_core me.0 (with_known (appended x) me.0.core))
+          (ap entry_in (sym whole) ∙ ap load_in (same_load me.1 h y (Log p) (Log q) holds has') ∙ ap entry_in whole'),
+    )
   where
-    append_as : Payload → SeatView
-    append_as (Log q) = with_core me.0 (with_known (appended q.entry) me.0.core)
-    append_as _ = me.0
+    entry_in : Carried → Entry
+    entry_in (Whole x) = x
+    entry_in (Named t) = e
+
+    load_in : Payload → Entry
+    load_in (Log q) = entry_in q.carried
+    load_in _ = e
 
 pub see_allowed : (g n id : ℕ) (me : Mine) → me.0.core.known.primary.winner ≡ 0 → has me.0 Primary → Allows (Rule g) n id me 1 (λ x. x) (sees me)
 see_allowed g n id me none mine s r deep at _ =

@@ -8,3 +8,4 @@ pub mod Shown
 pub mod Law
 pub mod Steps
 pub mod Threads
+pub mod ReadsKept

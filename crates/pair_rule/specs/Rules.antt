@@ -31,12 +31,12 @@ pub record Moment (s : Who) (own all : Knowledge) : Type 0 where
   pub generation : own.generation ≡ all.generation
   pub same : SamePart s own all
 
--- five seats and six boxes
+-- five seats and eight boxes
 pub record Sized (c : Core) : Type 0 where
   pub hands : length c.hands ≡ 5
   pub has_slot : length c.has_slot ≡ 5
-  pub fills : length c.fills ≡ 6
-  pub empties : length c.empties ≡ 6
+  pub fills : length c.fills ≡ 8
+  pub empties : length c.empties ≡ 8
 
 -- both have the same of a seat
 pub record Same (s : Who) (c d : Core) : Type 0 where
@@ -84,7 +84,7 @@ CountedBy fills empties k =
 pub record Facts (g : ℕ) (boxes : List ℕ) (homes : Homes) (c : Core) : Type 0 where
   pub generation : c.known.generation ≡ g
   pub sized : Sized c
-  pub six : length boxes ≡ 6
+  pub eight : length boxes ≡ 8
   pub laid : Laid boxes c.hands c.has_slot homes
   pub boxed : Boxes boxes homes c.fills c.empties
   pub fitting : (b : Mailbox) (f : Side) → get_elem? c.fills (box_index b) ≡ some f → WhereSome f.last (Fits b c.known)
@@ -104,10 +104,10 @@ pub record Rule (g : ℕ) (s : State (Option Payload) SeatView) : Type 0 where
 -- the core of a new table if this is known, and the view that has all of it
 abbrev pub core_of : Knowledge → Core
 core_of k = record {
-  hands = 6 ∷ 7 ∷ 8 ∷ 9 ∷ 10 ∷ [];
+  hands = 8 ∷ 9 ∷ 10 ∷ 11 ∷ 12 ∷ [];
   has_slot = false ∷ false ∷ false ∷ false ∷ false ∷ [];
-  fills = new_side ∷ new_side ∷ new_side ∷ new_side ∷ new_side ∷ new_side ∷ [];
-  empties = new_side ∷ new_side ∷ new_side ∷ new_side ∷ new_side ∷ new_side ∷ [];
+  fills = new_side ∷ new_side ∷ new_side ∷ new_side ∷ new_side ∷ new_side ∷ new_side ∷ new_side ∷ [];
+  empties = new_side ∷ new_side ∷ new_side ∷ new_side ∷ new_side ∷ new_side ∷ new_side ∷ new_side ∷ [];
   known = k;
 }
 
@@ -126,8 +126,8 @@ abbrev pub CountsAs : List Arrived → Option Operation → Option Operation →
 CountsAs arrivals kept hand = accepted_after 0 (arrives kept arrivals) ≡ accepted_after 0 (arrives hand arrivals)
 
 -- what may be known when a table begins: steps of a table led to it, and it stands; both lists have this many entries, all
--- of them held and seen; this many bytes of each port are accepted, and none in a hand is still to be; nobody has asked to
--- go on alone; and no more requests were taken, and no more answers came, than there were
+-- of them held and seen, and the backup wants no sector; this many bytes of each port are accepted, and none in a hand is
+-- still to be; nobody has asked to go on alone; and no more requests were taken, and no more answers came, than there were
 pub record IsStart (generation entries accepted0 accepted1 : ℕ) (k : Knowledge) : Type 0 where
   pub generation_is : generation ≡ k.generation
   pub stands : Stands k
@@ -135,6 +135,7 @@ pub record IsStart (generation entries accepted0 accepted1 : ℕ) (k : Knowledge
   pub list : entries ≡ length k.primary.list
   pub seen : entries ≡ k.primary.seen
   pub copy : entries ≡ length k.backup.list
+  pub nothing_wanted : None ≡ k.backup.wanted
   pub held : entries ≡ last_or 0 k.backup.held_values
   pub primary_waits : 0 ≡ k.primary.winner
   pub backup_waits : 0 ≡ k.backup.winner

@@ -5,15 +5,15 @@ use Rattle.event_callbacks.specs.declared.operations.Operation.TheVariants.{Writ
 use Rattle.guest_lockstep.specs.Machine.{Machine}
 use Rattle.log_entry.specs.declared.entry.Entry.{Entry}
 use Rattle.pair_rule.specs.declared.mailbox.Mailbox.{Mailbox}
-use Rattle.pair_rule.specs.declared.mailbox.Mailbox.TheVariants.{Bytes0, Bytes1, Requests, Answers}
+use Rattle.pair_rule.specs.declared.mailbox.Mailbox.TheVariants.{Bytes0, Bytes1, Requests, Answers, Sectors}
 use Rattle.pair_rule.specs.declared.payload.DiskAnswer.{DiskAnswer}
 use Rattle.pair_rule.specs.declared.payload.DiskAnswer.TheVariants as answer
 use Rattle.pair_rule.specs.declared.payload.DiskRequest.TheVariants as ask
 use Rattle.pair_rule.specs.declared.payload.Payload.{Payload}
-use Rattle.pair_rule.specs.declared.payload.Payload.TheVariants.{Out, Request, Answer}
+use Rattle.pair_rule.specs.declared.payload.Payload.TheVariants.{Out, Request, Answer, Sector}
 use Rattle.pair_rule.specs.declared.view.Knowledge.{Knowledge}
-use Rattle.pair_rule.specs.Boxes.{Who, Primary, Backup, filler, emptier}
-use Rattle.pair_rule.specs.Knowledge.{CanFill, Fits, Stands, accepted_at, after_empty, after_fill, appended, backup_asked, byte_arrived, held, last_or, primary_asked, read_at, saw, saw_count, winner_of}
+use Rattle.pair_rule.specs.Boxes.{Primary, Backup, filler, emptier}
+use Rattle.pair_rule.specs.Knowledge.{Agrees, AgreesOf, CanFill, Finds, Fits, Stands, accepted_at, after_empty, after_fill, appended, backup_asked, byte_arrived, held, last_or, primary_asked, read_at, saw, saw_count, winner_of}
 use Rattle.pair_rule.specs.Law.{HasLonger, HasRun, IsCovered, IsTold, MayAppend, SilentStep, ThreadStep}
 use Rattle.pair_rule.specs.Seats.{Replies}
 pub use Rattle.pair_rule.specs.Histories.{AsksNot}
@@ -32,7 +32,8 @@ abbrev pub Promised : {S : Type 0} (M : Machine S) → Knowledge → Mailbox →
 Promised M k Bytes0 (Out o) = MayRelease M k o
 Promised M k Bytes1 (Out o) = MayRelease M k o
 Promised M k Requests (Request (ask.Write w)) = MayRelease M k (Write w)
-Promised M k Answers (Answer a) = Replies k.disk a × ReadsBoot M a
+Promised M k Answers (Answer a) = Replies k.disk a × AgreesOf k.disk a × ReadsBoot M a
+Promised M k Sectors (Sector r) = Finds k.disk r × Agrees k.disk r × ReadsBoot M (answer.Read r)
 Promised M k _ _ = Unit {0}
 
 -- a step of the table, from what all seats know to what they know then

@@ -31,7 +31,7 @@ pub struct Closed {
 // The backup's seat ends, and the primary's takes over its part.
 fn join_backup(table: &SharedTable, lead: &mut TableSeat, state: SeatState)
     requires table { (lead.old.table_id ≡ table.now.table_id) × (state.seat.table_id ≡ table.now.table_id)
-        × (table.now.table_id.words ≡ 11) }
+        × (table.now.table_id.words ≡ 13) }
     requires lead { has lead.old.me.0 Primary × (get_elem? lead.old.me.0.mine (seat_index Backup) ≡ some false) }
     requires seat { Keeps Backup state.seat.me state.slot state.fills state.empties }
     ensures table { lead.new.table_id ≡ lead.old.table_id }
@@ -51,7 +51,7 @@ fn join_backup(table: &SharedTable, lead: &mut TableSeat, state: SeatState)
 // The terminal's seat ends, and the primary's takes over its part.
 fn join_terminal(table: &SharedTable, lead: &mut TableSeat, state: SeatState)
     requires table { (lead.old.table_id ≡ table.now.table_id) × (state.seat.table_id ≡ table.now.table_id)
-        × (table.now.table_id.words ≡ 11) }
+        × (table.now.table_id.words ≡ 13) }
     requires lead { has lead.old.me.0 Primary × (get_elem? lead.old.me.0.mine (seat_index Terminal) ≡ some false) }
     requires seat { Keeps Terminal state.seat.me state.slot state.fills state.empties }
     ensures table { lead.new.table_id ≡ lead.old.table_id }
@@ -71,7 +71,7 @@ fn join_terminal(table: &SharedTable, lead: &mut TableSeat, state: SeatState)
 // The disk's seat ends, and the primary's takes over its part.
 fn join_disk(table: &SharedTable, lead: &mut TableSeat, state: SeatState)
     requires table { (lead.old.table_id ≡ table.now.table_id) × (state.seat.table_id ≡ table.now.table_id)
-        × (table.now.table_id.words ≡ 11) }
+        × (table.now.table_id.words ≡ 13) }
     requires lead { has lead.old.me.0 Primary × (get_elem? lead.old.me.0.mine (seat_index Disk) ≡ some false) }
     requires seat { Keeps Disk state.seat.me state.slot state.fills state.empties }
     ensures table { lead.new.table_id ≡ lead.old.table_id }
@@ -100,7 +100,7 @@ fn drop_slots(mut closed: atomic_table::Closed<Option<Payload>, Global>)
 
 // The words at the end, for a seat that has the parts of all that are joined.
 fn settle(table: PairTable, seat: TableSeat) -> Closed
-    requires table { (seat.table_id ≡ table.shared.table_id) × (table.shared.table_id.words ≡ 11) }
+    requires table { (seat.table_id ≡ table.shared.table_id) × (table.shared.table_id.words ≡ 13) }
     requires parts { has seat.me.0 Primary × has seat.me.0 Backup × has seat.me.0 Terminal × has seat.me.0 Disk }
     ensures { Settled seat.me.0.core.known.primary seat.me.0.core.known.backup seat.me.0.core.known.terminal seat.me.0.core.known.disk result.tail result.held result.winner }
 {

@@ -46,8 +46,8 @@ struct NewSeats {
 // A new table at which this is known, whose first seat is split into five.
 fn new_seats(alloc: Global, start: &Start) -> Result<NewSeats, AllocError>
     requires { IsStart start.now.generation start.now.entries start.now.accepted0 start.now.accepted1 start.now.known.known }
-    ensures words { IfOk result (λ t. t.table.shared.table_id.words ≡ 11) }
-    ensures slots { IfOk result (λ t. t.table.shared.table_id.slots ≡ 11) }
+    ensures words { IfOk result (λ t. t.table.shared.table_id.words ≡ 13) }
+    ensures slots { IfOk result (λ t. t.table.shared.table_id.slots ≡ 13) }
     ensures primary { IfOk result (λ t. IsNew Primary start.now.known.known t.table.shared.table_id t.primary.table_id t.primary.me) }
     ensures link { IfOk result (λ t. IsNew Link start.now.known.known t.table.shared.table_id t.link.table_id t.link.me) }
     ensures backup { IfOk result (λ t. IsNew Backup start.now.known.known t.table.shared.table_id t.backup.table_id t.backup.me) }
@@ -60,8 +60,8 @@ fn new_seats(alloc: Global, start: &Start) -> Result<NewSeats, AllocError>
     let counted1 = start.accepted1;
     let made: (PairTable, TableSeat) = Table::vacant(
         alloc,
-        &[tail, held, 0, counted0, counted1, 0, 1, 2, 3, 4, 5],
-        11,
+        &[tail, held, 0, counted0, counted1, 0, 1, 2, 3, 4, 5, 6, 7],
+        13,
         start,
     )?;
     let (table, mut primary) = made;
@@ -105,33 +105,33 @@ pub(crate) fn open(alloc: Global, start: &Start) -> Result<(Fabric, SeatStates),
     let states = SeatStates {
         primary: SeatState {
             seat: primary,
-            slot: 6,
-            fills: [0; 6],
-            empties: [0; 6],
+            slot: 8,
+            fills: [0; 8],
+            empties: [0; 8],
         },
         link: SeatState {
             seat: link,
-            slot: 7,
-            fills: [0; 6],
-            empties: [0; 6],
+            slot: 9,
+            fills: [0; 8],
+            empties: [0; 8],
         },
         backup: SeatState {
             seat: backup,
-            slot: 8,
-            fills: [0; 6],
-            empties: [0; 6],
+            slot: 10,
+            fills: [0; 8],
+            empties: [0; 8],
         },
         terminal: SeatState {
             seat: terminal,
-            slot: 9,
-            fills: [0; 6],
-            empties: [0; 6],
+            slot: 11,
+            fills: [0; 8],
+            empties: [0; 8],
         },
         disk: SeatState {
             seat: disk,
-            slot: 10,
-            fills: [0; 6],
-            empties: [0; 6],
+            slot: 12,
+            fills: [0; 8],
+            empties: [0; 8],
         },
     };
     Ok((fabric, states))
@@ -194,6 +194,7 @@ impl Fabric {
             backup: BackupSeat {
                 state: backup,
                 length: start.entries,
+                wanted: None,
             },
             terminal: TerminalSeat {
                 state: terminal,
