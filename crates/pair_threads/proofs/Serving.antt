@@ -18,18 +18,20 @@ use Rattle.shared_disk.proofs.RecordsBySector.{is_other, is_same, record_at-with
 use Rattle.pair_protocol.specs.World.{SectorRecord, latest, record_after}
 use Rattle.pair_protocol.proofs.Traces.Lists.{same_some}
 use Rattle.pair_protocol.proofs.Promises.OneMore.{latest-one}
-use Rattle.pair_rule.specs.declared.mailbox.Mailbox.TheVariants.{Answers, Requests}
+use Rattle.pair_rule.specs.declared.mailbox.Mailbox.TheVariants.{Answers, Lookups, Requests, Sectors}
 use Rattle.pair_rule.specs.declared.payload.DiskAnswer.{DiskAnswer}
 use Rattle.pair_rule.specs.declared.payload.DiskAnswer.TheVariants as answer
 use Rattle.pair_rule.specs.declared.payload.DiskRequest.{DiskRequest}
 use Rattle.pair_rule.specs.declared.payload.DiskRequest.TheVariants as ask
-use Rattle.pair_rule.specs.declared.payload.Payload.TheVariants.{Answer, Request}
+use Rattle.pair_rule.specs.declared.payload.Payload.TheVariants.{Answer, Lookup, Request, Sector}
 use Rattle.pair_rule.specs.declared.view.Core.{Core}
 use Rattle.pair_rule.specs.declared.view.DiskView.{DiskView}
-use Rattle.pair_rule.specs.Knowledge.{AllAre, put_by}
-use Rattle.pair_rule.specs.Seats.{Empties, Fills, Replies}
+use Rattle.pair_protocol.specs.Lawful.{Among}
+use Rattle.pair_rule.specs.Knowledge as knowledge
+use Rattle.pair_rule.specs.Knowledge.{AllAre, FirstsAgree, FirstsAgreeOf, WasRead, put_by}
+use Rattle.pair_rule.specs.Seats.{Empties, Fills}
 use Rattle.pair_rule.proofs.Filled.{all_more}
-use Rattle.pair_threads.specs.Stores.{Has, IsDiskOf, IsFirst, IsStore, Serves, at_boot, bytes_in}
+use Rattle.pair_threads.specs.Stores.{Has, IsDiskOf, IsFirst, IsStore, LooksAt, Serves, at_boot, bytes_in}
 
 -- ---- a write arrives
 
@@ -174,32 +176,71 @@ record_is k n bytes e d =
     subst (λ m. k ≡ record { number = m; bytes = bytes }) (sym e)
     (subst (λ b. k ≡ record { number = k.number; bytes = b }) (sym d) refl)
 
-pub read : (old new : List Record) (address : SectorAddress) (r : SectorRead) → read_at old address ≡ Some r → new ≡ old
-    → Serves old (ask.Read address) (answer.Read r) new
-read old new address r is same boots view taken disk = go (record_at old address) refl is
+-- what was found has the address at which it was read; it is what the writes leave, and what the sector booted with if there
+-- is none of them
+found_so : (boots : SectorAddress → List ℕ) (old : List Record) (puts : List SectorWrite) (address : SectorAddress)
+    (r : SectorRead) → IsDiskOf boots old puts → read_at old address ≡ Some r
+    → (address ≡ knowledge.read_at r) × (latest (at_boot r.bytes) puts address ≡ record { number = r.number; bytes = r.bytes })
+    × IsFirst boots (answer.Read r)
+found_so boots old puts address r disk is = go (record_at old address) refl is
   where
-    there : IsDiskOf boots new (put_by view.taken view.puts)
-    there = subst (λ t. IsDiskOf boots new (put_by t view.puts)) (sym taken)
-        (subst (λ rs. IsDiskOf boots rs view.puts) (sym same) disk)
-
     go : (found : Option Record) → record_at old address ≡ found → option_map (read_of address) found ≡ Some r
-        → Replies view (answer.Read r) × IsFirst boots (answer.Read r) × IsDiskOf boots new (put_by view.taken view.puts)
+        → (address ≡ knowledge.read_at r)
+        × (latest (at_boot r.bytes) puts address ≡ record { number = r.number; bytes = r.bytes })
+        × IsFirst boots (answer.Read r)
     go None at e = absurd cc
     go (Some met) at e =
         let came : read_of address met ≡ r = same_some (read_of address met) r _ refl e in
-        let has : Has met (latest (at_boot (boots address)) view.puts address) = disk address met at in
-        subst (λ z. Replies view (answer.Read z) × IsFirst boots (answer.Read z)
-        × IsDiskOf boots new (put_by view.taken view.puts)) came (
-          (
-            address,
-            taken,
-            refl,
-            read_again view.puts address (boots address) met.number met.bytes
-                (record_is (latest (at_boot (boots address)) view.puts address) met.number met.bytes has.0 has.1),
-          ),
-          (λ zero. has.1 ∙ still_first view.puts address (boots address) (sym has.0 ∙ zero)),
-          there,
+        let has : Has met (latest (at_boot (boots address)) puts address) = disk address met at in
+        subst (λ (z : SectorRead). (address ≡ knowledge.read_at z)
+        × (latest (at_boot z.bytes) puts address ≡ record { number = z.number; bytes = z.bytes })
+        × IsFirst boots (answer.Read z)) came (
+          refl,
+          read_again puts address (boots address) met.number met.bytes
+              (record_is (latest (at_boot (boots address)) puts address) met.number met.bytes has.0 has.1),
+          (λ zero. has.1 ∙ still_first puts address (boots address) (sym has.0 ∙ zero)),
         )
+
+pub read : (old new : List Record) (address : SectorAddress) (r : SectorRead) → read_at old address ≡ Some r → new ≡ old
+    → Serves old (ask.Read address) (answer.Read r) new
+read old new address r is same boots view taken disk =
+    let so = found_so boots old view.puts address r disk is in (
+      (address, taken, so.0, so.1),
+      so.2,
+      subst (λ t. IsDiskOf boots new (put_by t view.puts)) (sym taken)
+          (subst (λ rs. IsDiskOf boots rs view.puts) (sym same) disk),
+    )
+
+pub looked : (old new : List Record) (address : SectorAddress) (r : SectorRead) → read_at old address ≡ Some r → new ≡ old
+    → LooksAt old address r new
+looked old new address r is same boots view sought disk =
+    let so = found_so boots old view.puts address r disk is in (
+      (
+        sought ∙ ap Some so.0,
+        subst (λ a. latest (at_boot r.bytes) view.puts a ≡ record { number = r.number; bytes = r.bytes }) so.0 so.1,
+      ),
+      so.2,
+      subst (λ rs. IsDiskOf boots rs view.puts) (sym same) disk,
+    )
+
+-- ---- what was read before any write agrees
+
+all_there : {A : Type 0} (xs : List A) (P : A → Type 0) (x : A) → AllAre xs P → Among x xs → P x
+all_there [] P x all at = absurd at
+all_there (y ∷ xs) P x all (inl e) = subst P (sym e) all.0
+all_there (y ∷ xs) P x all (inr at) = all_there xs P x all.1 at
+
+module _ (boots : SectorAddress → List ℕ) (records : List Record) (view : DiskView) (store : IsStore boots records view) where
+  pub firsts_agree : (r : SectorRead) → IsFirst boots (answer.Read r) → FirstsAgree view r
+  firsts_agree r first s was same none there = go was ∙ ap boots same ∙ sym (first there)
+    where
+      go : WasRead view s → s.bytes ≡ boots (knowledge.read_at s)
+      go (inl at) = all_there view.given (IsFirst boots) (answer.Read s) store.firsts at none
+      go (inr at) = all_there view.found (λ r. IsFirst boots (answer.Read r)) s store.finds at none
+
+  pub firsts_agree_of : (a : DiskAnswer) → IsFirst boots a → FirstsAgreeOf view a
+  firsts_agree_of (answer.Written number) first = tt
+  firsts_agree_of (answer.Read r) first = firsts_agree r first
 
 -- ---- the worker's turn
 
@@ -219,6 +260,19 @@ replied boots old new request a core after serves taken fills store =
     subst (λ (c : Core). IsStore boots new c.known.disk) (sym fills.0.1) record {
       kept = served.2;
       firsts = all_more core.known.disk.given a (IsFirst boots) store.firsts served.1;
+      finds = store.finds;
+    }
+
+-- a sector that is looked up is found
+pub looked_up : (boots : SectorAddress → List ℕ) (old new : List Record) (address : SectorAddress) (r : SectorRead)
+    (core after : Core) → LooksAt old address r new → core.known.disk.sought ≡ Some address
+    → Fills Sectors (Sector r) core after → IsStore boots old core.known.disk → IsStore boots new after.known.disk
+looked_up boots old new address r core after looks sought fills store =
+    let seen = looks boots core.known.disk sought store.kept in
+    subst (λ (c : Core). IsStore boots new c.known.disk) (sym fills.0.1) record {
+      kept = seen.2;
+      firsts = store.firsts;
+      finds = all_more core.known.disk.found r (λ x. IsFirst boots (answer.Read x)) store.finds seen.1;
     }
 
 -- a request is taken, or none is there
@@ -227,10 +281,21 @@ pub took : (boots : SectorAddress → List ℕ) (records : List Record) (found :
     → IsStore boots records after.known.disk
 took boots records None core after empties store =
     subst (λ (c : Core). IsStore boots records c.known.disk) (sym empties.0.1)
-    (record { kept = store.kept; firsts = store.firsts })
+    (record { kept = store.kept; firsts = store.firsts; finds = store.finds })
 took boots records (Some request) core after empties store =
     subst (λ (c : Core). IsStore boots records c.known.disk) (sym empties.1.1)
-    (record { kept = store.kept; firsts = store.firsts })
+    (record { kept = store.kept; firsts = store.firsts; finds = store.finds })
+
+-- a lookup is taken, or none is there
+pub took_lookup : (boots : SectorAddress → List ℕ) (records : List Record) (found : Option SectorAddress) (core after : Core)
+    → Empties Lookups (option_map Lookup found) core after → IsStore boots records core.known.disk
+    → IsStore boots records after.known.disk
+took_lookup boots records None core after empties store =
+    subst (λ (c : Core). IsStore boots records c.known.disk) (sym empties.0.1)
+    (record { kept = store.kept; firsts = store.firsts; finds = store.finds })
+took_lookup boots records (Some address) core after empties store =
+    subst (λ (c : Core). IsStore boots records c.known.disk) (sym empties.1.1)
+    (record { kept = store.kept; firsts = store.firsts; finds = store.finds })
 
 -- the disk fails a request
 pub failed : (boots : SectorAddress → List ℕ) (old new : List Record) (view : DiskView) → new ≡ old
@@ -243,9 +308,10 @@ first_sectors : (records : List Record) → IsUnwritten records → IsDiskOf (by
 first_sectors records unwritten a r at =
     (unwritten a r at, ap (λ found. option_map_or (λ (x : Record). x.bytes) found []) (sym at))
 
-pub first_disk : (records : List Record) (view : DiskView) → view.puts ≡ [] → view.given ≡ [] → IsUnwritten records
-    → IsStore (bytes_in records) records view
-first_disk records view no_puts none_given unwritten = record {
+pub first_disk : (records : List Record) (view : DiskView) → view.puts ≡ [] → view.given ≡ [] → view.found ≡ []
+    → IsUnwritten records → IsStore (bytes_in records) records view
+first_disk records view no_puts none_given none_found unwritten = record {
   kept = subst (λ puts. IsDiskOf (bytes_in records) records puts) (sym no_puts) (first_sectors records unwritten);
   firsts = subst (λ given. AllAre given (IsFirst (bytes_in records))) (sym none_given) tt;
+  finds = subst (λ found. AllAre found (λ r. IsFirst (bytes_in records) (answer.Read r))) (sym none_found) tt;
 }

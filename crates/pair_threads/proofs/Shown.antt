@@ -66,6 +66,7 @@ module _ {B S : Type 0} (state : B → S) (N : Machine S) (exact : Bool) (boot :
     reads_kept =
         subst (λ (d : DiskView). AllAre d.given (ReadsBoot M)) (sym settled.disk_is)
         (all_map disk.given (IsFirst (bytes_in first)) (ReadsBoot M) read_first store.firsts);
+    found_kept = subst (λ (d : DiskView). AllAre d.found (λ r. ReadsBoot M (answer.Read r))) (sym settled.disk_is) store.finds;
   }
 
   there : IsStore (bytes_in first) records settled.known.disk

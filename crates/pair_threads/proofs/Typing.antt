@@ -64,6 +64,7 @@ listened_same w = record {
   log = (refl, refl, refl);
   emitted = (refl, refl);
   disk = (refl, refl, refl);
+  tracks = (refl, refl);
   turn = (refl, refl, refl);
   pace = (refl, refl);
 }
@@ -77,6 +78,7 @@ listened_on v w x a b = record {
   log = (b.log.0 ∙ a.log.0, b.log.1 ∙ a.log.1, b.log.2 ∙ a.log.2);
   emitted = (b.emitted.0 ∙ a.emitted.0, b.emitted.1 ∙ a.emitted.1);
   disk = (b.disk.0 ∙ a.disk.0, b.disk.1 ∙ a.disk.1, b.disk.2 ∙ a.disk.2);
+  tracks = (b.tracks.0 ∙ a.tracks.0, b.tracks.1 ∙ a.tracks.1);
   turn = (b.turn.0 ∙ a.turn.0, b.turn.1 ∙ a.turn.1, b.turn.2 ∙ a.turn.2);
   pace = (b.pace.0 ∙ a.pace.0, b.pace.1 ∙ a.pace.1);
 }

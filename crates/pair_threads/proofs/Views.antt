@@ -1,5 +1,5 @@
 -- What each call of its seat leaves of a primary's view, and that its guest still leads under it.
-use Rattle.std.proofs.Common.{◌≡◌, ℕ, zero, suc, ◌+◌, ◌≤◌, inl, inr, List, [], ◌∷◌, ◌++◌, length, Some, None, refl, sym, ap, subst, ◌∙◌, arith, take, Vec, Global, vec_len}
+use Rattle.std.proofs.Common.{◌≡◌, ℕ, zero, suc, ◌+◌, ◌≤◌, inl, inr, List, [], ◌∷◌, ◌++◌, length, Some, None, refl, sym, ap, subst, ◌∙◌, arith, length-append, take, Vec, Global, vec_len}
 use Rattle.std.specs.Prelude.{◌-◌, slice_get}
 use Rattle.disk_dcdd.specs.declared.address.SectorAddress.{SectorAddress}
 use Rattle.disk_dcdd.specs.declared.sector.SectorWrite.{SectorWrite}
@@ -97,6 +97,17 @@ among_there (b ∷ answers) (suc n) a at = inr (among_there answers n a at)
 pub is_among : (answers : List DiskAnswer) (a : DiskAnswer) → slice_get answers (length answers - 1) ≡ Some a
     → Among a answers
 is_among answers a at = among_there answers (length answers - 1) a at
+
+at_end : (answers : List DiskAnswer) (a : DiskAnswer) → slice_get (answers ++ a ∷ []) (length answers) ≡ Some a
+at_end [] a = refl
+at_end (b ∷ answers) a = at_end answers a
+
+pub came_last : (answers : List DiskAnswer) (a b : DiskAnswer) → Some a ≡ Some b
+    → slice_get (answers ++ a ∷ []) (length (answers ++ a ∷ []) - 1) ≡ Some b
+came_last answers a b same =
+    ap (slice_get (answers ++ a ∷ []))
+    (let n = length-append answers (a ∷ []) in let e : length (answers ++ a ∷ []) - 1 ≡ length answers = omega (arith, n) in e)
+    ∙ at_end answers a ∙ same
 
 -- ---- a guest under another view
 

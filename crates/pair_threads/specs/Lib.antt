@@ -9,9 +9,11 @@ pub mod Fates
 pub mod Screens
 pub mod Showing
 pub mod Stores
+pub mod Serving
 pub mod Lagging
 pub mod Repeating
 pub mod Keeping
+pub mod Naming
 pub mod Leading
 pub mod Ending
 pub mod Left

@@ -8,9 +8,10 @@ use Rattle.pair_rule.specs.declared.payload.DiskAnswer.{DiskAnswer}
 use Rattle.pair_rule.specs.declared.payload.DiskAnswer.TheVariants as answer
 use Rattle.pair_rule.specs.declared.payload.DiskRequest.{DiskRequest}
 use Rattle.pair_rule.specs.declared.view.DiskView.{DiskView}
-use Rattle.pair_rule.specs.Knowledge.{AllAre, put_by, read_at}
+use Rattle.pair_rule.specs.Knowledge.{AllAre, Finds, put_by, read_at}
 use Rattle.pair_rule.specs.Seats.{Replies}
 use Rattle.shared_disk.specs.Records.{record_at}
+use Rattle.shared_disk.specs.declared.disk.SectorRead.{SectorRead}
 use Rattle.shared_disk.specs.declared.store.Record.{Record}
 
 -- the bytes of each sector of a store
@@ -36,13 +37,20 @@ abbrev pub IsFirst : (SectorAddress → List ℕ) → DiskAnswer → Type 0
 IsFirst boots (answer.Written number) = Unit {0}
 IsFirst boots (answer.Read r) = r.number ≡ 0 → r.bytes ≡ boots (read_at r)
 
--- a store is as the view of its seat says, and so is what was read of it before any write
+-- a store is as the view of its seat says, and so is what was read of it before any write, for the primary and for the backup
 pub record IsStore (boots : SectorAddress → List ℕ) (records : List Record) (view : DiskView) : Type 0 where
   pub kept : IsDiskOf boots records view.puts
   pub firsts : AllAre view.given (IsFirst boots)
+  pub finds : AllAre view.found (λ r. IsFirst boots (answer.Read r))
 
 -- a store serves the request that the seat took last: its answer may be replied, and its records are right after that
 abbrev pub Serves : List Record → DiskRequest → DiskAnswer → List Record → Type 0
 Serves old request answer new =
     (boots : SectorAddress → List ℕ) (view : DiskView) → view.taken ≡ Some request → IsDiskOf boots old view.puts →
     Replies view answer × IsFirst boots answer × IsDiskOf boots new (put_by view.taken view.puts)
+
+-- what it has of the sector that the seat looks up: that may be replied, and the records stay right
+abbrev pub LooksAt : List Record → SectorAddress → SectorRead → List Record → Type 0
+LooksAt old address r new =
+    (boots : SectorAddress → List ℕ) (view : DiskView) → view.sought ≡ Some address → IsDiskOf boots old view.puts →
+    Finds view r × IsFirst boots (answer.Read r) × IsDiskOf boots new view.puts

@@ -37,6 +37,7 @@ pub record HasListened {B : Type 0} (old new : PrimaryWorker B) : Type 0 where
   pub log : (new.next ≡ old.next) × (new.full ≡ old.full) × (new.posted ≡ old.posted)
   pub emitted : (new.emitted0 ≡ old.emitted0) × (new.emitted1 ≡ old.emitted1)
   pub disk : (new.asked ≡ old.asked) × (new.answer ≡ old.answer) × (new.sector ≡ old.sector)
+  pub tracks : (new.tracks ≡ old.tracks) × (new.track ≡ old.track)
   pub turn : (new.chore ≡ old.chore) × (new.second ≡ old.second) × (new.fruitless ≡ old.fruitless)
   pub pace : (new.key_count ≡ old.key_count) × (new.held_up ≡ old.held_up)
 

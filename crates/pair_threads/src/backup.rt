@@ -1,11 +1,8 @@
-//! The backup's worker: it takes packets, acknowledges its list, repeats its entries, and may go on alone.
+//! The backup's worker: it takes packets, looks up sectors that they only name, acknowledges its list, repeats its entries, and
+//! may go on alone.
 ghost use Rattle.std.specs.Prelude.{◌≡◌, ◌≢◌, ◌<◌, ◌≤◌, Bool, cond, min, [], false, true, length, is_some, option_map, Option, IfErr, IfOk, IsTrue, OnOk};
-ghost use Rattle.pair_rule.specs.declared.mailbox.Mailbox.TheVariants.{Inbox};
-ghost use Rattle.pair_rule.specs.declared.payload.Packet.{Packet};
-ghost use Rattle.pair_rule.specs.declared.payload.Payload.TheVariants.{Log};
-ghost use Rattle.pair_rule.specs.declared.view.Core.{Core};
-ghost use Rattle.pair_rule.specs.Seats.{Empties};
-ghost use Rattle.pair_threads.specs.BackupTurns.{IsTurnOf, next_chore, turn_of_asking, turn_of_draining, turn_of_nothing, turn_of_replay, turn_of_take};
+ghost use Rattle.pair_rule.specs.Seats.{HasSwapsLeft};
+ghost use Rattle.pair_threads.specs.BackupTurns.{FindsSector, IsTurnOf, LooksUp, Takes, TakesPacket, next_chore, turn_of_asking, turn_of_draining, turn_of_nothing, turn_of_replay, turn_of_take};
 ghost use Rattle.pair_threads.specs.Ending.{IsEnding};
 ghost use Rattle.pair_threads.specs.Repeating.{Advances, FollowsFor, GoesOn, IsAt, Repeats, has_all, has_run_ahead, is_far_behind};
 ghost use Rattle.pair_threads.specs.Turns.{Leaves};
@@ -16,6 +13,7 @@ use crate::plan::Plan;
 use crate::repeater::Repeater;
 use crate::signals::{Signals, Told};
 use crate::worker::{Turn, Worker};
+use disk_dcdd::SectorAddress;
 use guest_lockstep::Lockstep;
 use i8080_words::{Fault, R};
 use log_journal::Journal;
@@ -55,6 +53,8 @@ pub(crate) struct BackupWorker<B> {
     held: u64,
     won: bool,
     chore: Chore,
+    // Whether it has asked the disk for the sector that it wants.
+    asked: bool,
     // How many steps its guest makes at most before the next look.
     stride: u64,
     plan: Plan,
@@ -78,6 +78,7 @@ impl<B: Lockstep> BackupWorker<B> {
             held: 0,
             won: false,
             chore: Chore::Take,
+            asked: false,
             stride: STEPS,
             plan,
         }
@@ -100,12 +101,13 @@ impl<B: Lockstep> BackupWorker<B> {
             held,
             won: false,
             chore: Chore::Take,
+            asked: false,
             stride: STEPS,
             plan,
         }
     }
 
-    // Takes the packet that arrived.
+    // Takes the packet that arrived; or, while it wants a sector that a packet only named, looks that up first.
     fn take(&mut self, fabric: &Fabric) -> R<Turn>
         requires table { self.old.seat.table ≡ fabric.now }
         requires before { self.old.seat.core.known.backup.winner ≡ 0 }
@@ -114,26 +116,96 @@ impl<B: Lockstep> BackupWorker<B> {
         ensures same { (self.new.plan ≡ self.old.plan) × (self.new.won ≡ self.old.won) × (self.new.chore ≡ self.old.chore) }
         ensures goes_on { OnOk result (GoesOn B.state B.machine self.old.guest self.new.guest) }
         ensures leaves { Leaves result (Unit {0}) ⊥ }
-        ensures turn { IfOk result (λ turn. (found : Option Packet)
-            × Empties Inbox (option_map Log found) self.old.seat.core self.new.seat.core
-            × (turn ≡ turn_of_take (is_some found) self.new.guest.between (has_all self.new.guest))) }
+        ensures turn { IfOk result (λ turn. Takes self.old.seat.core.known.backup.wanted self.old.asked self.new.asked
+            self.old.seat.core self.new.seat.core self.new.guest.between (has_all self.new.guest) turn) }
         ensures refused { IfErr result IsEnding }
     {
         if !self.seat.has_swaps_left() {
             return Err(Fault::Stalled);
         }
+        let Some(sector) = self.seat.wanted() else {
+            return self.take_packet(fabric);
+        };
+        if self.asked {
+            return self.find(fabric);
+        }
+        Ok(self.look_up(fabric, sector.address))
+    }
+
+    // Takes the packet that arrived. Of one that only names a sector nothing is in its list yet.
+    fn take_packet(&mut self, fabric: &Fabric) -> R<Turn>
+        requires table { self.old.seat.table ≡ fabric.now }
+        requires before { self.old.seat.core.known.backup.winner ≡ 0 }
+        requires swaps { HasSwapsLeft self.old.seat.core }
+        ensures table { self.new.seat.table ≡ self.old.seat.table }
+        ensures before { self.new.seat.core.known.backup.winner ≡ 0 }
+        ensures same { (self.new.plan ≡ self.old.plan) × (self.new.won ≡ self.old.won) × (self.new.chore ≡ self.old.chore) }
+        ensures goes_on { OnOk result (GoesOn B.state B.machine self.old.guest self.new.guest) }
+        ensures leaves { Leaves result (Unit {0}) ⊥ }
+        ensures turn { IfOk result (λ turn. TakesPacket self.new.asked self.old.seat.core self.new.seat.core
+            self.new.guest.between (has_all self.new.guest) turn) }
+        ensures refused { IfErr result IsEnding }
+    {
         self.guest.list.reserve()?;
+        self.asked = false;
         match self.seat.take(fabric) {
             Some(packet) => {
                 if packet.index == self.guest.list.len() as u64 {
                     self.stride = STEPS;
-                    self.guest.hear(packet.entry);
+                    self.guest.receive(packet.carried);
                 }
                 Ok(Turn::Moved)
             }
             None => {
-                self.stride = self.stride.saturating_mul(2);
+                self.stride = longer(self.stride);
                 Ok(self.pace(!self.guest.between))
+            }
+        }
+    }
+
+    // Asks the disk for the sector that it wants.
+    fn look_up(&mut self, fabric: &Fabric, address: SectorAddress) -> Turn
+        requires table { self.old.seat.table ≡ fabric.now }
+        requires before { self.old.seat.core.known.backup.winner ≡ 0 }
+        requires swaps { HasSwapsLeft self.old.seat.core }
+        ensures table { self.new.seat.table ≡ self.old.seat.table }
+        ensures before { self.new.seat.core.known.backup.winner ≡ 0 }
+        ensures same { (self.new.plan ≡ self.old.plan) × (self.new.won ≡ self.old.won) × (self.new.chore ≡ self.old.chore)
+            × (self.new.guest ≡ self.old.guest) }
+        ensures turn { LooksUp address self.new.asked self.old.seat.core self.new.seat.core result }
+    {
+        self.seat.look_up(fabric, address);
+        self.asked = true;
+        Turn::Moved
+    }
+
+    // Hears the entry of the sector that it asked for, if the disk has answered.
+    fn find(&mut self, fabric: &Fabric) -> R<Turn>
+        requires asked { self.old.asked ≡ true }
+        requires table { self.old.seat.table ≡ fabric.now }
+        requires before { self.old.seat.core.known.backup.winner ≡ 0 }
+        requires swaps { HasSwapsLeft self.old.seat.core }
+        ensures table { self.new.seat.table ≡ self.old.seat.table }
+        ensures before { self.new.seat.core.known.backup.winner ≡ 0 }
+        ensures same { (self.new.plan ≡ self.old.plan) × (self.new.won ≡ self.old.won) × (self.new.chore ≡ self.old.chore) }
+        ensures goes_on { OnOk result (GoesOn B.state B.machine self.old.guest self.new.guest) }
+        ensures leaves { Leaves result (Unit {0}) ⊥ }
+        ensures turn { IfOk result (λ turn. FindsSector self.new.asked self.old.seat.core self.new.seat.core
+            self.new.guest.between (has_all self.new.guest) turn) }
+        ensures refused { IfErr result IsEnding }
+    {
+        self.guest.list.reserve()?;
+        match self.seat.find(fabric) {
+            Some(entry) => {
+                self.asked = false;
+                self.stride = STEPS;
+                self.guest.hear(entry);
+                Ok(Turn::Moved)
+            }
+            None => {
+                self.stride = longer(self.stride);
+                let waits = !self.guest.between;
+                Ok(self.pace(waits))
             }
         }
     }
@@ -145,7 +217,7 @@ impl<B: Lockstep> BackupWorker<B> {
         ensures table { self.new.seat.table ≡ self.old.seat.table }
         ensures before { self.new.seat.core.known.backup.winner ≡ 0 }
         ensures same { (self.new.plan ≡ self.old.plan) × (self.new.won ≡ self.old.won) × (self.new.guest ≡ self.old.guest)
-            × (self.new.chore ≡ self.old.chore) × (self.new.stride ≡ self.old.stride) }
+            × (self.new.chore ≡ self.old.chore) × (self.new.stride ≡ self.old.stride) × (self.new.asked ≡ self.old.asked) }
         ensures held { self.new.held ≡ length self.new.guest.list.items }
     {
         if self.held != self.guest.list.len() as u64 {
@@ -203,7 +275,8 @@ impl<B: Lockstep> BackupWorker<B> {
     // Repeats the next entry, or runs ahead, and says how far its guest is, unless the lists are kept whole.
     fn repeat(&mut self, signals: &Signals) -> R<Turn>
         ensures seat { self.new.seat ≡ self.old.seat }
-        ensures same { (self.new.plan ≡ self.old.plan) × (self.new.won ≡ self.old.won) × (self.new.chore ≡ self.old.chore) }
+        ensures same { (self.new.plan ≡ self.old.plan) × (self.new.won ≡ self.old.won) × (self.new.chore ≡ self.old.chore)
+            × (self.new.asked ≡ self.old.asked) }
         ensures goes_on { OnOk result (GoesOn B.state B.machine self.old.guest self.new.guest) }
         ensures leaves { Leaves result (Unit {0}) ⊥ }
         ensures turn { IfOk result (λ turn. turn ≡ turn_of_replay (has_run_ahead B.state B.machine self.old.guest self.new.guest)
@@ -225,7 +298,8 @@ impl<B: Lockstep> BackupWorker<B> {
     // Follows the next entry; past the last one, it runs ahead up to where the primary's guest is. Returns whether it ran ahead.
     fn advance(&mut self, signals: &Signals) -> R<bool>
         ensures seat { self.new.seat ≡ self.old.seat }
-        ensures same { (self.new.plan ≡ self.old.plan) × (self.new.won ≡ self.old.won) × (self.new.chore ≡ self.old.chore) }
+        ensures same { (self.new.plan ≡ self.old.plan) × (self.new.won ≡ self.old.won) × (self.new.chore ≡ self.old.chore)
+            × (self.new.asked ≡ self.old.asked) }
         ensures goes_on { OnOk result (GoesOn B.state B.machine self.old.guest self.new.guest) }
         ensures ran { IfOk result (λ ran. ran ≡ has_run_ahead B.state B.machine self.old.guest self.new.guest) }
         ensures steps { OnOk result (Advances B.state B.machine (has_all self.old.guest)
@@ -251,7 +325,7 @@ impl<B: Lockstep> BackupWorker<B> {
         ensures leaves { Leaves result (Unit {0}) ⊥ }
         ensures next { OnOk result (self.new.chore ≡ next_chore self.old.chore) }
         ensures turn { IfOk result
-            (IsTurnOf self.old.chore (is_far_behind B.state B.machine self.old.guest)
+            (IsTurnOf self.old.chore (is_far_behind B.state B.machine self.old.guest) self.old.asked self.new.asked
             (has_run_ahead B.state B.machine self.old.guest self.new.guest) self.new.guest.between self.old.seat.core
             self.new.seat.core (has_all self.new.guest)) }
         ensures steps { self.old.chore ≡ task.Replay → OnOk result (Advances B.state B.machine (has_all self.old.guest)
@@ -270,6 +344,13 @@ impl<B: Lockstep> BackupWorker<B> {
             Chore::Replay => self.repeat(signals),
         }
     }
+}
+
+// How many steps its guest makes at most before the next look, after one in which nothing had arrived.
+fn longer(stride: u64) -> u64
+    ensures { stride ≤ result }
+{
+    stride.saturating_mul(2)
 }
 
 impl<B: Lockstep> Worker for BackupWorker<B> {
@@ -292,8 +373,9 @@ impl<B: Lockstep> Worker for BackupWorker<B> {
         AsksAt old.plan.asking number told old.seat.core.known.backup.winner new.seat.core.known.backup.winner };
 
     ghost turned = { λ old number told new turn. IsTurn old.won old.plan.asking number told (has_all old.guest) new.won
-        (IsTurnOf old.chore (is_far_behind B.state B.machine old.guest) (has_run_ahead B.state B.machine old.guest new.guest)
-        new.guest.between old.seat.core new.seat.core (has_all new.guest) turn) turn };
+        (IsTurnOf old.chore (is_far_behind B.state B.machine old.guest) old.asked new.asked
+        (has_run_ahead B.state B.machine old.guest new.guest) new.guest.between old.seat.core new.seat.core
+        (has_all new.guest) turn) turn };
 
     ghost ends_by = { λ w told. not w.won && told.primary_ended
         && (not (not w.plan.contested || w.plan.watched) || has_all w.guest) };

@@ -19,6 +19,7 @@ mod resumed;
 mod run;
 mod signals;
 mod terminal;
+mod tracks;
 mod worker;
 mod workers;
 mod yields;

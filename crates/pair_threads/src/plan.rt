@@ -3,6 +3,8 @@ ghost use Rattle.std.specs.Prelude.{◌≡◌, ◌↔◌, ◌||◌, not, true, f
 ghost use Rattle.pair_threads.specs.Asking.{AsksIn, MayBeWatched, IsUnplanned, MayAsk, asking_of};
 ghost use Rattle.pair_threads.specs.Keeping.{first_kept};
 
+use guest_lockstep::Reads;
+
 /// When a worker asks to go on alone.
 #[derive(Clone, Copy, PartialEq, Eq)]
 pub(crate) enum Asking {
@@ -23,6 +25,8 @@ pub(crate) struct Plan {
     pub(crate) watched: bool,
     /// Whether it keeps its whole list, and not only the entries that it still needs.
     pub(crate) keeps: bool,
+    /// Whether a packet carries a sector's bytes, or the backup reads it from the shared disk itself.
+    pub(crate) reads: Reads,
     /// How many steps its guest may make in one turn.
     pub(crate) steps: u64,
     ghost told: { MayAsk asking → contested ≡ true },
@@ -30,19 +34,21 @@ pub(crate) struct Plan {
 }
 
 impl Plan {
-    /// A plan; `contested` says whether this worker or the other one may ask, `watched` whether they ask when they are told, and
-    /// `keeps` whether it keeps its whole list.
+    /// A plan; `contested` says whether this worker or the other one may ask, `watched` whether they ask when they are told,
+    /// `keeps` whether it keeps its whole list, and `reads` whether packets carry the bytes of sectors.
     pub(crate) fn new(
         asking: Asking,
         contested: bool,
         watched: bool,
         keeps: bool,
+        reads: Reads,
         steps: u64,
     ) -> Plan
         requires told { MayAsk asking → contested ≡ true }
         requires unplanned { watched ≡ true → IsUnplanned asking }
         ensures asks { (result.asking ≡ asking) × (result.contested ≡ contested) × (result.watched ≡ watched) }
         ensures keeps { result.keeps ≡ keeps }
+        ensures reads { result.reads ≡ reads }
         ensures steps { result.steps ≡ max steps 1 }
     {
         Plan {
@@ -50,6 +56,7 @@ impl Plan {
             contested,
             watched,
             keeps,
+            reads,
             steps: steps.max(1),
         }
     }
@@ -109,6 +116,7 @@ pub(crate) fn plans_of(
     backup: Option<u64>,
     watched: bool,
     keeps: bool,
+    reads: Reads,
     steps: u64,
 ) -> (Plan, Plan)
     requires watched { MayBeWatched watched primary backup }
@@ -116,6 +124,7 @@ pub(crate) fn plans_of(
     ensures backup { (result.1.asking ≡ asking_of backup watched) × (result.1.watched ≡ watched) }
     ensures contested { result.1.contested ≡ result.0.contested }
     ensures keeps { (result.0.keeps ≡ keeps) × (result.1.keeps ≡ keeps) }
+    ensures reads { (result.0.reads ≡ reads) × (result.1.reads ≡ reads) }
 {
     let contested = is_contested(primary, backup, watched);
     let lead = Plan::new(
@@ -123,8 +132,16 @@ pub(crate) fn plans_of(
         contested,
         watched,
         keeps,
+        reads,
         steps,
     );
-    let follow = Plan::new(asking_of(backup, watched), contested, watched, keeps, steps);
+    let follow = Plan::new(
+        asking_of(backup, watched),
+        contested,
+        watched,
+        keeps,
+        reads,
+        steps,
+    );
     (lead, follow)
 }

@@ -28,7 +28,7 @@ use crate::primary::PrimaryWorker;
 use crate::run::finish;
 use crate::terminal::TerminalWorker;
 use crate::workers::{GenerationEnd, Resumed, Workers};
-use guest_lockstep::Lockstep;
+use guest_lockstep::{Lockstep, Reads};
 use i8080_words::R;
 use pair_lines::Lines;
 use pair_rule::Fabric;
@@ -51,6 +51,7 @@ pub fn run_generation_at<
     alloc: Global,
     resumed: Resumed<B, D>,
     watched: bool,
+    reads: Reads,
     gate: &G,
     turns: u64,
 ) -> R<GenerationEnd<B, D>>
@@ -132,7 +133,14 @@ pub fn run_generation_at<
         keyboard1,
         screen,
     } = lines;
-    let (lead, follow) = plans_of(primary_contests, backup_contests, watched, false, steps);
+    let (lead, follow) = plans_of(
+        primary_contests,
+        backup_contests,
+        watched,
+        false,
+        reads,
+        steps,
+    );
     let contested = lead.contested;
     let ports = (
         PortInputs::after(typed0, taken.0, start.accepted0, keyboard0),

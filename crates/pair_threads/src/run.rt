@@ -33,7 +33,7 @@ use crate::recording::Recording;
 use crate::repeater::Repeater;
 use crate::terminal::TerminalWorker;
 use crate::workers::{GenerationEnd, Workers};
-use guest_lockstep::Lockstep;
+use guest_lockstep::{Lockstep, Reads};
 use i8080_words::{Fault, R};
 use log_entry::Entry;
 use log_journal::Journal;
@@ -381,7 +381,8 @@ pub(crate) fn finish<B: Lockstep + Drop, D: SectorStore>(
 /// taken and no more come, nothing is outstanding, under way or due, and all entries are acknowledged and repeated. Otherwise
 /// it ends when it is decided who goes on alone; a backup that does has repeated its list. A watched generation ends in the
 /// first of these two ways: a host fails in it when the gate says so (`Gate::suspects`), and it waits for keys as long as it
-/// takes; its backup's guest may have gone on past the last entry. `Stalled` if it ends in no such way, `OutOfMemory` if memory or a thread is refused.
+/// takes; its backup's guest may have gone on past the last entry. `reads` says whether a log packet carries the bytes of a
+/// sector, or the backup reads it from the disk itself; the lists are the same. `Stalled` if it ends in no such way, `OutOfMemory` if memory or a thread is refused.
 #[tactic(auto, using(crate::proofs::Beginning::nothing_yet, crate::proofs::Serving::first_disk, crate::proofs::Typing::typed_same, crate::proofs::Showing::shows_same))]
 pub fn run_generation_over<
     B: Lockstep + Send + Drop,
@@ -394,6 +395,7 @@ pub fn run_generation_over<
     workers: Workers<B, D>,
     lines: Lines,
     watched: bool,
+    reads: Reads,
     gate: &G,
     turns: u64,
 ) -> R<GenerationEnd<B, D>>
@@ -433,7 +435,14 @@ pub fn run_generation_over<
         keyboard1,
         screen,
     } = lines;
-    let (lead, follow) = plans_of(primary_contests, backup_contests, watched, !watched, steps);
+    let (lead, follow) = plans_of(
+        primary_contests,
+        backup_contests,
+        watched,
+        !watched,
+        reads,
+        steps,
+    );
     let contested = lead.contested;
     let ports = (
         PortInputs::new(typed0, keyboard0),
@@ -476,5 +485,14 @@ pub fn run_generation<
         e.typed0.items e.typed1.items e.winner e.primary.items e.backup.items e.held
         (map (λ v. v.items) e.accepted) (D.records e.disk) (B.state e.primary_board) (B.state e.backup_board)) }
 {
-    run_generation_over(rt, alloc, workers, Lines::none(), false, gate, turns)
+    run_generation_over(
+        rt,
+        alloc,
+        workers,
+        Lines::none(),
+        false,
+        Reads::Logged,
+        gate,
+        turns,
+    )
 }

@@ -1,24 +1,29 @@
 //! The chores of a primary's worker at its guest, the link and the terminals.
-ghost use Rattle.std.specs.Prelude.{◌≡◌, ◌⊎◌, ◌≢◌, ◌+◌, ◌<◌, ◌≤◌, ◌↔◌, ◌&&◌, ◌==◌, cond, not, ◌||◌, false, true, nat_lt, if◌then◌else◌, is_some, IfErr, IfSome, IsSome, IsTrue, None, OnOk, Some, length};
+ghost use Rattle.std.specs.Prelude.{◌≡◌, ◌⊎◌, ◌≢◌, ◌+◌, ◌<◌, ◌≤◌, ◌↔◌, ◌&&◌, ◌==◌, cond, not, ◌||◌, false, true, nat_lt, if◌then◌else◌, is_some, IfErr, IfSome, IsSome, IsTrue, None, OnOk, Some, length, slice_get};
 ghost use Rattle.event_callbacks.specs.declared.devices.TheConstants.{PORTS};
 ghost use Rattle.event_callbacks.specs.declared.operations.OpId.TheVariants as id;
 ghost use Rattle.event_callbacks.specs.declared.operations.Operation.TheVariants.{Byte};
 ghost use Rattle.guest_lockstep.specs.Lockstep.{step_refusal};
 ghost use Rattle.i8080_words.specs.declared.refusal.Fault.TheVariants.{OutOfMemory, Stalled};
-ghost use Rattle.pair_rule.specs.Seats.{HasSwapsLeft};
+ghost use Rattle.log_entry.specs.declared.entry.Entry.{Entry};
+ghost use Rattle.pair_rule.specs.declared.mailbox.Mailbox.TheVariants.{Outbox};
+ghost use Rattle.pair_rule.specs.declared.payload.Payload.TheVariants.{Log};
+ghost use Rattle.pair_rule.specs.Seats.{Fills, HasSwapsLeft};
 ghost use Rattle.pair_threads.specs.Choosing.{accepted_of, at_other, counted_of, due_byte, in_flight, lead_of, may_accept, may_emit, post_next, steps_by, to_emit, waits_for_backup};
 ghost use Rattle.pair_threads.specs.Patience.{guest_is_held_up};
 ghost use Rattle.pair_threads.specs.Ending.{IsEnding};
 ghost use Rattle.pair_threads.specs.Primary.{Emits, HasTakenKeys, IsAtRest, Works};
+ghost use Rattle.pair_threads.specs.Naming.{name_for, packet_of, track_at};
 ghost use Rattle.pair_threads.specs.Turns.{RunsFor};
 
 use super::{KEY_STEPS, PrimaryWorker};
 use crate::lag::{Lead, is_too_far};
 use crate::plan::first_kept;
 use crate::signals::Signals;
-use guest_lockstep::Lockstep;
+use guest_lockstep::{Lockstep, Reads};
 use i8080_words::{Fault, R};
-use pair_rule::Fabric;
+use log_entry::Entry;
+use pair_rule::{Fabric, NamedSector};
 
 /// How many steps a guest makes at most in a turn while one of its operations is outstanding; while several are, each has a
 /// share of them. So its bytes leave soon, and a guest that waits for its window does not wait for its own turns.
@@ -36,22 +41,62 @@ impl<B: Lockstep> PrimaryWorker<B> {
             self.new.next ≡ (if nat_lt first (length self.old.list.items) then first + 1 else first) }
         ensures first { IsTrue result ↔ (self.new.posted ≢ self.old.posted) }
     {
-        let length = self.list.len() as u64;
-        if self.next < self.seen || self.next >= length {
-            self.next = self.seen;
-        }
-        if self.next >= length {
+        let index = self.to_post();
+        if index >= self.list.len() as u64 {
+            self.next = index;
             return false;
         }
-        self.seat
-            .post(fabric, self.next, self.list.entry(self.next as usize));
-        self.next += 1;
+        self.send(fabric, index);
+        self.next = index + 1;
         let is_new = self.next > self.posted;
         self.posted = self.posted.max(self.next);
         is_new
     }
 
+    // The index of the entry to post, if there is one there.
+    fn to_post(&self) -> u64
+        ensures is { result ≡ post_next self.now.next self.now.seen (length self.now.list.items) }
+        ensures from { self.now.seen ≤ result }
+    {
+        if self.next < self.seen || self.next >= self.list.len() as u64 {
+            self.seen
+        } else {
+            self.next
+        }
+    }
+
+    // Posts the entry of this index: of a sector only its name, if the backup reads it from the disk itself.
+    fn send(&mut self, fabric: &Fabric, index: u64)
+        requires table { self.old.seat.table ≡ fabric.now }
+        requires before { self.old.seat.core.known.primary.winner ≡ 0 }
+        requires swaps { HasSwapsLeft self.old.seat.core }
+        requires there { (self.old.seen ≤ index) × (index < length self.old.list.items) }
+        ensures works { Works B.state B.machine self.old self.new }
+        ensures same { (self.new.next ≡ self.old.next) × (self.new.seen ≡ self.old.seen) × (self.new.posted ≡ self.old.posted)
+            × (self.new.list ≡ self.old.list) }
+        ensures posted { (e : Entry) × (slice_get self.old.list.items index ≡ Some e)
+            × Fills Outbox (Log (packet_of self.old.seat.core.known.generation index
+            (name_for self.old.plan.reads (track_at self.old.tracks.tracks index) e) e)) self.old.seat.core self.new.seat.core }
+    {
+        let entry = *self.list.entry(index as usize);
+        match self.name_of(index, &entry) {
+            Some(sector) => self.seat.post_named(fabric, index, sector),
+            None => self.seat.post(fabric, index, &entry),
+        }
+    }
+
+    // What the packet of an entry has in place of it: the name of a sector, if the backup reads it itself.
+    fn name_of(&self, index: u64, entry: &Entry) -> Option<NamedSector>
+        ensures { result ≡ name_for self.now.plan.reads (track_at self.now.tracks.tracks index) entry.now }
+    {
+        match self.plan.reads {
+            Reads::Logged => None,
+            Reads::Shared => self.tracks.named(index, entry),
+        }
+    }
+
     // Sees how many entries are acknowledged. Nobody needs these again.
+    #[tactic(auto, using(crate::proofs::Naming::more_seen))]
     pub(super) fn see(&mut self, fabric: &Fabric) -> bool
         requires table { self.old.seat.table ≡ fabric.now }
         requires before { self.old.seat.core.known.primary.winner ≡ 0 }
@@ -102,6 +147,7 @@ impl<B: Lockstep> PrimaryWorker<B> {
 
     // Lets the guest run, unless one of its entries waits, or its backup is too far behind. While several of its operations are
     // outstanding it may do nothing but poll, so only a new one is a change then.
+    #[tactic(auto, using(crate::proofs::Naming::none_waits))]
     pub(super) fn run(&mut self, follower: u64) -> R<bool>
         ensures works { OnOk result (Works B.state B.machine self.old self.new) }
         ensures seat { self.new.seat ≡ self.old.seat }
@@ -204,6 +250,7 @@ impl<B: Lockstep> PrimaryWorker<B> {
     }
 
     // Takes the next key of port 0.
+    #[tactic(auto, using(crate::proofs::Naming::none_waits))]
     fn take_key0(&mut self) -> bool
         requires free { self.old.guest.waiting ≡ None }
         ensures works { Works B.state B.machine self.old self.new }
@@ -220,6 +267,7 @@ impl<B: Lockstep> PrimaryWorker<B> {
     }
 
     // Takes the next key of port 1.
+    #[tactic(auto, using(crate::proofs::Naming::none_waits))]
     fn take_key1(&mut self) -> bool
         requires free { self.old.guest.waiting ≡ None }
         ensures works { Works B.state B.machine self.old self.new }
@@ -378,6 +426,7 @@ impl<B: Lockstep> PrimaryWorker<B> {
     }
 
     // Takes an acceptance at port 0, if its terminal has accepted more bytes than the guest was told.
+    #[tactic(auto, using(crate::proofs::Naming::none_waits))]
     fn accept0(&mut self) -> bool
         requires free { self.old.guest.waiting ≡ None }
         ensures works { Works B.state B.machine self.old self.new }
@@ -397,6 +446,7 @@ impl<B: Lockstep> PrimaryWorker<B> {
     }
 
     // Takes an acceptance at port 1, if its terminal has accepted more bytes than the guest was told.
+    #[tactic(auto, using(crate::proofs::Naming::none_waits))]
     fn accept1(&mut self) -> bool
         requires free { self.old.guest.waiting ≡ None }
         ensures works { Works B.state B.machine self.old self.new }

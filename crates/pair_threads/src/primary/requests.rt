@@ -161,6 +161,7 @@ impl<B: Lockstep> PrimaryWorker<B> {
     }
 
     // Takes the disk's answer. A sector that is no longer under the head is dropped.
+    #[tactic(auto, using(crate::proofs::Naming::none_waits, crate::proofs::Naming::sector_waits, crate::proofs::Views::is_among))]
     pub(super) fn complete(&mut self) -> bool
         ensures works { Works B.state B.machine self.old self.new }
         ensures taken { result ≡ true → self.new.answer ≢ self.old.answer }
@@ -176,6 +177,7 @@ impl<B: Lockstep> PrimaryWorker<B> {
             DiskAnswer::Written(number) => self.guest.written(number),
             DiskAnswer::Read(read) => {
                 if self.guest.sector(&read) {
+                    self.track = read.track;
                     self.pass_sector();
                 }
                 true

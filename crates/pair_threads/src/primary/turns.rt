@@ -19,6 +19,7 @@ use crate::plan::Plan;
 use crate::port_inputs::PortInputs;
 use crate::recording::Recording;
 use crate::signals::{Signals, Told};
+use crate::tracks::Tracks;
 use crate::worker::{Turn, Worker};
 use guest_lockstep::Lockstep;
 use i8080_words::{Fault, R};
@@ -28,6 +29,7 @@ use pair_rule::{Fabric, PrimarySeat};
 use std::alloc::Global;
 
 impl<B: Lockstep> PrimaryWorker<B> {
+    #[tactic(auto, using(crate::proofs::Naming::none_left, crate::proofs::Naming::none_waits))]
     pub(crate) fn new(
         alloc: Global,
         seat: PrimarySeat,
@@ -65,6 +67,8 @@ impl<B: Lockstep> PrimaryWorker<B> {
             emitted1: 0,
             asked: false,
             answer: None,
+            tracks: Tracks::new(),
+            track: 0,
             sector: 0,
             key_count: 0,
             chore: Chore::Post,
@@ -77,6 +81,7 @@ impl<B: Lockstep> PrimaryWorker<B> {
 
     /// A primary that goes on where a run of its list was settled: all of it is acknowledged, and nothing is outstanding. Its guest may
     /// have taken a key just before, so it has time for that one first.
+    #[tactic(auto, using(crate::proofs::Naming::none_left, crate::proofs::Naming::none_waits))]
     pub(crate) fn resume(
         alloc: Global,
         seat: PrimarySeat,
@@ -123,6 +128,8 @@ impl<B: Lockstep> PrimaryWorker<B> {
             emitted1: counted1,
             asked: false,
             answer: None,
+            tracks: Tracks::new(),
+            track: 0,
             sector: 0,
             key_count,
             chore: Chore::Post,
@@ -134,6 +141,7 @@ impl<B: Lockstep> PrimaryWorker<B> {
     }
 
     // Appends the entry that waits, unless the log is full.
+    #[tactic(auto, using(crate::proofs::Naming::noted, crate::proofs::Naming::none_waits))]
     pub(super) fn append(&mut self, fabric: &Fabric, entry: Entry) -> R<Turn>
         requires table { self.old.seat.table ≡ fabric.now }
         requires before { self.old.seat.core.known.primary.winner ≡ 0 }
@@ -146,8 +154,9 @@ impl<B: Lockstep> PrimaryWorker<B> {
     {
         self.list.reserve()?;
         match self.seat.append(fabric, entry) {
-            Ok(_) => {
+            Ok(index) => {
                 self.list.push_reserved(entry);
+                self.tracks.note(index, self.track);
                 self.guest.waiting = None;
                 Ok(Turn::Moved)
             }

@@ -9,10 +9,13 @@ ghost use Rattle.guest_lockstep.specs.Machine.{refusal_of};
 ghost use Rattle.guest_lockstep.specs.Outstanding.{completed_by};
 ghost use Rattle.guest_lockstep.specs.declared.input.Input.TheVariants as input;
 ghost use Rattle.pair_rule.specs.declared.payload.DiskAnswer.TheVariants.{Read, Written};
-ghost use Rattle.pair_rule.specs.Knowledge.{read_at};
+ghost use Rattle.log_entry.specs.Entries.{entry_of};
+ghost use Rattle.guest_lockstep.specs.declared.reads.Reads.TheVariants.{Logged};
+ghost use Rattle.pair_rule.specs.Knowledge.{read_at, sector_entry};
 ghost use Rattle.pair_threads.specs.Choosing.{byte_at};
 ghost use Rattle.pair_threads.specs.Leading.{HeardOn, LeadsOn, TakesOn};
 ghost use Rattle.pair_threads.specs.Patience.{guest_is_held_up};
+ghost use Rattle.pair_threads.specs.Naming.{is_sector, no_sector_waits};
 ghost use Rattle.pair_threads.specs.Turns.{RunsFor};
 ghost use Rattle.i8080_words.specs.declared.refusal.Fault.TheVariants.{OutOfMemory};
 ghost use Rattle.std.specs.Prelude.{IfErr, IfSome};
@@ -47,6 +50,7 @@ impl<B: Lockstep> Recording<B> {
         requires free { self.old.waiting ≡ None }
         ensures onward { OnOk result (LeadsOn B.state B.machine self.old self.new) }
         ensures steps { OnOk result (RunsFor B.machine (B.state self.old.board) steps (B.state self.new.board)) }
+        ensures plain { no_sector_waits self.new.waiting ≡ true }
         ensures refused { IfErr result (λ fault. (fault ≡ OutOfMemory)
             ⊎ (step_refusal B.machine (B.state self.new.board) ≡ Some fault)) }
     {
@@ -78,6 +82,10 @@ impl<B: Lockstep> Recording<B> {
         requires room { HasRoom B.machine (B.state self.old.board) input }
         ensures refused { result ≡ false → self.new ≡ self.old }
         ensures onward { result ≡ true → TakesOn B.state B.machine input self.old self.new }
+        ensures waits { result ≡ true
+            → self.new.waiting ≡ Some (entry_of Logged (B.machine.count (B.state self.old.board)) input) }
+        ensures plain { is_sector (entry_of Logged (B.machine.count (B.state self.old.board)) input) ≡ false
+            → no_sector_waits self.new.waiting ≡ true }
         ensures taken { result ≡ is_none (refusal_of B.machine (B.state self.old.board) input) }
         ensures gone { result ≡ true → (id : OpId) → completed_by B.machine (B.state self.old.board) input ≡ Some id
             → B.machine.find (B.state self.new.board) id ≡ None }
@@ -98,6 +106,7 @@ impl<B: Lockstep> Recording<B> {
     fn forget(&mut self, id: OpId)
         requires gone { B.machine.find (B.state self.old.board) id ≡ None }
         ensures onward { LeadsOn B.state B.machine self.old self.new }
+        ensures waiting { self.new.waiting ≡ self.old.waiting }
     {
         drop_name(&mut self.given, id);
     }
@@ -108,6 +117,7 @@ impl<B: Lockstep> Recording<B> {
         requires port { port < PORTS }
         ensures refused { result ≡ false → self.new ≡ self.old }
         ensures onward { result ≡ true → TakesOn B.state B.machine (input.Rx port byte) self.old self.new }
+        ensures plain { no_sector_waits self.new.waiting ≡ true }
     {
         self.board.keys(port) < GREATEST_NUMBER && self.offer(Input::Rx(port, byte))
     }
@@ -119,6 +129,7 @@ impl<B: Lockstep> Recording<B> {
         ensures refused { result ≡ false → self.new ≡ self.old }
         ensures taken { result ≡ is_some (B.machine.due_byte (B.state self.old.board) port) }
         ensures onward { result ≡ true → TakesOn B.state B.machine (input.Sent port) self.old self.new }
+        ensures plain { no_sector_waits self.new.waiting ≡ true }
     {
         let Some(number) = self.board.due_byte(port) else {
             return false;
@@ -135,6 +146,7 @@ impl<B: Lockstep> Recording<B> {
         requires free { self.old.waiting ≡ None }
         ensures refused { result ≡ false → self.new ≡ self.old }
         ensures onward { result ≡ true → HeardOn B.state B.machine (Written number) self.old self.new }
+        ensures plain { no_sector_waits self.new.waiting ≡ true }
     {
         if !self.offer(Input::Written(number)) {
             return false;
@@ -148,6 +160,8 @@ impl<B: Lockstep> Recording<B> {
         requires free { self.old.waiting ≡ None }
         ensures refused { result ≡ false → self.new ≡ self.old }
         ensures onward { result ≡ true → HeardOn B.state B.machine (Read read.now) self.old self.new }
+        ensures waits { result ≡ true
+            → self.new.waiting ≡ Some (sector_entry (B.machine.count (B.state self.old.board)) read.now) }
     {
         if usize::from(read.drive) >= DRIVES || read.sector >= SECTORS {
             return false;

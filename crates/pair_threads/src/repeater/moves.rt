@@ -1,6 +1,7 @@
 //! How a backup's guest repeats the entries of its list.
 ghost use Rattle.std.specs.Prelude.{◌≡◌, ◌⊎◌, Bool, ◌↔◌, ◌++◌, [], ◌∷◌, false, true, nat_lt, length, IfErr, IfOk, IsTrue, OnOk};
 ghost use Rattle.i8080_words.specs.declared.refusal.Fault.TheVariants.{OutOfMemory, Stalled};
+ghost use Rattle.pair_rule.specs.Knowledge.{with_carried};
 ghost use Rattle.pair_threads.specs.Repeating.{FollowsFor, GoesOn, IsAt, IsStuck, Repeats, RunsAhead, has_all, is_far_behind, may_run_ahead, ran_ahead, steps_ahead};
 
 use super::Repeater;
@@ -10,6 +11,7 @@ use guest_lockstep::{Lockstep, StopReason, Stopped, run};
 use i8080_words::{Fault, R};
 use log_entry::Entry;
 use log_journal::Journal;
+use pair_rule::Carried;
 use replayer::{Followed, follow};
 use std::alloc::Global;
 
@@ -77,6 +79,18 @@ impl<B: Lockstep> Repeater<B> {
         ensures goes_on { GoesOn B.state B.machine self.old self.new }
     {
         self.list.push_reserved(entry);
+    }
+
+    /// What the next packet carries arrives. Of a sector that it only names there is nothing to hear yet.
+    pub(crate) fn receive(&mut self, carried: Carried)
+        requires room { self.old.list.ready ≡ true }
+        ensures list { self.new.list.items ≡ with_carried self.old.list.items carried }
+        ensures keeps { self.new.keeps ≡ self.old.keeps }
+        ensures goes_on { GoesOn B.state B.machine self.old self.new }
+    {
+        if let Carried::Whole(entry) = carried {
+            self.hear(entry);
+        }
     }
 
     /// Makes at most `steps` steps towards the next entry, or that entry's move. `Stalled` if it cannot.

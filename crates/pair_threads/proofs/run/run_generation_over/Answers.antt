@@ -21,6 +21,7 @@ work-served-requires-clause-disk g c κs within =
     let store = first_disk (g.D.SectorStore.records c.new-7.result.disk) c.new-7.result.seat.core.known.disk
     (ap (λ (x : Seat). x.core.known.disk.puts) made.seat ∙ ap (λ (x : Core). x.known.disk.puts) opened.disk)
     (ap (λ (x : Seat). x.core.known.disk.given) made.seat ∙ ap (λ (x : Core). x.known.disk.given) opened.disk)
+    (ap (λ (x : Seat). x.core.known.disk.found) made.seat ∙ ap (λ (x : Core). x.known.disk.found) opened.disk)
     (subst IsUnwritten (sym (ap g.D.SectorStore.records made.disk)) c.requires.unwritten) in (
       ap (λ (x : Seat). x.table) made.seat ∙ opened.one.4,
       (bytes_in (g.D.SectorStore.records c.new-7.result.disk), store),
@@ -48,6 +49,7 @@ returns-clause-ends g c =
     let store = first_disk (records c.new-7.result.disk) c.new-7.result.seat.core.known.disk
     (ap (λ (x : Seat). x.core.known.disk.puts) made.seat ∙ ap (λ (x : Core). x.known.disk.puts) opened.disk)
     (ap (λ (x : Seat). x.core.known.disk.given) made.seat ∙ ap (λ (x : Core). x.known.disk.given) opened.disk)
+    (ap (λ (x : Seat). x.core.known.disk.found) made.seat ∙ ap (λ (x : Core). x.known.disk.found) opened.disk)
     (subst IsUnwritten (sym (ap records made.disk)) c.requires.unwritten) in
     let exact = not c.args.watched in
     c.finish.ensures.ends (state c.args.workers.primary) (records c.args.workers.disk) exact c.requires.lawful
@@ -74,6 +76,7 @@ returns-clause-left g c =
     let store = first_disk (records c.new-7.result.disk) c.new-7.result.seat.core.known.disk
     (ap (λ (x : Seat). x.core.known.disk.puts) made.seat ∙ ap (λ (x : Core). x.known.disk.puts) opened.disk)
     (ap (λ (x : Seat). x.core.known.disk.given) made.seat ∙ ap (λ (x : Core). x.known.disk.given) opened.disk)
+    (ap (λ (x : Seat). x.core.known.disk.found) made.seat ∙ ap (λ (x : Core). x.known.disk.found) opened.disk)
     (subst IsUnwritten (sym (ap records made.disk)) c.requires.unwritten) in
     c.finish.ensures.left (state c.args.workers.primary) (records c.args.workers.disk) true c.requires.lawful
     (on_ok served.result.primary.1 (λ end. end.0.4 (state c.args.workers.primary) c.new-3.ensures.leads)
@@ -123,6 +126,7 @@ returns-clause-ran g c =
     let store = first_disk (records c.new-7.result.disk) c.new-7.result.seat.core.known.disk
     (ap (λ (x : Seat). x.core.known.disk.puts) made.seat ∙ ap (λ (x : Core). x.known.disk.puts) opened.disk)
     (ap (λ (x : Seat). x.core.known.disk.given) made.seat ∙ ap (λ (x : Core). x.known.disk.given) opened.disk)
+    (ap (λ (x : Seat). x.core.known.disk.found) made.seat ∙ ap (λ (x : Core). x.known.disk.found) opened.disk)
     (subst IsUnwritten (sym (ap records made.disk)) c.requires.unwritten) in
     c.finish.ensures.ran (state c.args.workers.primary) (records c.args.workers.disk) true c.requires.lawful
     (on_ok served.result.primary.1 (λ end. end.0.4 (state c.args.workers.primary) c.new-3.ensures.leads)

@@ -3,7 +3,7 @@ use Rattle.std.proofs.Common.{subst, sym}
 use Rattle.pair_rule.specs.declared.payload.DiskAnswer.TheVariants as answer
 use Rattle.pair_threads.specs.Stores.{Serves}
 use Rattle.pair_threads.proofs.Serving.{read, written}
-use Rattle.pair_threads.proofs.disk.answer.Goals as goal
+use Rattle.pair_threads.proofs.disk.turns.answer.Goals as goal
 
 pub returns-in_ok-put-in-Write-clause-serves : goal.returns-in_ok-put-in-Write-clause-serves
 returns-in_ok-put-in-Write-clause-serves g c =
