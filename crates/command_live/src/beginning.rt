@@ -16,13 +16,15 @@ use script_language::Line;
 use shared_disk::{MemoryStore, SectorStore, SharedDisk};
 use std::alloc::Global;
 
-/// How many instructions a guest executes in one turn, at most.
-pub const STEPS: u64 = 10_000;
+// How many instructions a guest executes in one turn, at most.
+pub(crate) const STEPS: u64 = 20_000;
 
-/// For how many turns a pair runs, and the turn at which each node asks to go on alone.
+/// For how many turns a pair runs, how many instructions a guest executes in one at most, and the turn at which each node asks to go on
+/// alone.
 #[derive(Clone, Copy)]
 pub struct Asked {
     pub turns: u64,
+    pub steps: u64,
     pub primary: Option<u64>,
     pub backup: Option<u64>,
 }
@@ -50,6 +52,7 @@ pub fn workers_of<
         workers.typed1.items) }
     ensures primary_asks { IfOk result (λ workers. workers.primary_contests ≡ asked.primary) }
     ensures backup_asks { IfOk result (λ workers. workers.backup_contests ≡ asked.backup) }
+    ensures steps { IfOk result (λ workers. workers.steps ≡ asked.steps) }
 {
     let disk = disk_of(alloc, input)?;
     let (typed0, typed1) = typed(alloc, &input.script.lines)?;
@@ -63,7 +66,7 @@ pub fn workers_of<
         fates: link,
         primary_contests: asked.primary,
         backup_contests: asked.backup,
-        steps: STEPS,
+        steps: asked.steps,
     })
 }
 

@@ -7,12 +7,13 @@ ghost use Rattle.command_live.specs.Living.{HasEnded, WonIn};
 ghost use Rattle.pair_generations.specs.Generations.{WonLater};
 ghost use Rattle.pair_threads.specs.Ending.{WonBy};
 
-use crate::beginning::{Asked, STEPS, workers_of};
+use crate::beginning::{Asked, workers_of};
 use board_image::DraftedBoard;
 use command_input::Input;
 use command_line::{Asker, LiveOrder};
 use event_callbacks::{Callbacks, Completes};
 use guest_board::Board;
+use guest_lockstep::Reads;
 use i8080_words::R;
 use pair_generations::{Limits, Next, Steward, altairs_may_go_on, run_pair};
 use pair_threads::{Fate, Gate, GenerationEnd, Workers};
@@ -146,9 +147,10 @@ fn run_generations<
     );
     let limits = Limits {
         turns: asked.turns,
-        steps: STEPS,
+        steps: asked.steps,
         tries: TRIES,
         rounds: TRIES,
+        reads: Reads::Logged,
     };
     let workers = workers_of(alloc, asked, link, input, sent, sector, written)?;
     let last = run_pair(rt, alloc, drafted(workers), later, gate, steward, limits)?;

@@ -12,7 +12,7 @@ mod takeover;
 mod teller;
 mod watch;
 
-pub use beginning::{Asked, STEPS, workers_of};
+pub use beginning::{Asked, workers_of};
 pub use command::run_live;
 pub use generations::{TRIES, drafted, sizes};
 pub use line::{Line, first_line, line_of};

@@ -6,7 +6,7 @@ ghost use Rattle.command_ending.specs.Reports.{handed};
 ghost use Rattle.command_live.specs.Living.{HasEnded, PrintsNone, Tells, TellsScreens, end_text, typed_in};
 ghost use Rattle.pair_threads.specs.Ending.{WonBy};
 
-use crate::beginning::{Asked, workers_of};
+use crate::beginning::{Asked, STEPS, workers_of};
 use crate::generations::generations;
 use crate::saving::images_of;
 use crate::teller::{BackupAsks, Teller};
@@ -93,6 +93,7 @@ pub fn run<
 {
     let asked = Asked {
         turns: order.turns,
+        steps: STEPS,
         primary: order.primary_asks,
         backup: order.backup_asks,
     };

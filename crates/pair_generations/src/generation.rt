@@ -10,6 +10,7 @@ use crate::following::{Backup, Orders, Ready, copied, follow};
 use crate::origin::Origin;
 use crate::steward::{PairEvent, Steward};
 use clone_state::Copies;
+use guest_lockstep::Reads;
 use i8080_words::{Fault, R};
 use pair_standing::finish_over;
 use pair_threads::{Fate, Gate, GenerationEnd, run_generation_at};
@@ -43,6 +44,8 @@ pub struct Limits {
     pub tries: u64,
     /// How often all parts of an image are sent to a spare host.
     pub rounds: u64,
+    /// Whether the log carries the sectors that a primary reads, or names them, so that its backup reads them from the shared disk.
+    pub reads: Reads,
 }
 
 /// A pair after a generation, with the number of that generation.
@@ -124,7 +127,15 @@ pub(crate) fn begin_next<
     let generation = ready.generation;
     let (resumed, origin) = follow(alloc, ready, backup, watched)?;
     steward.hears(PairEvent::Begins(generation));
-    let end = run_generation_at(rt, alloc, resumed, watched, gate, limits.turns)?;
+    let end = run_generation_at(
+        rt,
+        alloc,
+        resumed,
+        watched,
+        limits.reads,
+        gate,
+        limits.turns,
+    )?;
     Ok(Going {
         end,
         origin,

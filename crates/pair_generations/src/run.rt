@@ -81,7 +81,16 @@ pub(crate) fn begin<
     workers.primary_contests = planned(watched, workers.primary_contests);
     workers.backup_contests = planned(watched, workers.backup_contests);
     steward.hears(PairEvent::Begins(1));
-    let end = run_generation_over(rt, alloc, workers, lines, watched, gate, limits.turns)?;
+    let end = run_generation_over(
+        rt,
+        alloc,
+        workers,
+        lines,
+        watched,
+        limits.reads,
+        gate,
+        limits.turns,
+    )?;
     Ok(Going {
         end,
         origin,

@@ -4,11 +4,13 @@ use Rattle.guest_lockstep.specs.Machine.{booted_from}
 use Rattle.guest_lockstep.specs.declared.reads.Reads.TheVariants.{Logged}
 use Rattle.guest_lockstep.proofs.Booted.{Recorded-booted}
 use Rattle.log_entry.specs.Entries.{entries, last_count}
+use Rattle.pair_rule.specs.declared.payload.DiskAnswer.TheVariants as answer
+use Rattle.pair_rule.specs.Knowledge.{AllAre}
 use Rattle.pair_rule.specs.Threads.{CallKept}
 use Rattle.pair_rule.proofs.Filled.{all_map}
 use Rattle.pair_threads.specs.Leading.{Leads, Says}
 use Rattle.pair_threads.specs.Repeating.{Repeats}
-use Rattle.pair_threads.specs.Stores.{Has}
+use Rattle.pair_threads.specs.Stores.{Has, IsFirst}
 use Rattle.pair_threads.proofs.Views.{leads_there}
 use Rattle.pair_resumed.specs.Settled.{SettledRunsMayBegin, accepted_of, keys_of}
 use Rattle.pair_resumed.proofs.KeptRuns.{kept_there}
@@ -35,5 +37,6 @@ may_begin N boot sectors C lawful typed0 typed1 moves s generation recorded m ex
       store = record {
         kept = λ address r is. subst (Has r) (sym (rested.sectors address)) (store address r is);
         firsts = rested.firsts;
+        finds = subst (λ l. AllAre l (λ r. IsFirst sectors (answer.Read r))) (sym rested.found) tt;
       };
     }

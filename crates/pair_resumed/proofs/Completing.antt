@@ -71,7 +71,7 @@ module _ {S : Type 0} (M : Machine S) (may : Runnable M) (dues : DueIsGiven M) (
       (Fills Requests (Request (ask.Write w)) f.at.primary_waits tt (may_release M moves s made k f.at (Write w) found)))
       (Empties Requests (Request (ask.Write w)) tt
       (among-right (Write w) k.primary.released (Write w ∷ []) (inl refl))))
-      (Fills Answers (Answer (answer.Written w.number)) tt has ((w, refl, refl), tt)))
+      (Fills Answers (Answer (answer.Written w.number)) tt has ((w, refl, refl), tt, tt)))
       (Empties Answers (Answer (answer.Written w.number)) f.at.primary_waits
       (among-right (answer.Written w.number) k.disk.given (answer.Written w.number ∷ []) (inl refl)))
 
@@ -111,6 +111,8 @@ module _ {S : Type 0} (M : Machine S) (may : Runnable M) (dues : DueIsGiven M) (
       seen = f.at.seen;
       held = f.at.held;
       primary_waits = f.at.primary_waits;
+      wanted = f.at.wanted;
+      found = f.at.found;
       backup_waits = f.at.backup_waits;
     };
     given = λ o at. elim (among-split o k.primary.released (Write w ∷ []) at) [

@@ -216,6 +216,8 @@ module _ {S : Type 0} (M : Machine S) (may : Runnable M) (typed0 typed1 : List â
             seen = a.seen;
             held = a.held;
             primary_waits = a.primary_waits;
+            wanted = a.wanted;
+            found = a.found;
             backup_waits = a.backup_waits;
           };
           given = given_now (Byte 0 number byte) step few;
@@ -253,6 +255,8 @@ module _ {S : Type 0} (M : Machine S) (may : Runnable M) (typed0 typed1 : List â
             seen = a.seen;
             held = a.held;
             primary_waits = a.primary_waits;
+            wanted = a.wanted;
+            found = a.found;
             backup_waits = a.backup_waits;
           };
           given = given_now (Byte 1 number byte) step few;

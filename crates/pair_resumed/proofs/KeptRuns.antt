@@ -1,28 +1,32 @@
 -- The other way round: steps of the threads are steps of the table, and each call of the primary and each answer of the disk
 -- that they led to kept its promise.
-use Rattle.std.proofs.Common.{ℕ, zero, suc, List, [], ◌∷◌}
+use Rattle.std.proofs.Common.{ℕ, zero, suc, List, [], ◌∷◌, sym, ◌∙◌}
 use Rattle.disk_dcdd.specs.declared.address.SectorAddress.{SectorAddress}
 use Rattle.guest_lockstep.specs.Machine.{Machine, booted_from}
 use Rattle.guest_lockstep.proofs.Booted.{Recorded-booted}
 use Rattle.log_entry.specs.declared.entry.Entry.{Entry}
 use Rattle.log_entry.specs.declared.entry.Entry.TheVariants.{Mark, Rx, Sent, Sector, Written, Read}
 use Rattle.pair_rule.specs.declared.mailbox.Mailbox.{Mailbox}
-use Rattle.pair_rule.specs.declared.mailbox.Mailbox.TheVariants.{Outbox, Inbox, Bytes0, Bytes1, Requests, Answers}
+use Rattle.pair_rule.specs.declared.mailbox.Mailbox.TheVariants.{Outbox, Inbox, Bytes0, Bytes1, Requests, Answers, Lookups, Sectors}
+use Rattle.pair_rule.specs.declared.payload.DiskAnswer.{DiskAnswer}
+use Rattle.pair_rule.specs.declared.payload.DiskAnswer.TheVariants as answer
 use Rattle.pair_rule.specs.declared.payload.DiskRequest.TheVariants as ask
 use Rattle.pair_rule.specs.declared.payload.Payload.{Payload}
-use Rattle.pair_rule.specs.declared.payload.Payload.TheVariants.{Log, Out, Request, Answer}
+use Rattle.pair_rule.specs.declared.payload.Payload.TheVariants as payload
+use Rattle.pair_rule.specs.declared.payload.Payload.TheVariants.{Log, Out, Request, Answer, Lookup}
 use Rattle.pair_rule.specs.declared.view.Knowledge.{Knowledge}
 use Rattle.pair_rule.specs.declared.view.PrimaryCall.{PrimaryCall}
 use Rattle.pair_rule.specs.declared.view.PrimaryCall.TheVariants as call
 use Rattle.pair_rule.specs.Boxes.{filler}
 use Rattle.pair_rule.specs.Histories as plain
 use Rattle.pair_rule.specs.Histories.{IsReply, PlainRun}
-use Rattle.pair_rule.specs.Knowledge.{CanFill, after_empty, after_fill}
+use Rattle.pair_rule.specs.Knowledge.{Agrees, AgreesOf, CanFill, FirstsAgree, FirstsAgreeOf, after_empty, after_fill}
 use Rattle.pair_rule.specs.Law.{IsTold}
 use Rattle.pair_rule.specs.Steps as table
 use Rattle.pair_rule.specs.Steps.{AsksNot, Promised, ReadsBoot, TableStep}
 use Rattle.pair_rule.specs.Threads.{AreKept, CallKept, Goes, Opens, ThreadRun, knew}
 use Rattle.pair_rule.proofs.Filled.{all_more}
+use Rattle.shared_disk.specs.declared.disk.SectorRead.{SectorRead}
 
 module _ {S : Type 0} (M : Machine S) (typed0 typed1 : List ℕ) (k : Knowledge) where
   -- what was told depends on what the call knew alone
@@ -36,8 +40,16 @@ module _ {S : Type 0} (M : Machine S) (typed0 typed1 : List ℕ) (k : Knowledge)
   told_then s (Sector count drive sector number bytes) t = t
   told_then s (Read count drive sector number) t = t
 
+  -- what agrees with all that was read agrees with what was read at boot
+  firsts_agree : (r : SectorRead) → Agrees k.disk r → FirstsAgree k.disk r
+  firsts_agree r all s was same s0 r0 = all s was same (s0 ∙ sym r0)
+
+  firsts_of : (a : DiskAnswer) → AgreesOf k.disk a → FirstsAgreeOf k.disk a
+  firsts_of (answer.Written number) all = tt
+  firsts_of (answer.Read r) all = firsts_agree r all
+
   abbrev Kept : Knowledge → Type 0
-  Kept new = AreKept M typed0 typed1 new.primary.calls new.disk.given
+  Kept new = AreKept M typed0 typed1 new.primary.calls new.disk.given new.disk.found
 
   module _ (run : PlainRun k) (kept : Kept k) where
     filled : (b : Mailbox) (q : Payload) → AsksNot (filler b) k → CanFill b k q → Promised M k b q
@@ -47,46 +59,80 @@ module _ {S : Type 0} (M : Machine S) (typed0 typed1 : List ℕ) (k : Knowledge)
     filled Outbox (Out o) asks can promised = absurd can
     filled Outbox (Request r) asks can promised = absurd can
     filled Outbox (Answer a) asks can promised = absurd can
+    filled Outbox (Lookup a) asks can promised = absurd can
+    filled Outbox (payload.Sector r) asks can promised = absurd can
     filled Inbox (Log p) asks can promised =
         (plain.Goes run (plain.Fills Inbox (Log p) (record { asks_not = asks; reply = tt }) can), kept)
     filled Inbox (Out o) asks can promised = absurd can
     filled Inbox (Request r) asks can promised = absurd can
     filled Inbox (Answer a) asks can promised = absurd can
+    filled Inbox (Lookup a) asks can promised = absurd can
+    filled Inbox (payload.Sector r) asks can promised = absurd can
     filled Bytes0 (Out o) asks can promised = (
       plain.Goes run (plain.Fills Bytes0 (Out o) (record { asks_not = asks; reply = tt }) can),
-      record { calls_kept = (promised, kept.calls_kept); reads_kept = kept.reads_kept },
+      record { calls_kept = (promised, kept.calls_kept); reads_kept = kept.reads_kept; found_kept = kept.found_kept },
     )
     filled Bytes0 (Log p) asks can promised = absurd can
     filled Bytes0 (Request r) asks can promised = absurd can
     filled Bytes0 (Answer a) asks can promised = absurd can
+    filled Bytes0 (Lookup a) asks can promised = absurd can
+    filled Bytes0 (payload.Sector r) asks can promised = absurd can
     filled Bytes1 (Out o) asks can promised = (
       plain.Goes run (plain.Fills Bytes1 (Out o) (record { asks_not = asks; reply = tt }) can),
-      record { calls_kept = (promised, kept.calls_kept); reads_kept = kept.reads_kept },
+      record { calls_kept = (promised, kept.calls_kept); reads_kept = kept.reads_kept; found_kept = kept.found_kept },
     )
     filled Bytes1 (Log p) asks can promised = absurd can
     filled Bytes1 (Request r) asks can promised = absurd can
     filled Bytes1 (Answer a) asks can promised = absurd can
+    filled Bytes1 (Lookup a) asks can promised = absurd can
+    filled Bytes1 (payload.Sector r) asks can promised = absurd can
     filled Requests (Request (ask.Write w)) asks can promised = (
       plain.Goes run (plain.Fills Requests (Request (ask.Write w)) (record { asks_not = asks; reply = tt }) can),
-      record { calls_kept = (promised, kept.calls_kept); reads_kept = kept.reads_kept },
+      record { calls_kept = (promised, kept.calls_kept); reads_kept = kept.reads_kept; found_kept = kept.found_kept },
     )
     filled Requests (Request (ask.Read a)) asks can promised = (
       plain.Goes run (plain.Fills Requests (Request (ask.Read a)) (record { asks_not = asks; reply = tt }) can),
-      record { calls_kept = kept.calls_kept; reads_kept = kept.reads_kept },
+      record { calls_kept = kept.calls_kept; reads_kept = kept.reads_kept; found_kept = kept.found_kept },
     )
     filled Requests (Log p) asks can promised = absurd can
     filled Requests (Out o) asks can promised = absurd can
     filled Requests (Answer a) asks can promised = absurd can
+    filled Requests (Lookup a) asks can promised = absurd can
+    filled Requests (payload.Sector r) asks can promised = absurd can
     filled Answers (Answer a) asks can promised = (
-      plain.Goes run (plain.Fills Answers (Answer a) (record { asks_not = asks; reply = promised.0 }) can),
+      plain.Goes run (plain.Fills Answers (Answer a) (record { asks_not = asks; reply = (promised.0, firsts_of a promised.1) }) can),
       record {
         calls_kept = kept.calls_kept;
-        reads_kept = all_more k.disk.given a (ReadsBoot M) kept.reads_kept promised.1;
+        reads_kept = all_more k.disk.given a (ReadsBoot M) kept.reads_kept promised.2;
+        found_kept = kept.found_kept;
       },
     )
     filled Answers (Log p) asks can promised = absurd can
     filled Answers (Out o) asks can promised = absurd can
     filled Answers (Request r) asks can promised = absurd can
+    filled Answers (Lookup a) asks can promised = absurd can
+    filled Answers (payload.Sector r) asks can promised = absurd can
+    filled Lookups (Lookup a) asks can promised =
+        (plain.Goes run (plain.Fills Lookups (Lookup a) (record { asks_not = asks; reply = tt }) can), kept)
+    filled Lookups (Log p) asks can promised = absurd can
+    filled Lookups (Out o) asks can promised = absurd can
+    filled Lookups (Request r) asks can promised = absurd can
+    filled Lookups (Answer a) asks can promised = absurd can
+    filled Lookups (payload.Sector r) asks can promised = absurd can
+    filled Sectors (payload.Sector r) asks can promised = (
+      plain.Goes run (plain.Fills Sectors (payload.Sector r)
+          (record { asks_not = asks; reply = (promised.0, firsts_agree r promised.1) }) can),
+      record {
+        calls_kept = kept.calls_kept;
+        reads_kept = kept.reads_kept;
+        found_kept = all_more k.disk.found r (λ x. ReadsBoot M (answer.Read x)) kept.found_kept promised.2;
+      },
+    )
+    filled Sectors (Log p) asks can promised = absurd can
+    filled Sectors (Out o) asks can promised = absurd can
+    filled Sectors (Request r) asks can promised = absurd can
+    filled Sectors (Answer a) asks can promised = absurd can
+    filled Sectors (Lookup a) asks can promised = absurd can
 
     -- whatever is taken out of a box, the calls and the answers stay
     still_kept : (b : Mailbox) (q : Payload) → Kept (after_empty b q k)
@@ -94,26 +140,50 @@ module _ {S : Type 0} (M : Machine S) (typed0 typed1 : List ℕ) (k : Knowledge)
     still_kept Outbox (Out o) = kept
     still_kept Outbox (Request r) = kept
     still_kept Outbox (Answer a) = kept
+    still_kept Outbox (Lookup a) = kept
+    still_kept Outbox (payload.Sector r) = kept
     still_kept Inbox (Log p) = kept
     still_kept Inbox (Out o) = kept
     still_kept Inbox (Request r) = kept
     still_kept Inbox (Answer a) = kept
+    still_kept Inbox (Lookup a) = kept
+    still_kept Inbox (payload.Sector r) = kept
     still_kept Bytes0 (Log p) = kept
     still_kept Bytes0 (Out o) = kept
     still_kept Bytes0 (Request r) = kept
     still_kept Bytes0 (Answer a) = kept
+    still_kept Bytes0 (Lookup a) = kept
+    still_kept Bytes0 (payload.Sector r) = kept
     still_kept Bytes1 (Log p) = kept
     still_kept Bytes1 (Out o) = kept
     still_kept Bytes1 (Request r) = kept
     still_kept Bytes1 (Answer a) = kept
+    still_kept Bytes1 (Lookup a) = kept
+    still_kept Bytes1 (payload.Sector r) = kept
     still_kept Requests (Log p) = kept
     still_kept Requests (Out o) = kept
     still_kept Requests (Request r) = kept
     still_kept Requests (Answer a) = kept
+    still_kept Requests (Lookup a) = kept
+    still_kept Requests (payload.Sector r) = kept
     still_kept Answers (Log p) = kept
     still_kept Answers (Out o) = kept
     still_kept Answers (Request r) = kept
     still_kept Answers (Answer a) = kept
+    still_kept Answers (Lookup a) = kept
+    still_kept Answers (payload.Sector r) = kept
+    still_kept Lookups (Log p) = kept
+    still_kept Lookups (Out o) = kept
+    still_kept Lookups (Request r) = kept
+    still_kept Lookups (Answer a) = kept
+    still_kept Lookups (Lookup a) = kept
+    still_kept Lookups (payload.Sector r) = kept
+    still_kept Sectors (Log p) = kept
+    still_kept Sectors (Out o) = kept
+    still_kept Sectors (Request r) = kept
+    still_kept Sectors (Answer a) = kept
+    still_kept Sectors (Lookup a) = kept
+    still_kept Sectors (payload.Sector r) = kept
 
     stepped : (new : Knowledge) → TableStep M typed0 typed1 k new → PlainRun new × Kept new
     stepped new table.Stays = (run, kept)
@@ -124,6 +194,7 @@ module _ {S : Type 0} (M : Machine S) (typed0 typed1 : List ℕ) (k : Knowledge)
       record {
         calls_kept = ((longer, told_then longer.before e told), kept.calls_kept);
         reads_kept = kept.reads_kept;
+        found_kept = kept.found_kept;
       },
     )
     stepped new (table.Sees asks) = (plain.Goes run (plain.Sees asks), kept)
@@ -136,9 +207,9 @@ module _ {S : Type 0} (M : Machine S) (typed0 typed1 : List ℕ) (k : Knowledge)
     stepped new (table.SeesCount (suc port) two asks) = (plain.Goes run (plain.SeesCount (suc port) two asks), kept)
 
 pub threads_kept : {S : Type 0} (M : Machine S) (typed0 typed1 : List ℕ) (k : Knowledge) → ThreadRun M typed0 typed1 k
-    → PlainRun k × AreKept M typed0 typed1 k.primary.calls k.disk.given
+    → PlainRun k × AreKept M typed0 typed1 k.primary.calls k.disk.given k.disk.found
 threads_kept M typed0 typed1 k (Opens generation) =
-    (plain.Opens generation, record { calls_kept = tt; reads_kept = tt })
+    (plain.Opens generation, record { calls_kept = tt; reads_kept = tt; found_kept = tt })
 threads_kept M typed0 typed1 new (Goes {k = k} run step) =
     let before = threads_kept M typed0 typed1 k run in stepped M typed0 typed1 k before.0 before.1 new step
 

@@ -1,5 +1,5 @@
 -- An entry is appended, taken by the backup, held and seen; and what is outstanding then may be released.
-use Rattle.std.proofs.Common.{◌≡◌, ℕ, ◌+◌, ◌<◌, cond, List, [], ◌∷◌, ◌++◌, length, Some, refl, sym, ap, ◌∙◌, arith, eq-eqb}
+use Rattle.std.proofs.Common.{◌≡◌, ℕ, ◌+◌, ◌<◌, cond, List, [], ◌∷◌, ◌++◌, length, None, Some, refl, sym, ap, ◌∙◌, arith, eq-eqb}
 use mathlib.Core.Option.{some}
 use lib.ListN.{get_elem?}
 use Rattle.event_callbacks.specs.Operations.{id_of}
@@ -11,6 +11,7 @@ use Rattle.log_entry.specs.Entries.{entries}
 use Rattle.log_entry.specs.declared.entry.Entry.{Entry}
 use Rattle.pair_protocol.specs.Lawful.{top}
 use Rattle.pair_rule.specs.declared.mailbox.Mailbox.TheVariants.{Inbox}
+use Rattle.pair_rule.specs.declared.payload.Carried.TheVariants.{Whole}
 use Rattle.pair_rule.specs.declared.payload.Packet.{Packet}
 use Rattle.pair_rule.specs.declared.payload.Payload.TheVariants.{Log}
 use Rattle.pair_rule.specs.declared.view.Knowledge.{Knowledge}
@@ -23,7 +24,7 @@ use Rattle.pair_rule.proofs.ListsThatGrow.{last_more}
 use Rattle.pair_threads.proofs.KeptCalls.{covered_by, notes_covered}
 
 abbrev packet : Knowledge → Entry → Packet
-packet k e = record { generation = k.generation; index = length k.primary.list; entry = e }
+packet k e = record { generation = k.generation; index = length k.primary.list; carried = Whole e }
 
 abbrev taken : Entry → Knowledge → Knowledge
 taken e k = after_empty Inbox (Log (packet k e)) (appended e k)
@@ -31,12 +32,14 @@ taken e k = after_empty Inbox (Log (packet k e)) (appended e k)
 abbrev pub logged : Entry → Knowledge → Knowledge
 logged e k = saw (last_or 0 (held (taken e k)).backup.held_values) (held (taken e k))
 
--- both lists are this one, all of it is held and seen, and nobody has asked to go on alone
+-- both lists are this one, all of it is held and seen, the backup has looked for no sector, and nobody has asked to go on alone
 pub record IsAt (list : List Entry) (k : Knowledge) : Type 0 where
   pub primary : k.primary.list ≡ list
   pub backup : k.backup.list ≡ list
   pub seen : k.primary.seen ≡ length list
   pub held : last_or 0 k.backup.held_values ≡ length list
+  pub wanted : k.backup.wanted ≡ None
+  pub found : k.disk.found ≡ []
   pub primary_waits : k.primary.winner ≡ 0
   pub backup_waits : k.backup.winner ≡ 0
 
@@ -58,7 +61,7 @@ module _ {S : Type 0} (M : Machine S) (typed0 typed1 : List ℕ) (k : Knowledge)
         few = few;
         room = room (length k.primary.list) k.primary.seen (at.seen ∙ sym (ap length at.primary));
       } told))
-      (Empties Inbox (Log (packet k e)) at.backup_waits (refl, get_end k.primary.list e)))
+      (Empties Inbox (Log (packet k e)) at.backup_waits (refl, (e, get_end k.primary.list e, refl))))
       (Holds at.backup_waits)) (Sees at.primary_waits)
 
   copy_is : (taken e k).backup.list ≡ list ++ e ∷ []
@@ -66,12 +69,18 @@ module _ {S : Type 0} (M : Machine S) (typed0 typed1 : List ℕ) (k : Knowledge)
       (eq-eqb (length k.primary.list) (length k.backup.list) (ap length (at.primary ∙ sym at.backup)))
       ∙ ap (λ l. l ++ e ∷ []) at.backup
 
+  wanted_is : (taken e k).backup.wanted ≡ None
+  wanted_is = ap (λ b. cond b None k.backup.wanted)
+      (eq-eqb (length k.primary.list) (length k.backup.list) (ap length (at.primary ∙ sym at.backup)))
+
   pub log_at : IsAt (list ++ e ∷ []) (logged e k)
   log_at = let last = last_more 0 (length (taken e k).backup.list) k.backup.held_values ∙ ap length copy_is in record {
     primary = ap (λ l. l ++ e ∷ []) at.primary;
     backup = copy_is;
     seen = last;
     held = last;
+    wanted = wanted_is;
+    found = at.found;
     primary_waits = at.primary_waits;
     backup_waits = at.backup_waits;
   }

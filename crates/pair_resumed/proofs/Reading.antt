@@ -20,15 +20,18 @@ use Rattle.pair_rule.specs.declared.payload.DiskAnswer.TheVariants as answer
 use Rattle.pair_rule.specs.declared.payload.DiskRequest.TheVariants as ask
 use Rattle.pair_rule.specs.declared.payload.Payload.TheVariants.{Answer, Request}
 use Rattle.pair_rule.specs.declared.view.Knowledge.{Knowledge}
-use Rattle.pair_rule.specs.Knowledge.{after_empty, after_fill}
+use Rattle.pair_rule.specs.Knowledge.{FirstsAgree, after_empty, after_fill}
 use Rattle.pair_rule.specs.Law.{Runnable}
 use Rattle.pair_rule.specs.Steps.{Empties, Fills}
 use Rattle.pair_rule.specs.Threads.{Goes, ThreadRun}
 use Rattle.pair_rule.proofs.Filled.{all_more}
+use Rattle.pair_rule.proofs.ReadsAgree.{agrees}
+use Rattle.pair_rule.proofs.Elements.{all_in}
 use Rattle.pair_threads.specs.Leading.{IsAnswer}
 use Rattle.pair_threads.specs.Stores.{IsFirst}
 use Rattle.shared_disk.specs.declared.disk.SectorRead.{SectorRead}
 use Rattle.pair_resumed.specs.Settled.{DueIsGiven}
+use Rattle.pair_resumed.proofs.KeptRuns.{threads_kept}
 use Rattle.pair_resumed.proofs.Logging.{logged}
 use Rattle.pair_resumed.proofs.Following.{Follows, answers_more, one_answer}
 use Rattle.pair_resumed.proofs.OnDisk.{at_boot_is, record_is}
@@ -95,10 +98,23 @@ module _ {S : Type 0} (M : Machine S) (may : Runnable M) (dues : DueIsGiven M) (
             ap (λ (x : SectorWrite). x.bytes) same ∙ o.bytes ∙ own.1,
           )
 
+  asks : ThreadRun M typed0 typed1 taken
+  asks = Goes (Goes f.run (Fills Requests (Request (ask.Read q)) f.at.primary_waits tt tt))
+      (Empties Requests (Request (ask.Read q)) tt tt)
+
+  -- what was read there at boot has the same bytes
+  firsts_agree : FirstsAgree taken.disk r
+  firsts_agree s (inl given) same none zero =
+      all_in (IsFirst M.boot_sector) k.disk.given (answer.Read s) f.firsts given none ∙ ap M.boot_sector same ∙ sym (first zero)
+  firsts_agree s (inr found) same none zero = absurd (subst (Among s) f.at.found found)
+
   run : ThreadRun M typed0 typed1 answered
-  run = Goes (Goes (Goes (Goes f.run (Fills Requests (Request (ask.Read q)) f.at.primary_waits tt tt))
-      (Empties Requests (Request (ask.Read q)) tt tt))
-      (Fills Answers (Answer (answer.Read r)) tt replied ((q, refl, refl, found), first)))
+  run = Goes (Goes asks
+      (Fills Answers (Answer (answer.Read r)) tt replied (
+        (q, refl, refl, found),
+        agrees taken (threads_kept M typed0 typed1 taken asks).0 (answer.Read r) (q, refl, refl, found) firsts_agree,
+        first,
+      )))
       (Empties Answers (Answer (answer.Read r)) f.at.primary_waits
       (among-right (answer.Read r) k.disk.given (answer.Read r ∷ []) (inl refl)))
 
@@ -115,6 +131,8 @@ module _ {S : Type 0} (M : Machine S) (may : Runnable M) (dues : DueIsGiven M) (
       seen = f.at.seen;
       held = f.at.held;
       primary_waits = f.at.primary_waits;
+      wanted = f.at.wanted;
+      found = f.at.found;
       backup_waits = f.at.backup_waits;
     };
     given = f.given;

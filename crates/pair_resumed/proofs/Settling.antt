@@ -58,7 +58,7 @@ nothing_yet : {S : Type 0} (M : Machine S) (typed0 typed1 : List ℕ) (g : ℕ) 
 nothing_yet M typed0 typed1 g = record {
   run = Opens g;
   number = refl;
-  at = record { primary = refl; backup = refl; seen = refl; held = refl; primary_waits = refl; backup_waits = refl };
+  at = record { primary = refl; backup = refl; seen = refl; held = refl; wanted = refl; found = refl; primary_waits = refl; backup_waits = refl };
   given = λ o i. absurd i;
   bytes0 = refl;
   bytes1 = refl;
@@ -198,6 +198,7 @@ module _ {S : Type 0} (M : Machine S) (may : Runnable M) (dues : DueIsGiven M) (
       under_way = f.under_way;
       leads = leads;
       firsts = f.firsts;
+      found = f.at.found;
     }
       where
         screens : (port : ℕ) → port < 2 → bytes_accepted port k ≡ output port all
@@ -219,6 +220,7 @@ module _ {S : Type 0} (M : Machine S) (may : Runnable M) (dues : DueIsGiven M) (
       list = sym (ap length f.at.primary);
       seen = sym f.at.seen;
       copy = sym (ap length f.at.backup);
+      nothing_wanted = sym f.at.wanted;
       held = sym f.at.held;
       primary_waits = sym f.at.primary_waits;
       backup_waits = sym f.at.backup_waits;

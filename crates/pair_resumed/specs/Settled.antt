@@ -43,7 +43,8 @@ pub record IsSettled {S : Type 0} (M : Machine S) (typed0 typed1 : List ℕ) (mo
 
 -- what is known at rest: both lists are the entries of the run, all of it is held and seen, and nobody has asked to go on
 -- alone; each terminal has accepted the output; each sector has the number and the bytes that the machine's own disk has;
--- nothing is under way between primary and disk; and what a primary's worker and the disk's promise of their views holds
+-- nothing is under way between primary and disk, and the disk has looked up no sector for the backup; and what a primary's worker and
+-- the disk's promise of their views holds
 pub record IsRested {S : Type 0} (M : Machine S) (moves : List Move) (s : S) (k : Knowledge) : Type 0 where
   pub primary_list : k.primary.list ≡ entries Logged 0 moves
   pub backup_list : k.backup.list ≡ entries Logged 0 moves
@@ -58,6 +59,7 @@ pub record IsRested {S : Type 0} (M : Machine S) (moves : List Move) (s : S) (k 
   pub under_way : NoneUnderWay k
   pub leads : Leads M M.boot (entries Logged 0 moves) [] k.primary s
   pub firsts : AllAre k.disk.given (IsFirst M.boot_sector)
+  pub found : k.disk.found ≡ []
 
 -- the keys that were taken, and the bytes that are accepted
 abbrev pub keys_of : List ℕ → List ℕ → List Move → ℕ → List ℕ
@@ -73,7 +75,7 @@ pub record MayStart {S : Type 0} (M : Machine S) (C : Copying S) (typed0 typed1 
     (generation : ℕ) : Type 0 where
   pub known : Knowledge
   pub run : ThreadRun M typed0 typed1 known
-  pub kept : AreKept M typed0 typed1 known.primary.calls known.disk.given
+  pub kept : AreKept M typed0 typed1 known.primary.calls known.disk.given known.disk.found
   pub shown : IsShown M C typed0 typed1 known
   pub rested : IsRested M moves s known
   pub starts : IsStart generation (length (entries Logged 0 moves)) (length (output 0 moves)) (length (output 1 moves)) known

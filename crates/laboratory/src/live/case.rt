@@ -9,8 +9,8 @@ use i8080_words::R;
 use pair_threads::{Fate, Who};
 use std::alloc::Global;
 
-// How many steps a guest has in a turn, unless a case has fewer.
-const STEPS: u64 = 10_000;
+// How many steps a guest has in a turn, unless a case has fewer: as many as `pair live` has.
+const STEPS: u64 = 20_000;
 
 // How many turns primary and backup have, unless a case has fewer: more than any run takes.
 const TURNS: u64 = 1 << 40;

@@ -21,12 +21,14 @@ use std::time::Clock;
 /// Records on a device whose read or write fails once if a case says so.
 pub(super) type Store = FailOnce<MemoryStore>;
 
-/// What a pair runs: a program at 0000, with so many steps in each turn; which access of the disk fails (0 if none), when the backup
-/// asks to go on alone, and how many turns there are; and how many steps the backup's guest then makes by itself, at most.
+/// What a pair runs: a program at 0000, with so many steps in each turn; what the log has of sectors; which access of the disk fails
+/// (0 if none), when the backup asks to go on alone, and how many turns there are; and how many steps the backup's guest then makes by
+/// itself, at most.
 #[derive(Clone, Copy)]
 pub(super) struct Case<'a> {
     pub(super) program: &'a [u8],
     pub(super) steps: u64,
+    pub(super) reads: Reads,
     pub(super) fails: u64,
     pub(super) backup_contests: Option<u64>,
     pub(super) turns: u64,
@@ -38,6 +40,7 @@ pub(super) fn alone(program: &[u8]) -> Case<'_> {
     Case {
         program,
         steps: 1,
+        reads: Reads::Logged,
         fails: 0,
         backup_contests: None,
         turns: 1_000_000,
@@ -207,7 +210,9 @@ fn run_with<
     let primary = boot(alloc, setup, Callbacks::of(sent, sector, written))?;
     let backup = boot(alloc, setup, Callbacks::of(sent, sector, written))?;
     let workers = workers_of(alloc, case, watched, primary, backup)?;
-    match run_generation_over(rt, alloc, workers, lines, watched, gate, case.turns) {
+    match run_generation_over(
+        rt, alloc, workers, lines, watched, case.reads, gate, case.turns,
+    ) {
         Ok(end) => outcome_of(alloc, end, case.later),
         Err(fault) => Err(fault),
     }

@@ -3,6 +3,7 @@
 
 use super::gates::{Closed, Together, Turnstile};
 use super::pairs::{Outcome, alone, run_case};
+use guest_lockstep::Reads;
 use i8080_words::{Fault, R};
 use pair_threads::Who;
 use std::process::Abort;
@@ -79,6 +80,19 @@ fn a_disk_that_fails_is_asked_again(rt: HostRuntime) -> R<()> {
         let mut failing = alone(&DISK_WRITE);
         failing.fails = fails;
         let end = run_case(&rt, rt.alloc(), &failing, &Together::new())?;
+        expect_sector(&rt, &end);
+    }
+    Ok(())
+}
+
+// The backup reads the two sectors of the list itself: two accesses more, each of which fails once.
+#[test]
+fn a_backup_reads_the_shared_disk(rt: HostRuntime) -> R<()> {
+    for fails in 0..7 {
+        let mut sharing = alone(&DISK_WRITE);
+        sharing.reads = Reads::Shared;
+        sharing.fails = fails;
+        let end = run_case(&rt, rt.alloc(), &sharing, &Together::new())?;
         expect_sector(&rt, &end);
     }
     Ok(())

@@ -10,6 +10,7 @@ use super::pairs::{boot, setup_of};
 use board_image::DraftedBoard;
 use event_callbacks::{Callbacks, Completes, plain_completions};
 use guest_board::Setup;
+use guest_lockstep::Reads;
 use i8080_words::R;
 use pair_generations::{Limits, Next, PairEvent, Steward, altairs_may_go_on, run_pair_until_over};
 use pair_lines::{Keyboard, Lines, Screen, Shown, Stroke};
@@ -29,6 +30,7 @@ const LIMITS: Limits = Limits {
     steps: 1_000,
     tries: 1,
     rounds: 1,
+    reads: Reads::Logged,
 };
 
 // How many strokes, or bytes, a ring has room for.

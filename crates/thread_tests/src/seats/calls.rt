@@ -6,7 +6,7 @@ use super::steps::{
     show_once, take_once, write,
 };
 use pair_rule::{
-    BackupSeat, DiskAnswer, DiskRequest, Fabric, LinkSeat, Packet, PortByte, PrimarySeat,
+    BackupSeat, Carried, DiskAnswer, DiskRequest, Fabric, LinkSeat, Packet, PortByte, PrimarySeat,
     TerminalSeat,
 };
 use std::process::Abort;
@@ -58,7 +58,7 @@ fn packets_are_lost_and_repeated(rt: HostRuntime) -> Result<(), Fail> {
     let packet = Packet {
         generation: 1,
         index: 1,
-        entry: mark(),
+        carried: Carried::Whole(mark()),
     };
     expect_packet(&rt, &fabric, &mut seats.backup, Some(packet));
     Ok(())
@@ -194,7 +194,7 @@ fn ask_twice(fabric: &Fabric, seat: &mut PrimarySeat)
     ask(fabric, seat, DiskRequest::Read(write().address()));
 }
 
-// A request is lost if another one is made over it, and an answer if another one is given over it.
+// A request is lost if another one is made over it.
 #[test]
 fn a_sector_is_read(rt: HostRuntime) -> Result<(), Fail> {
     let (fabric, mut seats) = Fabric::open(rt.alloc(), 1)?;

@@ -152,10 +152,12 @@ pub(super) fn serve_once(fabric: &Fabric, seat: &mut DiskSeat) -> bool
     }
 }
 
-// Answers one read twice, with no write answered before it.
+// Answers a read, the first thing that the disk does.
+#[tactic(auto, using(crate::proofs::FirstReads::agrees_with_none))]
 pub(super) fn read_once(fabric: &Fabric, seat: &mut DiskSeat) -> bool
     requires ready { seat.old.table ≡ fabric.now }
     requires unwritten { seat.old.core.known.disk.puts ≡ [] }
+    requires unread { (seat.old.core.known.disk.given ≡ []) × (seat.old.core.known.disk.found ≡ []) }
     ensures ready { seat.new.table ≡ fabric.now }
 {
     if !seat.has_swaps_left() {
@@ -171,10 +173,6 @@ pub(super) fn read_once(fabric: &Fabric, seat: &mut DiskSeat) -> bool
         sector: address.sector,
         bytes: [0xe5; 137],
     };
-    if !seat.has_swaps_left() {
-        return false;
-    }
-    seat.reply(fabric, DiskAnswer::Read(read));
     if !seat.has_swaps_left() {
         return false;
     }
