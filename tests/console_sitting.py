@@ -7,6 +7,7 @@ import pathlib
 import pty
 import re
 import select
+import struct
 import subprocess
 import tempfile
 import termios
@@ -144,14 +145,22 @@ class Console:
         return self.status()
 
 
-class AtTerminal(Console):
-    """A console at a terminal of its own. What is said beside the guest's output comes through a pipe, or to the terminal too."""
+def set_size(terminal, size):
+    """Gives a terminal so many rows and columns."""
+    fcntl.ioctl(terminal, termios.TIOCSWINSZ, struct.pack("4H", *size, 0, 0))
 
-    def __init__(self, words, is_apart=True):
+
+class AtTerminal(Console):
+    """A console at a terminal of its own, of so many rows and columns if that is said. What is said beside the guest's output comes through
+    a pipe, or to the terminal too."""
+
+    def __init__(self, words, is_apart=True, size=(0, 0), kind="xterm"):
         self.terminal, self.other = pty.openpty()
         self.mode = termios.tcgetattr(self.other)
+        set_size(self.other, size)
         said = subprocess.PIPE if is_apart else self.other
         how = {"stdin": self.other, "stdout": self.other, "stderr": said, "start_new_session": True}
+        how["env"] = {**os.environ, "TERM": kind}
         how["preexec_fn"] = lambda: fcntl.ioctl(0, termios.TIOCSCTTY, 0)
         run = subprocess.Popen(words, **how)
         super().__init__(run, self.terminal, {self.terminal: "shown"} | ({run.stderr.fileno(): "said"} if is_apart else {}))

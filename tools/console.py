@@ -3,15 +3,18 @@
 
 usage: tools/console.py PROGRAM console [OPTION ..]
 
-The options are those of tools/options.py that are for `console`, and the program's own --spares and --link. Without --load, --disk,
+The options are those of tools/options.py that are for `console`, and the program's own --spares, --link and --reads. Without --load, --disk,
 --memory and --setup the guest is the monitor of examples/guests.
 
 A terminal gives each key as it is typed, Ctrl-C among them, and is set back as it was however the command ends. If it hangs up, no
 more keys come, and a program that goes on for half a minute is ended. If the input is a file or a pipe, its end is that of the keys.
 
+Lines about the pair appear on the last row of a terminal, if standard output and standard error both go to it, and what the machine prints
+scrolls above; with `--lines here` they are written where the cursor is.
+
 A file is read whole before the program starts; one that is not what it should be is refused, with status 2. Disks are saved if the
 program ends well, each whole; a file that cannot be written stays as it was, and then the status is 5. At the command `save` of its command
-line a program hands the disk of that moment over, and this command writes it and says so.
+line a program hands the disk of that moment over, and this command writes it and says so; at `picture` it draws what was told of the pair.
 """
 
 import contextlib
@@ -28,14 +31,22 @@ import tty
 
 sys.path.insert(0, os.path.dirname(os.path.realpath(__file__)))
 import disks
+import last_row
 from files import hex_lines, image_in, place_in, read, save
 from options import complain, count_in, drives_in, key_lines, memory_line, numbered, sense_line, spelled, taken
+from output import Output
 from screen import Screen
+from story import Story
 
 MONITOR = os.path.join(os.path.dirname(os.path.dirname(os.path.realpath(__file__))), "examples/guests/monitor.hex")
 # How many spare hosts there are at most, and what may become of a packet.
 MOST_SPARES = 97
 FATES = {"pass", "drop", "twice"}
+# What a log may have of a sector that is read.
+READS = {"logged", "shared"}
+# Where lines about the pair may appear; and how one of them begins that a program hands over, and how a wish for a picture.
+WHERE = {"row", "here"}
+LINE, WISH = b"pair: ", b"picture "
 # These words ask for the program's own help.
 HELP = {"-h", "--help"}
 # How many keys are read at once, and for how many seconds a program may go on after its terminal has hung up.
@@ -68,8 +79,22 @@ def link_in(word):
     return word
 
 
+def reads_in(word):
+    """What the log has of a sector that is read."""
+    if word not in READS:
+        complain(f"--reads {word}: expected `logged` or `shared`")
+    return word
+
+
+def where_in(word):
+    """Where lines about the pair appear."""
+    if word not in WHERE:
+        complain(f"--lines {word}: expected `row` or `here`")
+    return word
+
+
 # The options that are handed on to the program, each with what becomes of its value.
-HANDED_ON = {"--spares": spares_in, "--link": link_in, "--escape": escape_in}
+HANDED_ON = {"--spares": spares_in, "--link": link_in, "--escape": escape_in, "--reads": reads_in}
 
 
 class Asked:
@@ -77,7 +102,7 @@ class Asked:
 
     def __init__(self, words):
         self.own, self.images, self.saves = [], {}, {}
-        self.setup, self.memory, self.keys = b"", None, []
+        self.setup, self.memory, self.keys, self.lines = b"", None, [], None
         for option, value in taken("console", words, HANDED_ON):
             if value is None:
                 complain(f"`pair console` has no option {option}; `./pair help console` lists its options")
@@ -95,6 +120,8 @@ class Asked:
         elif option == "--save-disk":
             drive, path = numbered(option, value, 3)
             self.saves[drive] = place_in(path)
+        elif option == "--lines":
+            self.lines = where_in(value)
         else:
             self.take_guest(option, value)
 
@@ -120,7 +147,7 @@ class Asked:
         words = ["console", "--before", str(len(self.opening())), *self.own]
         words += ["--images", drives_in(self.images)] * bool(self.images)
         words += ["--saved", drives_in(self.saves)] * bool(self.saves)
-        return [*words, "--mark", mark]
+        return [*words, "--apart", "--mark", mark]
 
     def save(self, images):
         """Writes each disk that is to be saved."""
@@ -167,6 +194,8 @@ class Run:
 
     def __init__(self):
         self.program = self.keys = self.ended_by = None
+        # The last row of the terminal, if lines about the pair are shown there; and what they have told.
+        self.row, self.story = None, Story()
         # The program's output, and what it says beside it if that goes elsewhere.
         self.screens = []
 
@@ -191,8 +220,8 @@ class Run:
 
     @contextlib.contextmanager
     def program_at(self, path, asked, mark):
-        """The program, as long as it runs. What it writes is passed on by this command, which takes disks out of it, and ends the program
-        if it cannot be written. What it says beside that comes with it, if both go to one place."""
+        """The program, as long as it runs. What it writes is passed on by this command, which takes out what is handed over, and ends the
+        program if it cannot be written. What it says beside that comes with it, if both go to one place."""
         how = {"stdout": subprocess.PIPE, "stderr": subprocess.STDOUT if is_one_place() else subprocess.PIPE}
         how["preexec_fn"] = lambda: [signal.signal(it, signal.SIG_IGN) for it in OF_TERMINALS]
         self.program = subprocess.Popen([path, *asked.words(mark)], stdin=subprocess.PIPE, **how)
@@ -207,13 +236,25 @@ class Run:
     def pass_on(self, mark):
         """Passes on keys, and what the program writes, until it ends."""
         begin(threading.Thread(target=self.keys.pass_on))
-        pipes = {1: self.program.stdout, 2: self.program.stderr}
-        self.screens = [Screen(self.program, pipe, to, mark, saved_as) for to, pipe in pipes.items() if pipe]
+        ends = [(self.program.stdout, self.row or Output(1)), (self.program.stderr, Output(2))]
+        self.screens = [Screen(self.program, pipe, output, mark, self.heard) for pipe, output in ends if pipe]
         showing = [begin(threading.Thread(target=screen.pass_on)) for screen in self.screens]
         self.program.wait()
         for it in showing:
             while it.is_alive() and not self.ended_by:
                 it.join(0.1)
+
+    def heard(self, handed):
+        """Does what is to be done with what a program hands over; gives what is written in its place."""
+        if handed.startswith(WISH):
+            return drawn_as(path_in(handed[len(WISH) :]), self.story.picture())
+        if not handed.startswith(LINE):
+            return saved_as(handed)
+        self.story.hear(handed[len(LINE) :].decode())
+        if self.row is None:
+            return b"\r\n" + handed + b"\r\n"
+        self.row.say(handed[len(LINE) :])
+        return b""
 
     def status(self):
         """The status of the program, or that of a command that a signal has ended."""
@@ -231,12 +272,43 @@ def begin(thread):
 def saved_as(handed):
     """Writes the disk that a program hands over at the command `save`, and says what became of it."""
     drive, image, path = handed[:2], handed[2 : 2 + 2 * disks.IMAGE_BYTES], handed[2 + 2 * disks.IMAGE_BYTES :]
-    path = bytes.fromhex(path.decode()).decode().strip()
+    path = path_in(path)
     try:
         disks.write(path, bytes.fromhex(image.decode()))
     except OSError as error:
         return f"{path} is not written: {error.strerror}".encode()
     return f"drive {int(drive, 16)} is saved to {path}: the disk of this moment, with every write that the machine was told is done".encode()
+
+
+def drawn_as(path, picture):
+    """Writes a picture of the hosts' story, if there is one, and says what became of it."""
+    if picture is None:
+        return f"{path} is not written: nothing was told of the hosts yet".encode()
+    try:
+        disks.write(path, picture.encode())
+    except OSError as error:
+        return f"{path} is not written: {error.strerror}".encode()
+    return f"what has become of the hosts so far is drawn in {path}".encode()
+
+
+def path_in(digits):
+    """The name of a file, by its hexadecimal digits."""
+    return bytes.fromhex(digits.decode()).decode().strip()
+
+
+@contextlib.contextmanager
+def row_for(lines):
+    """The last row of standard output, if lines about the pair are to be shown there."""
+    if lines == "here" or not last_row.can_have(1) or not (lines or is_one_place()):
+        yield None
+        return
+    row = last_row.LastRow(1)
+    signal.signal(signal.SIGWINCH, lambda *_: begin(threading.Thread(target=row.resize)))
+    try:
+        row.write(b"")
+        yield row
+    finally:
+        row.end()
 
 
 def is_one_place():
@@ -269,7 +341,7 @@ def main(path, command, *words):
     mark = f"\x1c{secrets.token_hex(16)}"
     run = Run()
     run.heed()
-    with raw_terminal(), run.program_at(path, asked, mark):
+    with raw_terminal(), row_for(asked.lines) as run.row, run.program_at(path, asked, mark):
         run.pass_on(mark.encode())
     status = run.status()
     if status and os.isatty(0) and os.isatty(2):

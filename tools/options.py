@@ -14,6 +14,7 @@ usage: tools/options.py [COMMAND]     prints those of a command; without one, al
   --memory AAAA=HH..    for `console`: bytes from this address on, in hexadecimal digits, in memory at boot
   --sense HH            for `console`: the sense switches, in two hexadecimal digits
   --escape KEY          for `console`: the key that opens a command line, as ^E, or as two hexadecimal digits
+  --lines WHERE         for `console`: lines about the pair appear on the last row of the terminal (`row`), or where the cursor is (`here`)
 """
 
 import contextlib
@@ -34,6 +35,7 @@ OPTIONS = {
     "--memory": ("console",),
     "--sense": ("console",),
     "--escape": ("console",),
+    "--lines": ("console",),
 }
 # The lines above that say what these options are, each with its option.
 SAID = {line.split()[0]: line for line in __doc__.splitlines() if line.startswith("  --")}

@@ -6,12 +6,15 @@ usage: tools/record.py FILE.cast [PROGRAM]     PROGRAM is ./pair, if it is not s
 A machine boots the monitor, fills and prints memory, and goes on while two of its hosts fail and the link between them is cut. `asciinema play FILE.cast` shows it again.
 """
 
+import fcntl
 import json
 import os
 import pty
 import select
+import struct
 import subprocess
 import sys
+import termios
 import time
 
 TOP = os.path.dirname(os.path.dirname(os.path.realpath(__file__)))
@@ -44,7 +47,9 @@ class Recording:
         self.began, self.events, self.shown = time.time(), [], ""
         master, slave = pty.openpty()
         self.master = master
-        self.program = subprocess.Popen(command, stdin=slave, stdout=slave, stderr=slave, start_new_session=True, cwd=TOP)
+        fcntl.ioctl(slave, termios.TIOCSWINSZ, struct.pack("4H", ROWS, COLUMNS, 0, 0))
+        how = {"start_new_session": True, "cwd": TOP, "env": {**os.environ, "TERM": "xterm"}}
+        self.program = subprocess.Popen(command, stdin=slave, stdout=slave, stderr=slave, **how)
         os.close(slave)
 
     def look(self, seconds):

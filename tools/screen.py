@@ -1,14 +1,11 @@
 """What a program writes, passed on as it comes up to a mark, and kept after it; what it hands over between marks is taken out."""
 
-import errno
 import os
 import select
 
 # How many bytes are read at once, and for how many seconds bytes are held back with which the mark may begin.
 MOST_BYTES = 65536
 HOLD = 0.02
-# How many bytes are written at once: a pipe that takes any takes so many.
-MOST_AT_ONCE = 4096
 
 
 def begun(text, mark):
@@ -17,17 +14,16 @@ def begun(text, mark):
 
 
 class Screen:
-    """A pipe that a program writes to, and where that goes: standard output, or another file. If it can take no more, the program is ended;
-    but if it is a terminal that has hung up, what comes is dropped. Between two marks in a row and a third one a program hands over what is
-    not to be seen: `heard` says what is written in its place."""
+    """A pipe that a program writes to, and the output that this goes to. If that can take no more, the program is ended. Between two marks in
+    a row and a third one a program hands over what is not to be seen: `heard` says what is written in its place."""
 
-    def __init__(self, program, pipe, to, mark, heard):
-        self.program, self.pipe, self.to, self.mark, self.heard = program, pipe.fileno(), to, mark, heard
+    def __init__(self, program, pipe, output, mark, heard):
+        self.program, self.pipe, self.output, self.mark, self.heard = program, pipe.fileno(), output, mark, heard
         # The end of what came, with which the mark may begin, and how much of it is passed on.
         self.tail, self.passed = b"", 0
         # What came after the mark, of which it is not known yet what it is; and after that what is kept, or handed over.
         self.doubt = self.kept = self.handed = None
-        self.has_hung_up, self.error = False, None
+        self.error = None
 
     def pass_on(self):
         """Passes on what comes, to its end."""
@@ -65,7 +61,7 @@ class Screen:
         text = self.tail + some
         at = text.find(self.mark)
         end = at if at >= 0 else len(text) - begun(text, self.mark)
-        self.write(text[self.passed : end])
+        self.output.write(text[self.passed : end])
         self.tail, self.passed = text[end:], max(self.passed - end, 0)
         if at < 0:
             return b""
@@ -92,21 +88,10 @@ class Screen:
         if at < 0:
             return b""
         text, self.handed = bytes(self.handed), None
-        self.write(self.heard(text[:at]))
+        self.output.write(self.heard(text[:at]))
         return text[at + len(self.mark) :]
 
     def pass_tail(self):
         """Passes on what is held back; what comes next may still make it the mark."""
-        self.write(self.tail[self.passed :])
+        self.output.write(self.tail[self.passed :])
         self.passed = len(self.tail)
-
-    def write(self, some):
-        try:
-            while some and not self.has_hung_up:
-                # Whoever shares the output may have set it not to wait.
-                select.select([], [self.to], [])
-                some = some[os.write(self.to, some[:MOST_AT_ONCE]) :]
-        except OSError as error:
-            if error.errno != errno.EIO:
-                raise
-            self.has_hung_up = True

@@ -1,4 +1,4 @@
--- What `save D FILE` answers: an image for the command that writes files, or why it cannot be had.
+-- What `save D FILE` answers: an image for the command that writes files, or why it cannot be had. What `picture FILE` answers.
 use Rattle.std.specs.Prelude.{◌≡◌, ℕ, List, [], ◌∷◌, ◌++◌, Result, Ok, Err, IfOk, codes}
 use Rattle.std.specs.Fmt.{decimal}
 use Rattle.std.specs.Global.{Vec}
@@ -33,3 +33,14 @@ pub record IsAnswer (mark : List ℕ) (drive : ℕ) (path text : List ℕ) : Typ
 -- the answer if no command is there that writes files
 abbrev pub unaided_text : List ℕ
 unaided_text = codes "`save` needs the command `./pair console`, which writes files: this program opens none"
+
+-- a wish for a picture: the mark twice, what is wanted, the name of a file in hexadecimal digits, and the mark
+abbrev pub between : List ℕ → List ℕ → List ℕ
+between mark digits = mark ++ (mark ++ (codes "picture " ++ (digits ++ mark)))
+
+abbrev pub wish_of : List ℕ → List ℕ → List ℕ
+wish_of mark path = between mark (encode_lower path)
+
+-- the answer if no command is there that draws
+abbrev pub undrawn_text : List ℕ
+undrawn_text = codes "`picture` needs the command `./pair console`, which writes files: this program opens none"

@@ -7,15 +7,16 @@ ghost use Rattle.console_terminal.specs.Greeting.{greeting_of};
 ghost use Rattle.event_callbacks.specs.Keeping.{Keeps};
 ghost use Rattle.event_callbacks.specs.declared.devices.TheConstants.{SECTOR, SENT, WRITTEN};
 
-use crate::prepared::{Prepared, prepare, with_disk};
+use crate::prepared::{Prepared, STEPS, prepare, with_disk};
 use crate::session::session;
 use crate::sitting::Machine;
 use command_ending::Failure;
 use command_input::{Input, Language, read_input};
 use command_line::ConsoleOrder;
-use command_live::{STEPS, TRIES, drafted, images_of, sizes};
+use command_live::{TRIES, drafted, images_of, sizes};
 use console_terminal::greeting;
 use event_callbacks::{Completes, plain_completions};
+use guest_lockstep::Reads;
 use i8080_words::Fault;
 use pair_generations::{Limits, altairs_may_go_on};
 use pair_standing::Standing;
@@ -26,12 +27,17 @@ use std::thread::Threads;
 use std::time::Clock;
 
 // What each generation may take: as many turns as it likes.
-const LIMITS: Limits = Limits {
-    turns: u64::MAX,
-    steps: STEPS,
-    tries: TRIES,
-    rounds: TRIES,
-};
+fn limits_of(reads: Reads) -> Limits
+    ensures reads { result.reads ≡ reads }
+{
+    Limits {
+        turns: u64::MAX,
+        steps: STEPS,
+        tries: TRIES,
+        rounds: TRIES,
+        reads,
+    }
+}
 
 /// The streams of a console.
 #[derive(Drop)]
@@ -159,7 +165,7 @@ fn run_input<
         workers: with_disk(drafted(workers), disk),
         lines,
         later,
-        limits: LIMITS,
+        limits: limits_of(order.reads),
     };
     let (streams, left) = session(rt, alloc, order, machine, ends, &shelf, streams);
     let standing = match left {

@@ -1,6 +1,6 @@
-//! How an image is handed to the command that writes files.
+//! How an image, or a wish for a picture, is handed to the command that writes files.
 ghost use Rattle.std.specs.Prelude.{◌≡◌, IfOk, string_bytes};
-ghost use Rattle.command_console.specs.Frames.{answer_of, frame_of, unsaved_text};
+ghost use Rattle.command_console.specs.Frames.{answer_of, between, frame_of, unsaved_text, wish_of};
 
 use i8080_words::{Fault, R};
 use std::alloc::{AllocError, Global};
@@ -56,4 +56,18 @@ fn frame(
     text.push_str(path.as_str())?;
     text.push_str(mark)?;
     Ok(text)
+}
+
+/// What is answered to one who wants a picture: the name of its file, in hexadecimal digits and between marks, for the command that draws.
+pub(crate) fn wish(alloc: Global, mark: &str, path: &[u8]) -> Result<String, AllocError>
+    ensures { IfOk result (λ text. string_bytes text ≡ wish_of mark.now path.now) }
+{
+    let path = hex::encode(alloc, path)?;
+    wish_for(alloc, mark, path.as_str())
+}
+
+fn wish_for(alloc: Global, mark: &str, path: &str) -> Result<String, AllocError>
+    ensures { IfOk result (λ text. string_bytes text ≡ between mark.now path.now) }
+{
+    format!(in alloc; "{mark}{mark}picture {path}{mark}")
 }

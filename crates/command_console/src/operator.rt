@@ -1,16 +1,16 @@
 //! What carries out the commands of a console.
 ghost use Rattle.std.specs.Prelude.{◌≡◌, ◌≢◌, [], IfOk, None, string_bytes};
 ghost use Rattle.command_console.specs.Links.{percent_of};
-ghost use Rattle.command_console.specs.Frames.{IsAnswer, unaided_text};
+ghost use Rattle.command_console.specs.Frames.{IsAnswer, undrawn_text, unaided_text, wish_of};
 
-use crate::frame::answer;
+use crate::frame::{answer, wish};
 use crate::hosts::{Hosts, Stopped};
 use crate::mirror::Shelf;
-use console_terminal::{Command, HELP, Interpreter, path_in};
+use console_terminal::{Command, HELP, Interpreter, path_in, rest_in};
 use std::alloc::{AllocError, Global};
 
-/// Has hosts fail and come and packets get lost, says how fast the guest runs and how the pair is, hands out images of its disk, and ends
-/// the console.
+/// Has hosts fail and come and packets get lost, says how fast the guest runs and how the pair is, hands out images of its disk and wishes
+/// for pictures, and ends the console.
 #[derive(Drop)]
 pub(crate) struct Operator<'a> {
     alloc: Global,
@@ -112,6 +112,19 @@ impl<'a> Operator<'a> {
         answer(self.alloc, self.mark, drive, &image, path)
     }
 
+    // A wish for a picture of what has become of the hosts, for the command that draws it.
+    fn picture(&self, path: &[u8]) -> Result<String, AllocError>
+        ensures unaided { self.now.mark.now ≡ [] → IfOk result (λ text. string_bytes text ≡ undrawn_text) }
+        ensures aided { self.now.mark.now ≢ [] → IfOk result (λ text. string_bytes text ≡ wish_of self.now.mark.now path.now) }
+    {
+        if self.mark.is_empty() {
+            return format!(in self.alloc;
+                "`picture` needs the command `./pair console`, which writes files: this program opens none"
+            );
+        }
+        wish(self.alloc, self.mark, path)
+    }
+
     // Has a host fail.
     fn stop(&self, host: u32) -> Result<String, AllocError> {
         match self.hosts.stop(host) {
@@ -140,6 +153,7 @@ impl Interpreter for Operator<'_> {
             Command::Status => self.status().ok(),
             Command::Terminal(_) => None,
             Command::Save(drive) => self.save(drive, path_in(line)).ok(),
+            Command::Picture => self.picture(rest_in(line)).ok(),
             Command::Help => String::from_str(self.alloc, HELP).ok(),
             Command::Quit => {
                 self.hosts.end();

@@ -24,6 +24,10 @@ use shared_disk::{MemoryStore, SectorStore, SharedDisk};
 use std::alloc::Global;
 use std::sync::Arc;
 
+// How many instructions a guest executes in one turn, at most: fewer than `live` has, since one whose speed is bounded stands still
+// between turns.
+pub(crate) const STEPS: u64 = 10_000;
+
 // How many writes wait at most until the copy of the disk has them.
 const WRITES: usize = 1_024;
 
@@ -63,6 +67,7 @@ pub(crate) fn prepare<
 {
     let asked = Asked {
         turns: u64::MAX,
+        steps: STEPS,
         primary: None,
         backup: None,
     };

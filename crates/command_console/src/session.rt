@@ -1,9 +1,10 @@
 //! One sitting at a console.
-ghost use Rattle.std.specs.Prelude.{◌≡◌, IfErr, IfOk};
+ghost use Rattle.std.specs.Prelude.{◌≡◌, IfErr, IfOk, string_bytes};
 ghost use Rattle.command_console.specs.Console.{IsOfRun};
 ghost use Rattle.command_console.specs.Rings.{AreOpen, ComesOutOf, GoesInto};
 ghost use Rattle.command_console.specs.Session.{HasSat};
 ghost use Rattle.command_console.specs.Sitting.{MayRun};
+ghost use Rattle.command_console.specs.Telling.{mark_of_lines};
 ghost use Rattle.pair_generations.specs.Generations.{machine_at};
 ghost use Rattle.pair_lines.specs.Lines.{came_by, gone_by};
 ghost use Rattle.pair_protocol.specs.Faithful.{IsPrefix};
@@ -91,7 +92,15 @@ pub(crate) fn session<
         written,
         end,
     } = sit(
-        rt, alloc, machine, listener, display, lines_to, &hosts, &signs,
+        rt,
+        alloc,
+        machine,
+        listener,
+        display,
+        lines_to,
+        mark_of_lines(order),
+        &hosts,
+        &signs,
     );
     let Listener {
         source,
@@ -109,6 +118,13 @@ pub(crate) fn session<
         Ok(end) => (streams, Ok(leave(end, first, second, shown))),
         Err(failure) => (streams, Err(failure)),
     }
+}
+
+// The mark between which lines about the pair are handed over, if they are.
+fn mark_of_lines(order: &ConsoleOrder) -> &str
+    ensures { result.now ≡ mark_of_lines order.now.apart (string_bytes order.now.mark) }
+{
+    if order.apart { order.mark.as_str() } else { "" }
 }
 
 // The end of the pair, if all that appeared was written.

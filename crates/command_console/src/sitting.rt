@@ -112,6 +112,7 @@ fn run<B: Copies<K> + Send + Drop, K: Drop, D: SectorStore + Send, T: Threads + 
     machine: Machine<B, K, D>,
     hosts: &Hosts,
     told: Producer<String>,
+    mark: &str,
     signs: &Signs,
 ) -> R<AloneEnd<B, D>>
     requires { MayRun B.state B.copied B.machine D.records machine }
@@ -123,19 +124,20 @@ fn run<B: Copies<K> + Send + Drop, K: Drop, D: SectorStore + Send, T: Threads + 
     if signs.is_stopped() {
         return Err(Fault::OutOfMemory);
     }
-    let end = run_pair(rt, alloc, machine, hosts, told);
+    let end = run_pair(rt, alloc, machine, hosts, told, mark);
     signs.stop();
     signs.show_all();
     end
 }
 
-// Runs the pair until it is over. Lines about it go through a ring.
+// Runs the pair until it is over. Lines about it go through a ring, between marks if there is one.
 fn run_pair<B: Copies<K> + Send + Drop, K: Drop, D: SectorStore + Send, T: Threads + Clock + Sync>(
     rt: &T,
     alloc: Global,
     machine: Machine<B, K, D>,
     hosts: &Hosts,
     told: Producer<String>,
+    mark: &str,
 ) -> R<AloneEnd<B, D>>
     requires { MayRun B.state B.copied B.machine D.records machine }
     ensures { IfOk result (HasRun B.state D.records
@@ -149,7 +151,7 @@ fn run_pair<B: Copies<K> + Send + Drop, K: Drop, D: SectorStore + Send, T: Threa
         limits,
     } = machine;
     let gate = Gatekeeper::new(hosts, rt);
-    let mut steward = Announcer::new(alloc, hosts, rt, told);
+    let mut steward = Announcer::new(alloc, hosts, rt, told, mark);
     run_pair_until_over(
         rt,
         alloc,
@@ -190,6 +192,7 @@ fn run_and_show<
     machine: Machine<B, K, D>,
     display: Display<W, N>,
     told: Producer<String>,
+    mark: &str,
     hosts: &Hosts,
     signs: &Signs,
 ) -> (R<AloneEnd<B, D>>, (Display<W, N>, io::Result<()>))
@@ -207,7 +210,7 @@ fn run_and_show<
             ensures { IfOk result (HasRun B.state D.records
                 (machine_at B.machine (B.state machine.workers.primary) (D.records machine.workers.disk))
                 machine.workers.typed0.items machine.workers.typed1.items machine.lines) }
-        { run(rt, alloc, machine, hosts, told, signs) },
+        { run(rt, alloc, machine, hosts, told, mark, signs) },
         move || -> (Display<W, N>, io::Result<()>)
             requires { IsClear display }
             ensures { OnOk result.1 (Wrote W.contents N.contents display result.0) }
@@ -216,7 +219,7 @@ fn run_and_show<
 }
 
 /// Runs a pair at a console until it is over: its keys are those that the listener hears, what its terminals accept appears on the
-/// display, and lines about it go through a ring.
+/// display, and lines about it go through a ring, between marks if there is one.
 pub(crate) fn sit<
     B: Copies<K> + Send + Drop,
     K: Drop + Send,
@@ -233,6 +236,7 @@ pub(crate) fn sit<
     listener: Listener<S, I>,
     display: Display<W, N>,
     told: Producer<String>,
+    mark: &str,
     hosts: &Hosts,
     signs: &Signs,
 ) -> Sat<B, D, S, I, W, N>
@@ -257,7 +261,7 @@ pub(crate) fn sit<
                 (machine_at B.machine (B.state machine.workers.primary) (D.records machine.workers.disk))
                 machine.workers.typed0.items machine.workers.typed1.items machine.lines)
                 × OnOk result.1.1 (Wrote W.contents N.contents display result.1.0) }
-        { run_and_show(rt, alloc, machine, display, told, hosts, signs) },
+        { run_and_show(rt, alloc, machine, display, told, mark, hosts, signs) },
     );
     Sat {
         listener,

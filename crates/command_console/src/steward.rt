@@ -1,6 +1,6 @@
 //! What is told of a pair while it runs.
 ghost use Rattle.std.specs.Prelude.{◌≡◌, ◌∷◌, [], ℕ, IfOk, IsTrue, Option, string_bytes};
-ghost use Rattle.command_console.specs.Telling.{HasTold, shown_text};
+ghost use Rattle.command_console.specs.Telling.{HasTold, handed_text, shown_text, told_as};
 ghost use Rattle.command_live.specs.Lines.{lines_of, with_first};
 ghost use Rattle.command_live.specs.declared.line.Line.{Line};
 ghost use Rattle.command_live.specs.declared.roles.Roles.{Roles};
@@ -19,6 +19,8 @@ pub(crate) struct Announcer<'a, C> {
     hosts: &'a Hosts,
     clock: &'a C,
     lines: Producer<String>,
+    // Between which they are handed over; empty if they are written as they are read.
+    mark: &'a str,
     // Whether all lines of the last event were told. Contracts speak of it.
     is_told: bool,
 }
@@ -30,66 +32,96 @@ impl<C> Drop for Announcer<'_, C> {
             hosts: _,
             clock: _,
             lines: _lines,
+            mark: _,
             is_told: _,
         } = self;
     }
 }
 
 impl<'a, C> Announcer<'a, C> {
-    /// It tells its lines through this ring.
+    /// It tells its lines through this ring, and hands them over between marks if there is one.
     pub(crate) fn new(
         alloc: Global,
         hosts: &'a Hosts,
         clock: &'a C,
         lines: Producer<String>,
-    ) -> Announcer<'a, C> {
+        mark: &'a str,
+    ) -> Announcer<'a, C>
+        ensures { result.mark.now ≡ mark.now }
+    {
         Announcer {
             alloc,
             hosts,
             clock,
             lines,
+            mark,
             is_told: true,
         }
     }
 
     // Tells of an event, before which these hosts ran the machine.
     fn tell(&mut self, event: PairEvent, before: Roles, replay: Option<Replay>)
-        ensures { IsTrue self.new.is_told → HasTold (lines_of event before replay) self.old.lines self.new.lines }
+        ensures told { IsTrue self.new.is_told → HasTold self.old.mark.now (lines_of event before replay) self.old.lines self.new.lines }
+        ensures mark { self.new.mark ≡ self.old.mark }
     {
         let first = first_line(event, before);
         let line = line_of(event, before.after(event), replay);
-        self.is_told = send_both(self.alloc, &mut self.lines, first, line);
+        self.is_told = send_both(self.alloc, &mut self.lines, self.mark, first, line);
     }
 }
 
 // Sends a line that may come first, and another. The second is sent even if the first is lost.
 #[tactic(auto, using(crate::proofs::Tellings::told_both))]
-fn send_both(alloc: Global, ring: &mut Producer<String>, first: Option<Line>, line: Line) -> bool
-    ensures { IsTrue result → HasTold (with_first first line) ring.old ring.new }
+fn send_both(
+    alloc: Global,
+    ring: &mut Producer<String>,
+    mark: &str,
+    first: Option<Line>,
+    line: Line,
+) -> bool
+    ensures { IsTrue result → HasTold mark.now (with_first first line) ring.old ring.new }
 {
     let Some(first) = first else {
-        return send(alloc, ring, line);
+        return send(alloc, ring, mark, line);
     };
-    let was_first = send(alloc, ring, first);
-    send(alloc, ring, line) && was_first
+    let was_first = send(alloc, ring, mark, first);
+    send(alloc, ring, mark, line) && was_first
 }
 
 // Sends a line. It is lost if memory is refused for it, or if the ring is full, which has room for all that a run can have.
 #[tactic(auto, using(crate::proofs::Tellings::told_one))]
-fn send(alloc: Global, ring: &mut Producer<String>, line: Line) -> bool
-    ensures { IsTrue result → HasTold (line ∷ []) ring.old ring.new }
+fn send(alloc: Global, ring: &mut Producer<String>, mark: &str, line: Line) -> bool
+    ensures { IsTrue result → HasTold mark.now (line ∷ []) ring.old ring.new }
 {
-    let Ok(text) = text_of(alloc, line) else {
+    let Ok(text) = text_of(alloc, mark, line) else {
         return false;
     };
     ring.push(text).is_ok()
 }
 
+// How a line is told, by the mark between which lines are handed over.
+fn text_of(alloc: Global, mark: &str, line: Line) -> Result<String, AllocError>
+    ensures { IfOk result (λ text. string_bytes text ≡ told_as mark.now line) }
+{
+    if mark.is_empty() {
+        shown(alloc, line)
+    } else {
+        handed_over(alloc, mark, line)
+    }
+}
+
 // How a line is written at a terminal that takes each byte as it is.
-fn text_of(alloc: Global, line: Line) -> Result<String, AllocError>
+fn shown(alloc: Global, line: Line) -> Result<String, AllocError>
     ensures { IfOk result (λ text. string_bytes text ≡ shown_text line) }
 {
     format!(in alloc; "\r\npair: {line}\r\n")
+}
+
+// How it is handed over to the command that shows it.
+fn handed_over(alloc: Global, mark: &str, line: Line) -> Result<String, AllocError>
+    ensures { IfOk result (λ text. string_bytes text ≡ handed_text mark.now line) }
+{
+    format!(in alloc; "{mark}{mark}pair: {line}{mark}")
 }
 
 impl<C: Clock> Announcer<'_, C> {
@@ -120,18 +152,21 @@ impl<C: Clock> Steward for Announcer<'_, C> {
     }
 
     fn loses_spare(&mut self)
-        ensures { (host : ℕ) × (IsTrue self.new.is_told → HasTold (Line.Lost host ∷ []) self.old.lines self.new.lines) }
+        ensures told { (host : ℕ) × (IsTrue self.new.is_told
+            → HasTold self.old.mark.now (Line.Lost host ∷ []) self.old.lines self.new.lines) }
+        ensures mark { self.new.mark ≡ self.old.mark }
     {
         let roles = self.hosts.roles();
         self.hosts.change(roles.without_spare());
         let line = Line::Lost { host: roles.next };
-        self.is_told = send(self.alloc, &mut self.lines, line);
+        self.is_told = send(self.alloc, &mut self.lines, self.mark, line);
     }
 
     // Nothing is told of how a console ends.
     fn hears(&mut self, event: PairEvent)
-        ensures { (before : Roles) × (replay : Option Replay) × (IsTrue self.new.is_told
-            → HasTold (lines_of event before replay) self.old.lines self.new.lines) }
+        ensures told { (before : Roles) × (replay : Option Replay) × (IsTrue self.new.is_told
+            → HasTold self.old.mark.now (lines_of event before replay) self.old.lines self.new.lines) }
+        ensures mark { self.new.mark ≡ self.old.mark }
     {
         let before = self.hosts.roles();
         self.hosts.change(before.after(event));

@@ -11,6 +11,8 @@ use Rattle.command_line.specs.declared.live_order.Asker.TheVariants.{Nobody, Pri
 use Rattle.command_line.specs.declared.live_order.LiveOrder.{LiveOrder}
 use Rattle.command_line.specs.declared.options.Request.{Request}
 use Rattle.command_line.specs.declared.options.Request.TheVariants as request
+use Rattle.guest_lockstep.specs.declared.reads.Reads.{Reads}
+use Rattle.guest_lockstep.specs.declared.reads.Reads.TheVariants.{Logged, Shared}
 use Rattle.pair_threads.specs.declared.link.Fate.{Fate}
 use Rattle.pair_threads.specs.declared.link.Fate.TheVariants.{Pass, Drop, Twice}
 
@@ -18,6 +20,10 @@ use Rattle.pair_threads.specs.declared.link.Fate.TheVariants.{Pass, Drop, Twice}
 abbrev pub fate_of : List ℕ → Fate
 fate_of word =
     if bytes_eq word (codes "drop") then Drop else (if bytes_eq word (codes "twice") then Twice else Pass)
+
+-- what the log has of a sector that the primary reads, by its name; `logged` is the second
+abbrev pub reads_of : List ℕ → Reads
+reads_of word = if bytes_eq word (codes "shared") then Shared else Logged
 
 -- who asks to go on alone, by the name; `nobody` is the third
 abbrev pub asker_of : List ℕ → Asker
@@ -80,15 +86,19 @@ abbrev pub text_given : Found → List ℕ → List ℕ
 text_given found option = unwrap_or (first_value found option) []
 
 -- each option of `console` sets what it says: how many spare hosts there are, the escape key, how much comes before the first key, these
--- fates in this order, the drives whose disks are saved, and the mark before these; the drives with images are given
+-- fates in this order, what the log has of a sector, the drives whose disks are saved, the mark before these, and whether lines are
+-- handed over; the drives with images
+-- are given
 pub record IsConsoleOrdered (found : Found) (images : List ℕ) (order : ConsoleOrder) : Type 0 where
   pub spares : IsGivenOr 64 2 (one_text found (codes "spares")) order.spares
   pub escape : IsGivenOr 8 5 (one_text found (codes "escape")) order.escape
   pub before : IsGivenOr 64 0 (one_text found (codes "before")) order.before
   pub link : order.link.items ≡ map fate_of (values_of found (codes "link"))
+  pub reads : order.reads ≡ reads_of (text_given found (codes "reads"))
   pub images_are : order.images.items ≡ images
   pub saved : order.saved.items ≡ drives_in found (codes "saved")
   pub mark : string_bytes order.mark ≡ text_given found (codes "mark")
+  pub apart : IsFlag (one_text found (codes "apart")) order.apart
 
 -- the word that names the command: the one after the program's name; [] if there is none
 abbrev pub command_word : List (List ℕ) → List ℕ

@@ -37,6 +37,9 @@ static FATES: &[&str] = &["pass", "drop", "twice"];
 // Who asks to go on alone in a further generation.
 static ASKERS: &[&str] = &["nobody", "primary", "backup"];
 
+// What a packet of the log has of a sector.
+static READS: &[&str] = &["logged", "shared"];
+
 static DRIVES: &[&str] = &["0", "1", "2", "3"];
 
 const IMAGES: &str =
@@ -77,8 +80,14 @@ static CONSOLE_NUMBERS: [(&str, u64, &str, &str); 3] = [
     ),
 ];
 
+const READS_HELP: &str =
+    "Whether the log carries each sector that the primary reads, or names it, so that the backup reads it from the shared disk";
+
 const MARK: &str =
     "What is written between the guest's output and the disks of --saved; ./pair looks for it";
+
+const APART: &str =
+    "Hands each line about the pair over between marks, apart from what else is said; ./pair shows it";
 
 // The commands that run a script: their names, what they do, and how they are called.
 static SCRIPT_COMMANDS: [(&str, &str, &str); 3] = [
@@ -190,7 +199,10 @@ fn console_command<'a>(alloc: Global) -> Result<Command<'a>, AllocError> {
         )
         .override_usage(CONSOLE_USAGE);
     let command = with_link_and_disks(alloc, with_console_numbers(alloc, console)?)?;
-    command.arg(mark(alloc))
+    command
+        .arg(reads(alloc))?
+        .arg(mark(alloc))?
+        .arg(apart(alloc))
 }
 
 // The command with its options whose values are numbers from 0 on.
@@ -208,11 +220,27 @@ fn with_console_numbers<'a>(
     Ok(command)
 }
 
+fn reads<'a>(alloc: Global) -> Arg<'a> {
+    Arg::new(alloc, "reads")
+        .long("reads")
+        .value_name("HOW")
+        .value_parser(ValueParser::Names(READS))
+        .default_value("logged")
+        .help(READS_HELP)
+}
+
 fn mark<'a>(alloc: Global) -> Arg<'a> {
     Arg::new(alloc, "mark")
         .long("mark")
         .value_name("TEXT")
         .help(MARK)
+}
+
+fn apart<'a>(alloc: Global) -> Arg<'a> {
+    Arg::new(alloc, "apart")
+        .long("apart")
+        .action(ArgAction::SetTrue)
+        .help(APART)
 }
 
 // The command with its options that say for how many turns, and when somebody asks.

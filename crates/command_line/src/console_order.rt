@@ -1,5 +1,6 @@
 //! What is asked of a pair that one sits at.
 
+use guest_lockstep::Reads;
 use pair_threads::Fate;
 
 /// How a console is run.
@@ -13,10 +14,14 @@ pub struct ConsoleOrder {
     pub before: u64,
     /// What becomes of the packets of the link, in order; the last fate is that of all further ones.
     pub link: Vec<Fate>,
+    /// Whether the log carries the sectors that the primary reads, or names them.
+    pub reads: Reads,
     /// The drives whose images come before the script.
     pub images: Vec<u8>,
     /// The drives whose images are written after the guest's output.
     pub saved: Vec<u8>,
     /// What is written between the guest's output and these images.
     pub mark: String,
+    /// Whether lines about the pair are handed over between marks.
+    pub apart: bool,
 }

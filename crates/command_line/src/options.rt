@@ -2,7 +2,7 @@
 ghost use Rattle.std.specs.Prelude.{◌≡◌, IfErr, IfOk, Some, codes, map, string_bytes, true};
 ghost use Rattle.clap.specs.Words.{found_of, one_text};
 ghost use Rattle.command_ending.specs.Statuses.{is_of_command_line};
-ghost use Rattle.command_line.specs.Orders.{AreTurns, Asks, AsksHelp, AsksIn, HasFound, IsAsked, IsConsoleOrdered, IsFlag, IsGiven, IsGivenOr, IsOrdered, command_word, asker_of, drive_of, drives_in, fate_of, text_given, values_of};
+ghost use Rattle.command_line.specs.Orders.{AreTurns, Asks, AsksHelp, AsksIn, HasFound, IsAsked, IsConsoleOrdered, IsFlag, IsGiven, IsGivenOr, IsOrdered, command_word, asker_of, drive_of, drives_in, fate_of, reads_of, text_given, values_of};
 
 use crate::commands::pair_command;
 use crate::console_order::ConsoleOrder;
@@ -10,6 +10,7 @@ use crate::live_order::{Asker, LiveOrder};
 use clap::error::ErrorKind;
 use clap::{ArgMatches, Error};
 use command_ending::Failure;
+use guest_lockstep::Reads;
 use pair_threads::Fate;
 use std::alloc::{AllocError, Global};
 
@@ -202,15 +203,19 @@ fn console_order(
     let before = number(matches, "before").unwrap_or(0);
     let link = link_in(alloc, matches)?;
     let saved = saved_in(alloc, matches)?;
+    let reads = reads_in(matches);
     let mark = text(alloc, matches, "mark")?;
+    let apart = flag(matches, "apart");
     Ok(ConsoleOrder {
         spares,
         escape,
         before,
         link,
+        reads,
         images,
         saved,
         mark,
+        apart,
     })
 }
 
@@ -242,6 +247,23 @@ fn text(alloc: Global, matches: &ArgMatches<'_>, option: &str) -> Result<String,
     match matches.get_str(option) {
         Some(text) => String::from_str(alloc, text),
         None => Ok(String::new(alloc)),
+    }
+}
+
+// What the log has of a sector: `logged` if the option was not given.
+fn reads_in(matches: &ArgMatches<'_>) -> Reads
+    ensures { result ≡ reads_of (text_given (found_of matches.now) (codes "reads")) }
+{
+    reads_of(matches.get_str("reads").unwrap_or(""))
+}
+
+// What the log has of a sector, by its name.
+fn reads_of(word: &str) -> Reads
+    ensures { result ≡ reads_of word.now }
+{
+    match word {
+        "shared" => Reads::Shared,
+        _ => Reads::Logged,
     }
 }
 

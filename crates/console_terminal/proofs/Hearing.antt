@@ -90,6 +90,7 @@ quit_by_order (Order.Command (Command.Speed steps)) = refl
 quit_by_order (Order.Command Command.Status) = refl
 quit_by_order (Order.Command (Command.Terminal port)) = refl
 quit_by_order (Order.Command (Command.Save drive)) = refl
+quit_by_order (Order.Command Command.Picture) = refl
 quit_by_order (Order.Command Command.Help) = refl
 quit_by_order (Order.Command Command.Quit) = refl
 

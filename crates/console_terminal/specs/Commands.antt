@@ -1,5 +1,5 @@
 -- The commands of a console, and how a line spells them.
-use Rattle.std.specs.Prelude.{◌≡◌, ◌++◌, ℕ, ◌+◌, ◌*◌, ◌-◌, ◌==◌, ◌&&◌, ◌||◌, nat_le, nat_lt, Bool, not, if◌then◌else◌, List, [], ◌∷◌, take, drop, length, map, Option, None, Some, bytes_eq, codes}
+use Rattle.std.specs.Prelude.{◌≡◌, ◌++◌, ℕ, ◌+◌, ◌*◌, ◌-◌, ◌==◌, ◌&&◌, ◌||◌, nat_le, nat_lt, Bool, true, not, if◌then◌else◌, List, [], ◌∷◌, take, drop, length, map, Option, None, Some, bytes_eq, codes}
 use Rattle.std.specs.List.{position_or_len, prefix_len}
 use Rattle.std.specs.Option.{option_and_then, option_map}
 use Rattle.std.specs.Char.{to_ascii_lowercase}
@@ -43,7 +43,8 @@ abbrev pub keywords : List (List ℕ × Keyword)
 keywords =
     (codes "stop", Keyword.Stop) ∷ (codes "spare", Keyword.Spare) ∷ (codes "cut", Keyword.Cut) ∷ (codes "mend", Keyword.Mend)
     ∷ (codes "drop", Keyword.Drop) ∷ (codes "speed", Keyword.Speed) ∷ (codes "status", Keyword.Status)
-    ∷ (codes "terminal", Keyword.Terminal) ∷ (codes "save", Keyword.Save) ∷ (codes "help", Keyword.Help) ∷ (codes "quit", Keyword.Quit) ∷ []
+    ∷ (codes "terminal", Keyword.Terminal) ∷ (codes "save", Keyword.Save) ∷ (codes "picture", Keyword.Picture)
+    ∷ (codes "help", Keyword.Help) ∷ (codes "quit", Keyword.Quit) ∷ []
 
 -- the two are the same but for the case of letters
 abbrev pub is_same_word : List ℕ → List ℕ → Bool
@@ -120,14 +121,21 @@ command_by Keyword.Drop value = option_map (λ (percent : ℕ). Command.Drop per
 command_by Keyword.Speed value = option_map (λ (steps : ℕ). Command.Speed steps) (speed_of value)
 command_by Keyword.Terminal value = option_map (λ port. Command.Terminal port) (port_of value)
 command_by Keyword.Save value = option_map (λ (drive : ℕ). Command.Save drive) (drive_of value)
+command_by Keyword.Picture value = if is_empty value then None else Some Command.Picture
 command_by keyword value = if is_empty value then plain_command keyword else None
 
--- a line of this keyword may have this word, or none, after the one that is its value: a file is named there, and nothing else
+-- a line of this keyword may have this word, or none, after the one that is its value: a file is named there, or its name goes on, and
+-- nothing else
 abbrev pub is_fit_end : Keyword → List ℕ → Bool
 is_fit_end Keyword.Save more = not (is_empty more)
+is_fit_end Keyword.Picture more = true
 is_fit_end _ more = is_empty more
 
--- the file that a line names: all that comes after its second word
+-- the file that a line of `picture` names: all that comes after its first word
+abbrev pub rest_in : List ℕ → List ℕ
+rest_in line = without_spaces (after_word line)
+
+-- that of a line of `save`: all that comes after its second word
 abbrev pub path_in : List ℕ → List ℕ
 path_in line = without_spaces (after_word (after_word line))
 
@@ -159,4 +167,5 @@ mistake_text (Mistake.Unfit Keyword.Drop) = codes "`drop` is followed by a numbe
 mistake_text (Mistake.Unfit Keyword.Speed) = codes "`speed` is followed by 0, or by a number from 10000 to 999999999"
 mistake_text (Mistake.Unfit Keyword.Terminal) = codes "`terminal` is followed by 0 or 1"
 mistake_text (Mistake.Unfit Keyword.Save) = codes "`save` is followed by a drive, 0 to 3, and the name of a file"
+mistake_text (Mistake.Unfit Keyword.Picture) = codes "`picture` is followed by the name of a file"
 mistake_text (Mistake.Unfit _) = codes "nothing comes after that word"

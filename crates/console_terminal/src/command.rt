@@ -1,6 +1,6 @@
 //! The commands of a console, and how a line spells them.
 ghost use Rattle.std.specs.Prelude.{◌≡◌, ◌≤◌, length, map};
-ghost use Rattle.console_terminal.specs.Commands.{after_word, bytes_before_space, command_by, digit_of, drive_of, first_word, is_fit_end, is_same_word, keyword_among, keyword_of, long_number_of, longer, mistake_text, number_of, order_of, path_in, plain_command, port_of, spaces_before, speed_of};
+ghost use Rattle.console_terminal.specs.Commands.{after_word, bytes_before_space, command_by, digit_of, drive_of, first_word, is_fit_end, is_same_word, keyword_among, keyword_of, long_number_of, longer, mistake_text, number_of, order_of, path_in, plain_command, port_of, rest_in, spaces_before, speed_of};
 
 use crate::port::Port;
 
@@ -25,6 +25,8 @@ pub enum Command {
     Terminal(Port),
     /// The disk of this drive is saved to the file that the line names.
     Save(u8),
+    /// What has become of the hosts is drawn, to the file that the line names.
+    Picture,
     /// Which commands there are.
     Help,
     /// The console ends.
@@ -43,6 +45,7 @@ pub enum Keyword {
     Status,
     Terminal,
     Save,
+    Picture,
     Help,
     Quit,
 }
@@ -79,12 +82,13 @@ speed N      at most N steps a second (2 MHz: about 300000); 0 is no limit\r\n\
 status       how the pair is\r\n\
 terminal P   turns to the terminal of port 0 or 1\r\n\
 save D FILE  the disk of drive D, 0 to 3, as it is now, is written to a file\r\n\
+picture FILE what has become of the hosts so far is drawn, as an SVG file\r\n\
 help         these lines\r\n\
 quit         ends the console\r\n\
 The escape key once more types that key itself; ESC or Ctrl-C leaves the line.";
 
 // Each keyword with its word.
-static KEYWORDS: [(&[u8], Keyword); 11] = [
+static KEYWORDS: [(&[u8], Keyword); 12] = [
     (b"stop", Keyword::Stop),
     (b"spare", Keyword::Spare),
     (b"cut", Keyword::Cut),
@@ -94,6 +98,7 @@ static KEYWORDS: [(&[u8], Keyword); 11] = [
     (b"status", Keyword::Status),
     (b"terminal", Keyword::Terminal),
     (b"save", Keyword::Save),
+    (b"picture", Keyword::Picture),
     (b"help", Keyword::Help),
     (b"quit", Keyword::Quit),
 ];
@@ -123,11 +128,21 @@ fn is_fit_end(keyword: Keyword, more: &[u8]) -> bool
 {
     match keyword {
         Keyword::Save => !more.is_empty(),
+        Keyword::Picture => true,
         _ => more.is_empty(),
     }
 }
 
-/// The file that a line names, if it is that of a command with a file: all that comes after its second word.
+/// The file that a line of `picture` names: all that comes after its first word.
+pub fn rest_in(line: &[u8]) -> &[u8]
+    ensures { result.now ≡ rest_in line.now }
+{
+    let (_, after) = next_word(line);
+    let (_, path) = after.split_at(spaces_before(after));
+    path
+}
+
+/// The file that a line of `save` names: all that comes after its second word.
 pub fn path_in(line: &[u8]) -> &[u8]
     ensures { result.now ≡ path_in line.now }
 {
@@ -200,6 +215,7 @@ fn command_by(keyword: Keyword, value: &[u8]) -> Option<Command>
         Keyword::Speed => Some(Command::Speed(speed_of(value)?)),
         Keyword::Terminal => Some(Command::Terminal(port_of(value)?)),
         Keyword::Save => Some(Command::Save(drive_of(value)?)),
+        Keyword::Picture => (!value.is_empty()).then_some(Command::Picture),
         _ if value.is_empty() => plain_command(keyword),
         _ => None,
     }
@@ -313,6 +329,7 @@ impl Mistake {
             Mistake::Unfit(Keyword::Save) => {
                 "`save` is followed by a drive, 0 to 3, and the name of a file"
             }
+            Mistake::Unfit(Keyword::Picture) => "`picture` is followed by the name of a file",
             Mistake::Unfit(_) => "nothing comes after that word",
         }
     }

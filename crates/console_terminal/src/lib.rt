@@ -12,7 +12,7 @@ mod port;
 mod signs;
 mod welcome;
 
-pub use command::{Command, HELP, Keyword, Mistake, Order, order_of, path_in};
+pub use command::{Command, HELP, Keyword, Mistake, Order, order_of, path_in, rest_in};
 pub use desk::{Act, Desk};
 pub use display::Display;
 pub use echo::show_all;

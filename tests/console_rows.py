@@ -1,0 +1,260 @@
+"""Cases of tests/console about the lines that tell of a pair: on the last row of a terminal, as a person sees it, and in pictures."""
+import contextlib
+import os
+import re
+import signal
+import subprocess
+import xml.etree.ElementTree
+
+from console_sitting import ENTER, ESCAPE, PATIENCE, TOP, AtTerminal, BetweenPipes, ended_at_last, expect, folder, set_size
+from emulated import Emulated
+
+CASES = []
+SIZE = 12, 100
+
+GREETING = "pair: an Altair 8800 on two hosts. Ctrl-E opens a line of commands; help lists them."
+DUMP = ["D 0000", "0000 31 00 04 3E 03 D3 10 3E 95 D3 10 C3 45 00 00 00", "*"]
+
+# A program that takes the place of the real one: at each key it writes what comes next, in which {} is what it hands a line over between.
+PLAYER = """\
+#!/usr/bin/env python3
+import os, sys
+words = sys.argv[1:]
+mark = words[words.index("--mark") + 1].encode() if "--apart" in words else b""
+os.read(0, int(words[words.index("--before") + 1]))
+for some in %r:
+    os.write(1, some.replace(b"<", mark * 2 + b"pair: ").replace(b">", mark))
+    if not os.read(0, 1):
+        break
+"""
+
+
+def case(test):
+    """Makes a function a case, which is given what makes the words of a command; its name says what must hold."""
+    CASES.append(test)
+    return test
+
+
+class OnScreen(AtTerminal):
+    """A console at a terminal that is looked at."""
+
+    def __init__(self, words, size=SIZE, **how):
+        super().__init__(words, is_apart=False, size=size, **how)
+        self.screen, self.seen = Emulated(*size), 0
+
+    def hear(self, within):
+        has_come = super().hear(within)
+        self.screen.take(self.shown[self.seen :])
+        self.seen = len(self.shown)
+        return has_come
+
+    def resize(self, size):
+        self.screen.resize(*size)
+        set_size(self.terminal, size)
+
+    def texts(self):
+        """The rows that are not empty, but for the last one."""
+        return [it for it in self.screen.texts()[:-1] if it]
+
+    def await_row(self, pattern):
+        """Waits until this is on the last row."""
+        self.await_that(lambda: re.search(pattern, self.screen.texts()[-1]), f"{pattern!r} on the last row of {self.screen.texts()}")
+
+
+def looked_at(words, **how):
+    return ended_at_last(OnScreen(words, **how))
+
+
+@contextlib.contextmanager
+def played(*steps, **how):
+    """A console whose program writes these texts, one at each key."""
+    with folder() as room:
+        player = room / "player"
+        player.write_text(PLAYER % (steps,))
+        player.chmod(0o755)
+        with looked_at([TOP / "tools/console.py", player, "console"], **how) as console:
+            console.await_that(console.is_raw, "the raw mode")
+            yield console
+
+
+@case
+def a_line_is_on_the_last_row_and_the_guest_above_it(command):
+    lines = [GREETING, "MONITOR", "*", "pair> stop 0", "host 0 has failed, and host 1 is told"]
+    with looked_at(command("--spares", "2")) as console:
+        console.await_shown(b"MONITOR\r\n*")
+        console.await_row("^generation 1: host 0 is the primary, host 1 its backup$")
+        console.say("stop 0")
+        console.await_row("^generation 2: host 1 is the primary, host 2 its backup; the pair is whole again$")
+        expect(console.texts(), lines, "the rows above")
+        for number in range(5):
+            console.type_slowly(b"D 0000")
+            lines += ["*" * (number > 0) + DUMP[0], DUMP[1]]
+            console.await_that(lambda: console.shown.count(b" 00 00\r\n*") == number + 1, "a dump")
+        expect(console.texts(), [*lines, "*"][1 - SIZE[0] :], "the rows above, after they have scrolled")
+        console.await_row("^generation 2: ")
+        expect(console.quit(), 0, "the status")
+        expect((console.screen.all_scroll(), console.screen.texts()[-1]), (True, ""), "that all rows scroll, and the last one")
+        expect(console.texts(), [*lines, "*", "pair> quit"][2 - SIZE[0] :], "the rows above, at the end")
+        expect((console.screen.row, console.screen.column), (SIZE[0] - 2, 0), "where the cursor is at the end")
+
+
+@case
+def a_line_waits_for_the_end_of_a_sequence(command):
+    steps = [
+        (b"\x1b[5;<first><second>", b"9HX", "second"),
+        (b"\x1b7\x1b[3;3HY<third>", b"\x1b8Z", "third"),
+        (b"\x1b[s\x1b[4;4HY<fourth>", b"\x1b[uZ", "fourth"),
+        (b"\x1b]0;title<fifth>", b" and more\x07Z", "fifth"),
+        (b"\x1b<sixth>", b"[5;13HZ", "sixth"),
+        (b"\x1b(<seventh>", b"BZ", "seventh"),
+        (b"\xc3<eighth>", b"\xa9", "eighth"),
+    ]
+    with played(*[part for begin, end, _ in steps for part in (begin, end)]) as console:
+        for _, _, line in steps:
+            console.type(b"..")
+            console.await_row(f"^{line}$")
+        texts = [""] * (SIZE[0] - 1)
+        texts[2], texts[3], texts[4] = "  Y", "   Y", "        XZZZZZ\xc3\xa9"
+        expect(console.screen.texts()[:-1], texts, "the rows above")
+        expect((b"first" in console.shown, b"\xc3\xa9" in console.shown), (False, True), "that a line is left out, and a character is whole")
+
+
+@case
+def a_region_of_the_guest_is_its_own(command):
+    with played(b"<first>", b"\x1b[2;5r<second>", b"\x1b[r<third>", b"\x1bc<fourth>", b"\x1b[1;12r<fifth>", b"\x1b[2J<sixth>") as console:
+        regions = {}
+        for line in ("first", "second", "third", "fourth", "fifth", "sixth"):
+            console.await_row(f"^{line}$")
+            regions[line] = console.screen.region
+            console.type(b".")
+        own = {line: (1, 4) if line == "second" else (0, SIZE[0] - 2) for line in regions}
+        expect(regions, own, "the rows that scroll")
+
+
+@case
+def a_line_is_on_the_last_row_of_a_terminal_of_another_size(command):
+    with played(b"text\r\n" * 11 + b"<a line of thirty-six letters, a cut>", b"more") as console:
+        console.await_row("letters, a cut$")
+        for size in ((8, 30), (20, 80), (3, 80), (12, 19), (4, 20)):
+            console.resize(size)
+            has_row = size[0] >= 4 and size[1] >= 20
+            region = (0, size[0] - 1 - has_row)
+            row = "a line of thirty-six letters, a cut"[: size[1]].rstrip()
+            console.await_that(lambda: console.screen.region == region, f"that other rows scroll at {size}")
+            if has_row:
+                console.await_row(f"^{row}$")
+        console.type(b".")
+        console.await_shown(b"more")
+        expect(console.screen.texts()[2], "more", "the row above")
+
+
+@case
+def the_last_row_is_the_guests_again_at_the_end(command):
+    ends = {
+        "quit": (lambda console: console.say("quit"), 0),
+        "a signal": (lambda console: console.run.terminate(), 128 + signal.SIGTERM),
+        "a killed program": (lambda console: os.kill(console.program(), signal.SIGKILL), 128 + signal.SIGKILL),
+        "a hang-up": (lambda console: console.run.send_signal(signal.SIGHUP), 0),
+    }
+    for of, (end, status) in ends.items():
+        with looked_at(command()) as console:
+            console.await_shown(b"MONITOR\r\n*")
+            console.await_row("^generation 1: ")
+            end(console)
+            expect(console.status(), status, f"the status after {of}")
+            expect((console.screen.all_scroll(), console.screen.texts()[-1]), (True, ""), f"that all rows scroll, and the last one, after {of}")
+            last = max(place for place, text in enumerate(console.screen.texts()) if text)
+            expect(console.screen.row > last or console.screen.column > 0, True, f"that the cursor is after the last text, after {of}")
+
+
+@case
+def a_sequence_that_is_cut_off_does_not_hold_the_row(command):
+    with played(b"<first>text\x1b[5;", b"") as console:
+        console.await_row("^first$")
+        console.run.terminate()
+        console.status()
+        expect((console.screen.all_scroll(), console.screen.texts()[0], console.screen.texts()[-1]), (True, "text", ""), "the rows at the end")
+
+
+@case
+def lines_are_written_where_the_cursor_is_if_there_is_no_row_for_them(command):
+    told = b"\r\npair: host 0 has failed, and host 1 asks to go on alone\r\n\r\npair: host 1 has won: "
+    for words, how in ((["--lines", "here"], {}), ([], {"kind": "dumb"}), (["--lines=row"], {"size": (3, 100)}), ([], {"size": (24, 19)})):
+        with looked_at(command(*words), **how) as console:
+            console.await_shown(b"MONITOR\r\n*")
+            console.say("stop 0")
+            console.await_shown(told)
+            expect((console.quit(), console.shown.count(b"\x1b")), (0, 0), "the status, and the sequences")
+
+
+@case
+def lines_go_where_standard_error_goes_unless_they_are_asked_for(command):
+    for words, is_told in (([], True), (["--lines", "row"], False)):
+        with ended_at_last(AtTerminal(command(*words), size=SIZE)) as console:
+            console.await_shown(b"MONITOR\r\n*")
+            console.await_that(lambda: b"generation 1: " in (console.said if is_told else console.shown), "the first line")
+            expect(console.quit(), 0, "the status")
+            expect((b"\npair: generation" in console.said, b"\x1b" in console.shown), (is_told, not is_told), "where lines went")
+
+
+@case
+def a_program_by_itself_hands_lines_over_only_if_it_is_told_to(command):
+    with ended_at_last(AtTerminal(command())) as console:
+        console.await_shown(b"MONITOR")
+        program = os.readlink(f"/proc/{console.program()}/exe")
+        expect(console.quit(), 0, "the status")
+    line = b"pair: generation 1: host 0 is the primary, host 1 its backup"
+    halts = b"mem 0000 76\n"
+    for words in ([], ["--mark", "=="], ["--apart"], ["--apart", "--mark", "=="]):
+        told = b"====%s==" if len(words) == 3 else b"\r\n%s\r\n"
+        alone = subprocess.run([program, "console", "--before", str(len(halts)), *words], input=halts, capture_output=True, timeout=PATIENCE)
+        said = alone.stderr.partition(b" lists them.\r\n")[2]
+        expect((alone.returncode, said), (0, told % line), f"the status, and what is said with {words}")
+
+
+def drawn_in(path):
+    """What a picture has: how many elements of each class, and its texts."""
+    elements = list(xml.etree.ElementTree.parse(path).iter())
+    classes = [it.get("class") for it in elements]
+    counts = {it: classes.count(it) for it in ("primary", "backup", "joining", "alone", "cross", "arrow")}
+    return counts, [it.text for it in elements if it.tag.endswith("text")]
+
+
+@case
+def a_picture_has_what_became_of_the_hosts(command):
+    for place in (OnScreen, AtTerminal, BetweenPipes):
+        with folder() as room, ended_at_last(place(command())) as console:
+            console.await_that(lambda: b"MONITOR\r\n*" in console.shown, "the monitor")
+            for line, host in ((b"stop 0", 2), (b"stop 2", 3)):
+                console.type(ESCAPE + line + ENTER)
+                console.await_that(lambda: b", host %d its backup" % host in console.shown + console.said, f"host {host}")
+            console.type(ESCAPE + b"picture  %s  " % os.fsencode(room / "of hosts.svg") + ENTER)
+            console.await_that(lambda: b"is drawn in " in console.shown + console.said, "the picture")
+            counts, texts = drawn_in(room / "of hosts.svg")
+            expect(counts, {"primary": 3, "backup": 3, "joining": 2, "alone": 2, "cross": 2, "arrow": 2}, "what is drawn")
+            expect([it for it in texts if it.startswith("host ")], ["host 0", "host 1", "host 2", "host 3"], "the columns")
+            told = ["generation 1: primary", "generation 2: primary", "generation 3: primary", "goes on alone"]
+            expect([it for it in told if it not in texts], [], "what is not said")
+            replayed = [it for it in texts if re.fullmatch(r"replayed \d+ steps in \d+\.\d ms", it)]
+            expect(len(replayed), 1, "how often it says what was replayed")
+            expect(console.quit(), 0, "the status")
+
+
+@case
+def a_picture_that_cannot_be_written_is_named_with_the_reason(command):
+    with folder() as room, ended_at_last(AtTerminal(command())) as console:
+        console.await_shown(b"MONITOR\r\n*")
+        refusals = [
+            (f"picture {room / 'none/a.svg'}", rb"none/a.svg is not written: No such file or directory"),
+            (f"picture {room}", rb"%s is not written: Is a directory" % os.fsencode(room)),
+            ("picture", rb"picture\r\n`picture` is followed by the name of a file"),
+        ]
+        for line, why in refusals:
+            console.say(line)
+            console.await_said(why)
+        expect(os.listdir(room), [], "the files")
+        program = os.readlink(f"/proc/{console.program()}/exe")
+        expect(console.quit(), 0, "the status")
+    alone = subprocess.run([program, "console"], input=b"\x05picture a.svg\r\x05quit\r", capture_output=True, timeout=PATIENCE)
+    needs = b"`picture` needs the command `./pair console`" in alone.stderr
+    expect((alone.returncode, needs), (0, True), "the status, and what the program says by itself")
