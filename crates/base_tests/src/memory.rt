@@ -90,3 +90,47 @@ fn pages_show_the_bytes_that_memory_is_made_of(rt: HostRuntime) -> Result<(), Fa
     }
     Ok(())
 }
+
+// An address, and the byte written at it.
+static WRITTEN: [(u16, u8); 8] = [
+    (0x0000, 0x11),
+    (0x0001, 0x22),
+    (0x0002, 0x33),
+    (0x00ff, 0x44),
+    (0x0100, 0x55),
+    (0x0101, 0x66),
+    (0xfffe, 0x77),
+    (0xffff, 0x88),
+];
+
+// An address, the byte after it, the word at it, and the word after it.
+static AFTER: [(u16, u8, u16, u16); 4] = [
+    (0x0000, 0x22, 0x2211, 0x3322),
+    (0x00ff, 0x55, 0x5544, 0x6655),
+    (0xfffe, 0x88, 0x8877, 0x1188),
+    (0xffff, 0x11, 0x1188, 0x2211),
+];
+
+#[test]
+fn words_wrap_after_the_last_address(rt: HostRuntime) -> Result<(), Fail> {
+    let mut memory = Memory::new(rt.alloc())?;
+    for (address, byte) in &WRITTEN {
+        memory.write(*address, *byte);
+    }
+    let mut bytes = Vec::with_capacity(rt.alloc(), BYTES)?;
+    for address in 0..=u16::MAX {
+        bytes.push(memory.read(address))?;
+    }
+    assert!(rt; bytes.len() == BYTES);
+    let made = Memory::of_bytes(rt.alloc(), &bytes)?;
+    for (address, byte, word, next) in &AFTER {
+        assert!(rt;
+            memory.read_byte_after(*address) == *byte && made.read_byte_after(*address) == *byte
+        );
+        assert!(rt; memory.read_word(*address) == *word && made.read_word(*address) == *word);
+        assert!(rt;
+            memory.read_word_after(*address) == *next && made.read_word_after(*address) == *next
+        );
+    }
+    Ok(())
+}

@@ -106,6 +106,18 @@ impl Bus for Wiring {
         self.memory.read(address)
     }
 
+    fn read_byte_after(&self, address: u16) -> u8 {
+        self.memory.read_byte_after(address)
+    }
+
+    fn read_word(&self, address: u16) -> u16 {
+        self.memory.read_word(address)
+    }
+
+    fn read_word_after(&self, address: u16) -> u16 {
+        self.memory.read_word_after(address)
+    }
+
     fn write(&mut self, address: u16, byte: u8) {
         self.memory.write(address, byte);
     }

@@ -1,2 +1,3 @@
 pub mod JoinedPages
 pub mod NewMemory
+pub mod WrappedAround

@@ -1,6 +1,7 @@
 //! What the processor is wired to.
-ghost use Rattle.std.specs.Prelude.{◌≡◌, ℕ, IfSome};
-ghost use Rattle.i8080_words.specs.Effects.{Access};
+ghost use Rattle.std.specs.Prelude.{◌≡◌, ℕ, ◌+◌, IfSome};
+ghost use Rattle.i8080_words.specs.Arithmetic.{wrapped, word_of};
+ghost use Rattle.i8080_words.specs.Effects.{Access, word_at};
 ghost use Rattle.i8080_words.specs.Effects.Access.{Write, Input, Output};
 
 /// The memory and the devices that a processor is wired to. A read of memory changes nothing; a write, an input or an
@@ -24,6 +25,32 @@ pub trait Bus {
     /// The byte at an address of memory.
     fn read(&self, address: u16) -> u8
         ensures { result ≡ byte_at (state self.now) address };
+
+    /// The byte after an address of memory. Addresses wrap modulo 65,536.
+    fn read_byte_after(&self, address: u16) -> u8
+        ensures { result ≡ byte_at (state self.now) (wrapped (address + 1)) }
+    {
+        self.read(address.wrapping_add(1))
+    }
+
+    /// The word at an address of memory, whose low byte comes first.
+    fn read_word(&self, address: u16) -> u16
+        ensures { result ≡ word_at (byte_at (state self.now)) address }
+    {
+        u16::from_le_bytes([self.read(address), self.read(address.wrapping_add(1))])
+    }
+
+    /// The word after an address of memory.
+    fn read_word_after(&self, address: u16) -> u16
+        ensures { result ≡ word_of
+            (byte_at (state self.now) (wrapped (address + 1)))
+            (byte_at (state self.now) (wrapped (address + 2))) }
+    {
+        u16::from_le_bytes([
+            self.read(address.wrapping_add(1)),
+            self.read(address.wrapping_add(2)),
+        ])
+    }
 
     /// Writes a byte at an address of memory.
     fn write(&mut self, address: u16, byte: u8)

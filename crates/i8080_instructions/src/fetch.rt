@@ -11,16 +11,7 @@ pub fn fetch_byte<B: Bus>(bus: &B, start: u16, next: &mut u16) -> u8
     ensures next { next.new ≡ wrapped (start + 2) }
 {
     *next = offset(start, 2);
-    bus.read(offset(start, 1))
-}
-
-/// The word after the code at an address.
-pub fn word_after<B: Bus>(bus: &B, start: u16) -> u16
-    ensures { result ≡ word_of
-        (B.byte_at (B.state bus.now) (wrapped (start + 1)))
-        (B.byte_at (B.state bus.now) (wrapped (start + 2))) }
-{
-    u16::from_le_bytes([bus.read(offset(start, 1)), bus.read(offset(start, 2))])
+    bus.read_byte_after(start)
 }
 
 /// The word after the code at an address; the next code is after that word.
@@ -31,5 +22,5 @@ pub fn fetch_word<B: Bus>(bus: &B, start: u16, next: &mut u16) -> u16
     ensures next { next.new ≡ wrapped (start + 3) }
 {
     *next = offset(start, 3);
-    word_after(bus, start)
+    bus.read_word_after(start)
 }

@@ -4,7 +4,7 @@
 //! PC, and the code does not use it.
 ghost use Rattle.std.specs.Prelude.{◌≡◌, ◌+◌, ◌*◌, ◌/◌, ◌%◌};
 ghost use Rattle.i8080_words.specs.Arithmetic.{wrapped};
-ghost use Rattle.i8080_words.specs.Effects.{after_accesses, word_at, pair_value as value_of_pair, with_pair, operand, put, holds, pushed_value, with_pc, with_pushed};
+ghost use Rattle.i8080_words.specs.Effects.{after_accesses, pair_value as value_of_pair, with_pair, operand, put, holds, pushed_value, with_pc, with_pushed};
 
 use crate::bus::Bus;
 use i8080_words::{
@@ -92,13 +92,6 @@ pub fn is_met(condition: Condition, flags: Flags) -> bool
         Condition::P => !flags.s,
         Condition::M => flags.s,
     }
-}
-
-/// The word whose low byte is at an address.
-pub fn read_word<B: Bus>(bus: &B, address: u16) -> u16
-    ensures { result ≡ word_at (B.byte_at (B.state bus.now)) address }
-{
-    u16::from_le_bytes([bus.read(address), bus.read(offset(address, 1))])
 }
 
 /// The byte in a register, or in memory for `M`.

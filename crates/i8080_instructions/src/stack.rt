@@ -4,8 +4,7 @@ ghost use Rattle.i8080_words.specs.Arithmetic.{wrapped, word_of};
 ghost use Rattle.i8080_words.specs.Effects.{after_accesses, word_at, with_pushed, pushed_word, popped, holds, with_pc};
 
 use crate::bus::Bus;
-use crate::fetch::word_after;
-use crate::operands::{is_met, offset, read_word, set_stack_pair};
+use crate::operands::{is_met, offset, set_stack_pair};
 use i8080_words::{AddressRegister, Condition, Regs, StackPair};
 
 /// Pushes a word: its high byte at SP - 1, its low byte at SP - 2.
@@ -28,7 +27,7 @@ fn pop_word<B: Bus>(bus: &B, regs: &mut Regs) -> u16
 {
     let top = regs.sp.get();
     regs.sp = AddressRegister::new(offset(top, 2));
-    read_word(bus, top)
+    bus.read_word(top)
 }
 
 /// Pops a word into a pair.
@@ -70,7 +69,7 @@ pub fn jump_if<B: Bus>(bus: &B, condition: Condition, start: u16, regs: &Regs) -
         else wrapped (start + 3)) }
 {
     if is_met(condition, regs.flags) {
-        word_after(bus, start)
+        bus.read_word_after(start)
     } else {
         offset(start, 3)
     }

@@ -96,7 +96,7 @@ pub fn inr(value: u8, carry: bool) -> (u8, Flags)
     ensures { result ≡ incremented value carry }
 {
     let sum = value.wrapping_add(1);
-    (sum, flags_of_result(sum, value & 0x0f == 0x0f, carry))
+    (sum, flags_of_result(sum, sum & 0x0f == 0, carry))
 }
 
 /// A byte minus 1, modulo 256; the carry is unchanged (DCR).

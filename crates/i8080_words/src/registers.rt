@@ -40,17 +40,18 @@ impl AddressRegister {
 }
 
 /// The registers: the accumulator A, the six that form the pairs BC, DE and HL, the condition flags, the stack pointer
-/// and the program counter. Addresses wrap modulo 65,536.
+/// and the program counter. Addresses wrap modulo 65,536. The low register of a pair comes first, so that a host loads and stores
+/// a pair as one word.
 #[derive(Clone, Copy, PartialEq, Eq, Default)]
 pub struct Regs {
     pub pc: AddressRegister,
     pub sp: AddressRegister,
-    pub b: u8,
     pub c: u8,
-    pub d: u8,
+    pub b: u8,
     pub e: u8,
-    pub h: u8,
+    pub d: u8,
     pub l: u8,
+    pub h: u8,
     pub a: u8,
     pub flags: Flags,
 }

@@ -1,6 +1,6 @@
 //! The asynchronous communications interface adapter of one port, as the processor and the terminal see it.
 
-ghost use Rattle.std.specs.Prelude.{◌≡◌, ◌≤◌};
+ghost use Rattle.std.specs.Prelude.{◌≡◌, ◌≤◌, if◌then◌else◌};
 ghost use Rattle.serial_2sio.specs.Port as table;
 
 use i8080_words::{Fault, R};
@@ -17,6 +17,9 @@ const TDRE: u8 = 0x02;
 const OVRN: u8 = 0x20;
 
 const IRQ: u8 = 0x80;
+
+// Below this, a control byte enables no interrupt: its bits 7 to 5 are 0.
+const ENABLES: u8 = 0x20;
 
 /// The receiver, and how the status register shows it (MC6850 data sheet, "Receiver Overrun").
 #[derive(Clone, Copy, PartialEq, Eq)]
@@ -128,6 +131,9 @@ impl Acia {
     pub fn line(&self) -> bool
         ensures { result ≡ table.line_of self.now }
     {
+        if self.control < ENABLES {
+            return false;
+        }
         let receive = has_receive_interrupt(self.control) && self.receiver != Receiver::Empty;
         let transmit = has_transmit_interrupt(self.control) && self.is_ready();
         receive || transmit
@@ -137,20 +143,10 @@ impl Acia {
     pub fn status(&self) -> u8
         ensures { result ≡ table.status_of self.now }
     {
-        let mut status = 0;
-        if self.receiver != Receiver::Empty {
-            status |= RDRF;
-        }
-        if self.is_ready() {
-            status |= TDRE;
-        }
-        if self.receiver == Receiver::Over {
-            status |= OVRN;
-        }
-        if self.line() {
-            status |= IRQ;
-        }
-        status
+        bit(RDRF, self.receiver != Receiver::Empty)
+            + bit(TDRE, self.is_ready())
+            + bit(OVRN, self.receiver == Receiver::Over)
+            + bit(IRQ, self.line())
     }
 
     /// A write of the control register (MC6850 data sheet, "Control Register"). A port in reset works as usual.
@@ -212,6 +208,13 @@ impl Acia {
         self.unaccepted -= 1;
         Ok(())
     }
+}
+
+// A byte with this bit alone if the test holds, otherwise 0. A host computes it without a branch.
+fn bit(mask: u8, test: bool) -> u8
+    ensures { result ≡ (if test then mask else 0) }
+{
+    if test { mask } else { 0 }
 }
 
 fn is_master_reset(control: u8) -> bool

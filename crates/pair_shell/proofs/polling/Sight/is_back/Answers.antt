@@ -13,11 +13,11 @@ returns-then-self-clause-yes g c = λ is.
     let x = p.regs in
     let y = q.regs in
     let yes : c.eq.result ≡ true = search rules in
-    let regs : ((x.pc == y.pc) && ((x.sp == y.sp) && ((x.b == y.b) && ((x.c == y.c) && ((x.d == y.d) && ((x.e == y.e) && ((x.h == y.h)
-    && ((x.l == y.l) && ((x.a == y.a) && flags_equality.ghosts.eq x.flags y.flags))))))))) ≡ true =
+    let regs : ((x.pc == y.pc) && ((x.sp == y.sp) && ((x.c == y.c) && ((x.b == y.b) && ((x.e == y.e) && ((x.d == y.d) && ((x.l == y.l)
+    && ((x.h == y.h) && ((x.a == y.a) && flags_equality.ghosts.eq x.flags y.flags))))))))) ≡ true =
     (and_parts _ _ (sym c.eq.ensures ∙ yes)).0 in
     let last : ((x.a == y.a) && flags_equality.ghosts.eq x.flags y.flags) ≡ true =
-    after_eight (x.pc == y.pc) (x.sp == y.sp) (x.b == y.b) (x.c == y.c) (x.d == y.d) (x.e == y.e) (x.h == y.h) (x.l == y.l)
+    after_eight (x.pc == y.pc) (x.sp == y.sp) (x.c == y.c) (x.b == y.b) (x.e == y.e) (x.d == y.d) (x.l == y.l) (x.h == y.h)
     ((x.a == y.a) && flags_equality.ghosts.eq x.flags y.flags) regs in
     let a : (x.a == y.a) ≡ true = (and_parts (x.a == y.a) (flags_equality.ghosts.eq x.flags y.flags) last).0 in
     let flags : flags_equality.ghosts.eq x.flags y.flags ≡ true =
