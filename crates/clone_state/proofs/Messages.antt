@@ -6,49 +6,14 @@ use Rattle.std.proofs.lemmas.List.{length-take, take-append-drop}
 use Rattle.std.proofs.lemmas.Nat.{be_bytes_4}
 use Rattle.std.proofs.lemmas.Option.{same_Some, none-some}
 use Rattle.byteorder.specs.Endian.{big_bytes}
-use Rattle.log_entry.specs.Numbers.{IsBytes}
-use Rattle.log_entry.proofs.ReadingLaws.{IsBytes-drop, IsBytes-rest, IsBytes-take, first_read, not_refused, admitted}
+use Rattle.log_entry.specs.Numbers.{IsBytes, generation_from}
+use Rattle.log_entry.proofs.GenerationLaws.{generation_takes}
+use Rattle.log_entry.proofs.ReadingLaws.{IsBytes-rest, first_read, admitted}
 use Rattle.clone_state.specs.FirstPart.{word}
 use Rattle.clone_state.specs.Laws.{IsMessage}
-use Rattle.clone_state.specs.Parts.{PartMessage, after_tag, generation_from, is_payload, message_at, message_bytes, nonzero}
+use Rattle.clone_state.specs.Parts.{PartMessage, after_tag, is_payload, message_at, message_bytes}
 use Rattle.clone_state.proofs.PartsRead.{Read, after_generation, after_index}
 use Rattle.clone_state.proofs.Values.{word_spells}
-
--- ---- the generation
-
-record TakesGeneration (bytes : List ℕ) (generation : ℕ) (rest : List ℕ) : Type 0 where
-  parts : bytes ≡ big_bytes 4 generation ++ rest
-  are_bytes : IsBytes rest
-  above : 0 < generation
-  below : generation < 2 ^ 32
-
-generation_takes : (bytes : List ℕ) (x : Read) → IsBytes bytes → generation_from bytes ≡ Some x
-    → TakesGeneration bytes x.0 x.1
-unfolding generation_from
-generation_takes bytes x are_bytes read =
-    let front = take 4 bytes in
-    let rest = drop 4 bytes in
-    let number = from_be_bytes w32 front in
-    let length_test = not_refused (ltb (length bytes) 4) (nonzero number rest) x read in
-    let zero_test = not_refused (eqb number 0) (Some (number, rest)) x length_test.1 in
-    let long : 4 ≤ length bytes = ltb-false _ _ length_test.0 in
-    let same = same_Some _ _ zero_test.1 in
-    let same_number : x.0 ≡ number = ap (λ (p : Read). p.0) (sym same) in
-    let same_rest : x.1 ≡ rest = ap (λ (p : Read). p.1) (sym same) in
-    let front_bytes = IsBytes-take 4 bytes are_bytes in
-    let four : length front ≡ 4 = omega (arith, length-take 4 bytes) in
-    let spelled : big_bytes 4 x.0 ≡ front = be_bytes_4 front x.0 four front_bytes same_number in
-    let split : bytes ≡ big_bytes 4 x.0 ++ rest =
-    sym (take-append-drop 4 bytes) ∙ ap (λ (bs : List ℕ). bs ++ rest) (sym spelled)
-    in
-    let not_zero = eqb-false _ _ zero_test.0 in
-    let below : number < 2 ^ 32 = omega (arith, front_bytes 0, front_bytes 1, front_bytes 2, front_bytes 3) in
-    record {
-      parts = split ∙ ap (λ (bs : List ℕ). big_bytes 4 x.0 ++ bs) (sym same_rest);
-      are_bytes = subst IsBytes (sym same_rest) (IsBytes-drop 4 bytes are_bytes);
-      above = subst (λ (n : ℕ). 0 < n) (sym same_number) (omega (arith, not_zero));
-      below = subst (λ (n : ℕ). n < 2 ^ 32) (sym same_number) below;
-    }
 
 -- ---- the message
 

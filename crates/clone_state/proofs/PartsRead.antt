@@ -8,12 +8,13 @@ use Rattle.std.proofs.lemmas.Nat.{from_be_bytes-to_be_bytes_4}
 use Rattle.std.proofs.lemmas.Option.{none-some, same_Some, slice_get_within}
 use Rattle.byteorder.specs.Endian.{big_bytes}
 use Rattle.log_entry.specs.Numbers.{◌>>=◌}
+use Rattle.log_entry.proofs.GenerationLaws.{generation_again}
 use Rattle.log_entry.proofs.ReadingLaws.{first_read}
 use Rattle.clone_state.specs.Checkpoint.{Checkpoint, guest_of}
 use Rattle.clone_state.specs.Codec.{Codec, both, by, one, read_all}
 use Rattle.clone_state.specs.FirstPart.{word}
 use Rattle.clone_state.specs.Laws.{IsMessage, PartsAreReadAgain}
-use Rattle.clone_state.specs.Parts.{PartMessage, checked, checkpoint_in, first_in, fitting, generation_from, guest_in, is_page, is_payload, message_at, message_bytes, page, part_count, read_joined, read_parts, table, table_count}
+use Rattle.clone_state.specs.Parts.{PartMessage, checked, checkpoint_in, first_in, fitting, guest_in, is_page, is_payload, message_at, message_bytes, page, part_count, read_joined, read_parts, table, table_count}
 
 -- ---- a message is read again
 
@@ -28,17 +29,6 @@ after_generation drives generation = word.read generation.1 >>= λ index.
 abbrev pub after_index : ℕ → ℕ → Read → Option PartMessage
 after_index drives generation index =
     checked drives (record { generation = generation; index = index.0; payload = index.1 })
-
-generation_again : (generation : ℕ) (rest : List ℕ) → 0 < generation → generation < 2 ^ 32
-    → generation_from (big_bytes 4 generation ++ rest) ≡ Some (generation, rest)
-unfolding generation_from
-generation_again generation rest above below =
-    let again : from_be_bytes w32 (big_bytes 4 generation) ≡ generation =
-    from_be_bytes-to_be_bytes_4 generation below
-    in
-    let long : ltb (length (big_bytes 4 generation ++ rest)) 4 ≡ false = le-ltb _ _ (omega arith) in
-    let not_zero : eqb generation 0 ≡ false = ne_eqb generation 0 (λ z. omega (arith, above)) in
-    rw (long, again, not_zero) refl
 
 word_again : (n : ℕ) (rest : List ℕ) → word.read (word.spell n ++ rest) ≡ Some (n, rest)
 unfolding word both by one

@@ -1,13 +1,12 @@
 -- The parts of an image: the first part, 256 pages of memory, and 77 tables of last completed writes a drive. How each
 -- part goes in a message, and the machine that all of them make.
 use Rattle.std.specs.Prelude.{ℕ, zero, suc, ◌+◌, ◌*◌, ◌==◌, nat_lt, Bool, false, if◌then◌else◌, List, [], ◌∷◌, ◌++◌, length, map, take, drop, is_some, Option, Some, None}
-use Rattle.std.specs.Int.{w32, from_be_bytes}
 use Rattle.byteorder.specs.Endian.{big_bytes}
 use Rattle.disk_dcdd.specs.declared.drive.TheConstants.{TRACKS}
 use Rattle.disk_dcdd.specs.declared.sector.TheConstants.{SECTORS}
 use Rattle.guest_parts.specs.Guest.{Guest}
 use Rattle.guest_memory.specs.declared.memory.TheConstants.{PAGES, PAGE_BYTES}
-use Rattle.log_entry.specs.Numbers.{◌>>=◌}
+use Rattle.log_entry.specs.Numbers.{◌>>=◌, generation_from}
 use Rattle.clone_state.specs.Codec.{Codec, bytes, number, times, read_all}
 use Rattle.clone_state.specs.Checkpoint.{Checkpoint, FirstPart, guest_of}
 use Rattle.clone_state.specs.FirstPart.{first, word}
@@ -86,14 +85,6 @@ pub record PartMessage : Type 0 where
 
 abbrev pub message_bytes : PartMessage → List ℕ
 message_bytes m = 0x50 ∷ big_bytes 4 m.generation ++ (word.spell m.index ++ m.payload)
-
--- a generation and the bytes after it; no generation is 0
-abbrev pub nonzero : ℕ → List ℕ → Option (ℕ × List ℕ)
-nonzero generation rest = if generation == 0 then None else Some (generation, rest)
-
-unfoldable pub generation_from : List ℕ → Option (ℕ × List ℕ)
-generation_from bytes =
-    if nat_lt (length bytes) 4 then None else nonzero (from_be_bytes w32 (take 4 bytes)) (drop 4 bytes)
 
 abbrev pub is_page : List ℕ → Bool
 is_page payload = is_some (read_all page payload)

@@ -12,15 +12,16 @@ use Rattle.std.proofs.lemmas.Option.{same_Some, none-some}
 use Rattle.byteorder.specs.Endian.{big_bytes}
 use Rattle.i8080_words.specs.declared.refusal.Fault.TheVariants.{Malformed}
 use Rattle.log_entry.specs.declared.entry.Entry.{Entry}
-use Rattle.log_entry.specs.Numbers.{◌>>=◌, IsBytes, number_from}
+use Rattle.log_entry.specs.Numbers.{◌>>=◌, IsBytes, generation_from, number_from}
 use Rattle.log_entry.specs.Spelling.{spelling, IsEntry, entry_at}
 use Rattle.log_entry.proofs.EntryLaws.{entry_takes, entry_again}
+use Rattle.log_entry.proofs.GenerationLaws.{generation_again, generation_takes}
 use Rattle.log_entry.proofs.NumberLaws.{number_takes, number_again}
-use Rattle.log_entry.proofs.ReadingLaws.{IsBytes-drop, IsBytes-take, IsBytes-rest, first_read, not_refused, admitted}
+use Rattle.log_entry.proofs.ReadingLaws.{IsBytes-rest, first_read, not_refused, admitted}
 use Rattle.log_channel.specs.declared.packet.Packet.{Packet}
 use Rattle.log_channel.specs.declared.packet.Packet.TheVariants.{Log, Ack}
 use Rattle.log_channel.specs.Laws.{ReadsAgain, OneSpelling, OneMeaning}
-use Rattle.log_channel.specs.Packet.{packet_bytes, IsPacket, nonzero, generation_from, log_at, ack_at, report_at, whole, packet_at}
+use Rattle.log_channel.specs.Packet.{packet_bytes, IsPacket, log_at, ack_at, report_at, whole, packet_at}
 
 -- a number that was read, and the bytes after it
 abbrev Read : Type 0
@@ -47,53 +48,6 @@ kind_behind tag generation =
     cond (eqb tag 0x4C) (log_at generation.0 generation.1)
     (cond (eqb tag 0x41) (ack_at generation.0 generation.1)
     (cond (eqb tag 0x42) (report_at generation.0 generation.1) None))
-
--- ---- the generation
-
-record TakesGeneration (bytes : List ℕ) (generation : ℕ) (rest : List ℕ) : Type 0 where
-  parts : bytes ≡ big_bytes 4 generation ++ rest
-  are_bytes : IsBytes rest
-  above : 0 < generation
-  below : generation < 2 ^ 32
-
-generation_takes : (bytes : List ℕ) (x : Read) → IsBytes bytes → generation_from bytes ≡ Some x
-    → TakesGeneration bytes x.0 x.1
-unfolding generation_from
-generation_takes bytes x are_bytes read =
-    let front = take 4 bytes in
-    let rest = drop 4 bytes in
-    let word = from_be_bytes w32 front in
-    let length_test = not_refused (ltb (length bytes) 4) (nonzero word rest) x read in
-    let zero_test = not_refused (eqb word 0) (Some (word, rest)) x length_test.1 in
-    let long : 4 ≤ length bytes = ltb-false _ _ length_test.0 in
-    let same = same_Some _ _ zero_test.1 in
-    let same_word : x.0 ≡ word = ap (λ (p : Read). p.0) (sym same) in
-    let same_rest : x.1 ≡ rest = ap (λ (p : Read). p.1) (sym same) in
-    let front_bytes = IsBytes-take 4 bytes are_bytes in
-    let four : length front ≡ 4 = omega (arith, length-take 4 bytes) in
-    let spelled : big_bytes 4 x.0 ≡ front = be_bytes_4 front x.0 four front_bytes same_word in
-    let split : bytes ≡ big_bytes 4 x.0 ++ rest =
-    sym (take-append-drop 4 bytes) ∙ ap (λ (bs : List ℕ). bs ++ rest) (sym spelled)
-    in
-    let not_zero = eqb-false _ _ zero_test.0 in
-    let below : word < 2 ^ 32 = omega (arith, front_bytes 0, front_bytes 1, front_bytes 2, front_bytes 3) in
-    record {
-      parts = split ∙ ap (λ (bs : List ℕ). big_bytes 4 x.0 ++ bs) (sym same_rest);
-      are_bytes = subst IsBytes (sym same_rest) (IsBytes-drop 4 bytes are_bytes);
-      above = subst (λ (n : ℕ). 0 < n) (sym same_word) (omega (arith, not_zero));
-      below = subst (λ (n : ℕ). n < 2 ^ 32) (sym same_word) below;
-    }
-
-generation_again : (generation : ℕ) (rest : List ℕ) → 0 < generation → generation < 2 ^ 32
-    → generation_from (big_bytes 4 generation ++ rest) ≡ Some (generation, rest)
-unfolding generation_from
-generation_again generation rest above below =
-    let again : from_be_bytes w32 (big_bytes 4 generation) ≡ generation =
-    from_be_bytes-to_be_bytes_4 generation below
-    in
-    let long : ltb (length (big_bytes 4 generation ++ rest)) 4 ≡ false = le-ltb _ _ (omega arith) in
-    let not_zero : eqb generation 0 ≡ false = ne_eqb generation 0 (λ z. omega (arith, above)) in
-    rw (long, again, not_zero) refl
 
 -- ---- what is written is read back
 

@@ -1,9 +1,8 @@
 -- A packet of the log or of its acknowledgement: its one spelling, the values that it may have, and what bytes are read
 -- as.
-use Rattle.std.specs.Prelude.{ℕ, ◌-◌, ◌^◌, ◌<◌, ◌≤◌, List, [], ◌∷◌, ◌++◌, length, take, drop, Option, Some, None, IfSome, nat_lt, ◌==◌, if◌then◌else◌}
-use Rattle.std.specs.Int.{w32, from_be_bytes}
+use Rattle.std.specs.Prelude.{ℕ, ◌-◌, ◌^◌, ◌<◌, ◌≤◌, List, [], ◌∷◌, ◌++◌, length, Option, Some, None, IfSome, nat_lt, ◌==◌, if◌then◌else◌}
 use Rattle.byteorder.specs.Endian.{big_bytes}
-use Rattle.log_entry.specs.Numbers.{◌>>=◌, number_from}
+use Rattle.log_entry.specs.Numbers.{◌>>=◌, generation_from, number_from}
 use Rattle.log_entry.specs.Spelling.{spelling, IsEntry, entry_at}
 use Rattle.log_channel.specs.declared.packet.Packet.{Packet}
 use Rattle.log_channel.specs.declared.packet.Packet.TheVariants.{Log, Ack}
@@ -27,14 +26,6 @@ IsPacket (Ack generation held replayed) =
     (0 < generation) × (generation < 2 ^ 32) × (held < 2 ^ 62) × IfSome replayed (λ number. number ≤ held)
 
 -- ---- reading, from left to right
-
--- a generation and the bytes after it; no generation is 0
-abbrev pub nonzero : ℕ → List ℕ → Option (ℕ × List ℕ)
-nonzero generation rest = if generation == 0 then None else Some (generation, rest)
-
-unfoldable pub generation_from : List ℕ → Option (ℕ × List ℕ)
-generation_from bytes =
-    if nat_lt (length bytes) 4 then None else nonzero (from_be_bytes w32 (take 4 bytes)) (drop 4 bytes)
 
 -- each kind by what follows its tag and its generation; the greatest number is no index
 unfoldable pub log_at : ℕ → List ℕ → Option Packet

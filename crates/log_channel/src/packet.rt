@@ -6,7 +6,7 @@ ghost use Rattle.i8080_words.specs.declared.refusal.Fault.TheVariants.{Malformed
 
 use byteorder::{BigEndian, ByteOrder};
 use i8080_words::{Fault, GREATEST_NUMBER, R};
-use log_entry::{Entry, number_at, spelled_number};
+use log_entry::{Entry, generation_at, number_at, spelled_number};
 
 /// The byte that a packet of the log begins with, the letter `L`.
 const LOG_TAG: u8 = 0x4c;
@@ -75,7 +75,7 @@ impl Packet {
     }
 }
 
-ghost use Rattle.log_channel.specs.Packet.{ack_at, ack_bytes, generation_from, log_at, packet_at, report_at, whole};
+ghost use Rattle.log_channel.specs.Packet.{ack_at, ack_bytes, log_at, packet_at, report_at, whole};
 
 // A tag, a generation and a number.
 fn head(tag: u8, generation: u32, number: u64) -> [u8; 13]
@@ -122,25 +122,13 @@ fn packet_of(bytes: &[u8]) -> Option<Packet>
     let [tag, rest @ ..] = bytes else {
         return None;
     };
-    let (generation, rest) = generation_of(rest)?;
+    let (generation, rest) = generation_at(rest)?;
     match *tag {
         LOG_TAG => log_of(generation, rest),
         ACK_TAG => ack_of(generation, rest),
         REPORT_TAG => report_of(generation, rest),
         _ => None,
     }
-}
-
-#[tactic(auto, unfolding(crate::specs::Packet::generation_from))]
-fn generation_of(bytes: &[u8]) -> Option<(u32, &[u8])>
-    ensures { option_map (λ found. (found.0, found.1.now)) result ≡ generation_from bytes.now }
-{
-    let (word, rest) = bytes.split_first_chunk::<4>()?;
-    let generation = u32::from_be_bytes(*word);
-    if generation == 0 {
-        return None;
-    }
-    Some((generation, rest))
 }
 
 #[tactic(auto, unfolding(crate::specs::Packet::log_at))]

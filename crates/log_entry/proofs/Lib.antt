@@ -1,4 +1,5 @@
 pub mod ReadingLaws
 pub mod NumberLaws
+pub mod GenerationLaws
 pub mod EntryLaws
 pub mod TraceEntries

@@ -1,6 +1,6 @@
--- The numbers of a packet: eight bytes, highest first, below the limit of all numbers.
-use Rattle.std.specs.Prelude.{ℕ, ◌^◌, ◌<◌, List, length, take, drop, slice_index, Option, Some, None, option_and_then, nat_lt, if◌then◌else◌}
-use Rattle.std.specs.Int.{w64, from_be_bytes}
+-- The numbers of a message, highest byte first: eight bytes, below the limit of all numbers; a generation has four.
+use Rattle.std.specs.Prelude.{ℕ, ◌^◌, ◌<◌, List, length, take, drop, slice_index, Option, Some, None, option_and_then, nat_lt, ◌==◌, if◌then◌else◌}
+use Rattle.std.specs.Int.{w32, w64, from_be_bytes}
 
 -- each item is a byte
 abbrev pub IsBytes : List ℕ → Type 0
@@ -19,3 +19,11 @@ limited number rest = if nat_lt number (2 ^ 62) then Some (number, rest) else No
 unfoldable pub number_from : List ℕ → Option (ℕ × List ℕ)
 number_from bytes =
     if nat_lt (length bytes) 8 then None else limited (from_be_bytes w64 (take 8 bytes)) (drop 8 bytes)
+
+-- a generation and the bytes after it; no generation is 0
+abbrev pub nonzero : ℕ → List ℕ → Option (ℕ × List ℕ)
+nonzero generation rest = if generation == 0 then None else Some (generation, rest)
+
+unfoldable pub generation_from : List ℕ → Option (ℕ × List ℕ)
+generation_from bytes =
+    if nat_lt (length bytes) 4 then None else nonzero (from_be_bytes w32 (take 4 bytes)) (drop 4 bytes)

@@ -9,5 +9,5 @@ mod spelling;
 
 pub use entry::Entry;
 pub use laws::{entries_keep_the_inputs, entries_spell_one_way, entries_stand_in_order};
-pub use numbers::{number_at, spelled_number};
+pub use numbers::{generation_at, number_at, spelled_number};
 pub use spelling::size;

@@ -1,8 +1,8 @@
-//! The numbers of a packet.
+//! The numbers of a message.
 
 ghost use Rattle.std.specs.Prelude.{◌≡◌, option_map};
 ghost use Rattle.byteorder.specs.Endian.{big_bytes};
-ghost use Rattle.log_entry.specs.Numbers.{number_from};
+ghost use Rattle.log_entry.specs.Numbers.{generation_from, number_from};
 
 use byteorder::{BigEndian, ByteOrder};
 use i8080_words::GREATEST_NUMBER;
@@ -27,4 +27,17 @@ pub fn number_at(bytes: &[u8]) -> Option<(u64, &[u8])>
         return None;
     }
     Some((number, rest))
+}
+
+/// The generation that the first four bytes spell, highest first, and the bytes after it. No generation is 0.
+#[tactic(auto, unfolding(crate::specs::Numbers::generation_from))]
+pub fn generation_at(bytes: &[u8]) -> Option<(u32, &[u8])>
+    ensures { option_map (λ found. (found.0, found.1.now)) result ≡ generation_from bytes.now }
+{
+    let (word, rest) = bytes.split_first_chunk::<4>()?;
+    let generation = u32::from_be_bytes(*word);
+    if generation == 0 {
+        return None;
+    }
+    Some((generation, rest))
 }

@@ -9,6 +9,7 @@ use super::values::word_at;
 use crate::spelling::PART_TAG;
 use disk_dcdd::TRACKS;
 use guest_memory::{PAGE_BYTES, PAGES};
+use log_entry::generation_at;
 
 /// A part of an image: what it says is its payload.
 #[derive(Clone, Copy)]
@@ -39,19 +40,6 @@ pub(crate) fn message_of(drives: u8, bytes: &[u8]) -> Option<PartMessage<'_>>
         index,
         payload,
     })
-}
-
-// No generation is 0.
-#[tactic(auto, unfolding(crate::specs::Parts::generation_from))]
-fn generation_at(bytes: &[u8]) -> Option<(u32, &[u8])>
-    ensures { option_map (λ found. (found.0, found.1.now)) result ≡ parts.generation_from bytes.now }
-{
-    let (word, rest) = bytes.split_first_chunk::<4>()?;
-    let generation = u32::from_be_bytes(*word);
-    if generation == 0 {
-        return None;
-    }
-    Some((generation, rest))
 }
 
 // Whether the payload is one of the part of this index.
