@@ -157,31 +157,8 @@ module _ {B H : Type 0} where
     same = λ n resources e. a.same n resources (b.same n resources e);
   }
 
+  -- only an event that begins a generation takes a spare host
   pub after_event : (e : Event) (answer : Result Reply Fault) (old new : List (Host B H))
       → SparesAfter e answer old new → SparesLeft old new
   after_event (event.BeginPair n at) (Ok r) old new h = less_left old new at h
-  after_event (event.BeginPair n at) (Err fault) old new h = same_left old new h
-  after_event (event.Step n turns) answer old new h = same_left old new h
-  after_event (event.TypeByte port byte) answer old new h = same_left old new h
-  after_event (event.TakeKey n port index) answer old new h = same_left old new h
-  after_event (event.Send n index) answer old new h = same_left old new h
-  after_event (event.DeliverLog m n) answer old new h = same_left old new h
-  after_event (event.Acknowledge n) answer old new h = same_left old new h
-  after_event (event.DeliverAcknowledgement m n) answer old new h = same_left old new h
-  after_event (event.Replay n turns) answer old new h = same_left old new h
-  after_event (event.Release n id) answer old new h = same_left old new h
-  after_event (event.Arrive m) answer old new h = same_left old new h
-  after_event (event.TellSent n port number) answer old new h = same_left old new h
-  after_event (event.Told n port) answer old new h = same_left old new h
-  after_event (event.Put m) answer old new h = same_left old new h
-  after_event (event.PutReply m n) answer old new h = same_left old new h
-  after_event (event.Get n sector) answer old new h = same_left old new h
-  after_event (event.GetReply m n) answer old new h = same_left old new h
-  after_event (event.Suspect n) answer old new h = same_left old new h
-  after_event (event.Drain n turns) answer old new h = same_left old new h
-  after_event (event.Stop n) answer old new h = same_left old new h
-  after_event (event.SendPart n index) answer old new h = same_left old new h
-  after_event (event.PartComes m n) answer old new h = same_left old new h
-  after_event (event.Freshen n pages) answer old new h = same_left old new h
-  after_event (event.Fetch n) answer old new h = same_left old new h
-  after_event (event.Fetched m n) answer old new h = same_left old new h
+  after_event e answer old new h = same_left old new h

@@ -10,7 +10,7 @@ use Rattle.i8080_words.specs.declared.refusal.Fault.{Fault}
 use Rattle.pair_protocol.specs.Change.{Begins, Joins, ReadsSector, Wins}
 use Rattle.pair_protocol.specs.Effects.{Again, Comes, Completes, GotPart, Halted, Held, after_drain, next_read, replay_end, wanted, wanted_of}
 use Rattle.pair_events.specs.declared.event.Event.{Event}
-use Rattle.pair_events.specs.declared.event.Event.TheVariants.{Acknowledge, Arrive, BeginPair, DeliverAcknowledgement, DeliverLog, Drain, Fetch, Fetched, Freshen, Get, GetReply, PartComes, Put, PutReply, Release, Replay, Send, SendPart, Step, Stop, Suspect, TakeKey, TellSent, Told, TypeByte}
+use Rattle.pair_events.specs.declared.event.Event.TheVariants.{Acknowledge, Arrive, BeginPair, DeliverAcknowledgement, DeliverLog, Drain, Fetch, Fetched, Get, GetReply, PartComes, Put, PutReply, Release, Replay, Send, SendPart, Step, Stop, Suspect, TakeKey, TellSent, Told, TypeByte}
 use Rattle.pair_protocol.specs.Reply.{Reply}
 use Rattle.pair_protocol.specs.Refusals.{acknowledge_refusal, ask_refusal, at_acknowledgement, at_fetched, at_host, at_log_entry, at_node, at_part, deliver_acknowledgement_refusal, deliver_log_refusal, drain_refusal, fault_if, fetched_refusal, first_of, generation_refusal, no_port, no_such, pair_refusal, part_comes_refusal, refusal, release_refusal, replay_refusal, role_refusal, send_part_refusal, send_refusal, serves, step_refusal, stop_refusal, suspect_refusal, told_refusal, unwanted}
 use Rattle.pair_protocol.specs.Row.{Accepts, DeviceFails, Leaves, Refuses, Row, NeedsMemory}
@@ -298,6 +298,7 @@ does_fetched {S} M C w m n r new p d = go (wanted M x) refl (only-passed _ f.1)
         (d.message ∙ ap (λ z. Some (SectorRead z d.number d.bytes)) (sym at)
         ∙ ap (λ z. Some (SectorRead (M.address x.machine read.0 read.1) z d.bytes)) (sym same)))
 
+-- what each event does is actions; one that has no clause here leaves the world as it was
 pub does_changes : {S : Type 0} (M : Machine S) (C : Copying S) (w : World S) (e : Event) (r : Reply) (new : World S) →
     refusal M C w e ≡ None → Does M C w e r new → Changes M C w new
 does_changes M C w (Step n turns) r new p d = does_step M C w n turns r new p d
@@ -323,9 +324,9 @@ does_changes M C w (GetReply m n) r new p d = does_get_reply M C w m n r new p d
 does_changes M C w (BeginPair n host) r new p d = does_begin_pair M C w n host r new p d
 does_changes M C w (SendPart n index) r new p d = does_send_part M C w n index r new p d
 does_changes M C w (PartComes m n) r new p d = does_part_comes M C w m n r new p d
-does_changes M C w (Freshen n pages) r new p d = unchanged M C w new d.after
 does_changes M C w (Fetch n) r new p d = changed M C w new _ d.after (ReadsSector d.address)
 does_changes M C w (Fetched m n) r new p d = does_fetched M C w m n r new p d
+does_changes M C w e r new p d = unchanged M C w new d.after
 
 pub leaves_changes : {S : Type 0} (M : Machine S) (C : Copying S) (w : World S) (e : Event) (fault : Fault)
     (new : World S) → refusal M C w e ≡ Some fault → Leaves w e fault new → Changes M C w new
