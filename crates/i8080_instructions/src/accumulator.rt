@@ -11,7 +11,6 @@ use i8080_words::{
 };
 
 /// An operation on the accumulator and a byte (ADD to CMP, ADI to CPI).
-#[inline(always)]
 pub fn operate(operation: AluOperation, byte: u8, pc: u16, regs: &mut Regs)
     ensures { with_pc pc regs.new ≡ operated operation byte (with_pc pc regs.old) }
 {

@@ -111,6 +111,7 @@ pub fn read_operand<B: Bus>(bus: &B, register: Register, pc: u16, regs: &Regs) -
 }
 
 /// Puts a byte into a register, or into memory for `M`.
+#[inline(always)]
 pub fn write_operand<B: Bus>(bus: &mut B, register: Register, byte: u8, pc: u16, regs: &mut Regs)
     ensures regs { with_pc pc regs.new ≡ (put register byte (with_pc pc regs.old)).regs }
     ensures bus { B.state bus.new

@@ -41,7 +41,6 @@ pub fn pop<B: Bus>(bus: &B, pair: StackPair, pc: u16, regs: &mut Regs)
 }
 
 /// Pushes the address of the next code, and returns the address to go to (CALL, RST, and an accepted interrupt).
-#[inline(always)]
 pub fn call<B: Bus>(bus: &mut B, address: u16, next: u16, regs: &mut Regs) -> u16
     ensures next { result ≡ address }
     ensures regs { regs.new ≡ (pushed_word next regs.old).regs }
@@ -76,7 +75,6 @@ pub fn jump_if<B: Bus>(bus: &B, condition: Condition, start: u16, regs: &Regs) -
 }
 
 /// Calls if a condition is met (CZ and the like).
-#[inline(always)]
 pub fn call_if<B: Bus>(
     bus: &mut B,
     condition: Condition,
