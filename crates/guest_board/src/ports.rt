@@ -7,6 +7,9 @@ ghost use Rattle.guest_board.specs.Wiring.{IsThere};
 /// What IN returns if no device answers.
 pub(crate) const OPEN_BUS: u8 = 0xff;
 
+/// The status register of the first serial port, the console's, which most guests poll.
+pub(crate) const FIRST_STATUS: u8 = 0x10;
+
 /// What is at a port number (MITS 88-2SIO and 88-DCDD manuals). Serial ports are numbered from 0.
 #[derive(Clone, Copy)]
 pub(crate) enum Device {
@@ -26,7 +29,7 @@ impl Device {
         ensures there { IsThere result }
     {
         match number {
-            0x10 => Device::SerialControl(0),
+            FIRST_STATUS => Device::SerialControl(0),
             0x11 => Device::SerialData(0),
             0x12 => Device::SerialControl(1),
             0x13 => Device::SerialData(1),

@@ -1,13 +1,15 @@
 //! What the processor of a board is wired to.
 
-ghost use Rattle.std.specs.Prelude.{◌≡◌, ◌<◌};
+ghost use Rattle.std.specs.Prelude.{◌≡◌, ◌<◌, IsTrue};
 ghost use Rattle.guest_board.specs.Ports as table;
 ghost use Rattle.serial_2sio.specs.Port as serial;
 ghost use Rattle.event_callbacks.specs.Completions.{port_of};
 ghost use Rattle.event_callbacks.specs.declared.devices.TheConstants.{PORTS};
-ghost use Rattle.guest_board.specs.Fields.{wired_of};
+ghost use Rattle.i8080_words.specs.Effects.Access.{Input};
+ghost use Rattle.guest_board.specs.Fields.{wired_of, versioned_of};
+ghost use Rattle.guest_board.specs.Wiring.{input_behind, versioned_after};
 
-use crate::ports::{Device, OPEN_BUS};
+use crate::ports::{Device, FIRST_STATUS, OPEN_BUS};
 use event_callbacks::{Devices, Operation, PORTS};
 use guest_memory::Memory;
 use i8080_instructions::Bus;
@@ -86,11 +88,29 @@ impl Wiring {
             None => None,
         };
     }
+
+    // Looks at a port that guests seldom poll: whether a read would change nothing, and then the byte that it would give. As a call,
+    // since LLVM would make one table of it and of the test for the first port; and the byte is in memory, since LLVM would keep
+    // the two results together, and test both ports' once more.
+    #[cold]
+    #[inline(never)]
+    fn look_further(&self, port: u8, byte: &mut u8) -> bool
+        ensures byte { IsTrue result → byte.new ≡ input_behind (versioned_of self.now) port }
+        ensures leaves { IsTrue result → versioned_after (Input port) (versioned_of self.now) ≡ versioned_of self.now }
+    {
+        match Device::at(port) {
+            Device::SerialControl(port) => *byte = port_status(&self.devices, port),
+            Device::DiskSelect => *byte = self.devices.disk.status(),
+            Device::SenseSwitches => *byte = self.sense,
+            Device::Nothing => *byte = OPEN_BUS,
+            Device::SerialData(_) | Device::DiskControl | Device::DiskData => return false,
+        }
+        true
+    }
 }
 
 impl Bus for Wiring {
-    ghost use Rattle.guest_board.specs.Wiring.{Versioned, byte_behind, input_behind, versioned_after};
-    ghost use Rattle.guest_board.specs.Fields.{versioned_of};
+    ghost use Rattle.guest_board.specs.Wiring.{Versioned, byte_behind};
 
     ghost State = { Versioned };
 
@@ -135,13 +155,14 @@ impl Bus for Wiring {
     }
 
     fn look(&self, port: u8) -> Option<u8> {
-        match Device::at(port) {
-            Device::SerialControl(port) => Some(port_status(&self.devices, port)),
-            Device::DiskSelect => Some(self.devices.disk.status()),
-            Device::SenseSwitches => Some(self.sense),
-            Device::Nothing => Some(OPEN_BUS),
-            Device::SerialData(_) | Device::DiskControl | Device::DiskData => None,
+        if port == FIRST_STATUS {
+            return Some(port_status(&self.devices, 0));
         }
+        let mut byte = OPEN_BUS;
+        if !self.look_further(port, &mut byte) {
+            return None;
+        }
+        Some(byte)
     }
 
     fn output(&mut self, port: u8, byte: u8) {
