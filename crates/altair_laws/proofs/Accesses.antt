@@ -7,7 +7,7 @@ use Rattle.i8080_words.specs.Effects.{Access, Effect, quiet, put, effect, called
 use Rattle.i8080_words.specs.Effects.Access.{Write, Input, Output}
 use Rattle.i8080_words.specs.Steps.{step, unless_heard, heard, completed, idle, ran}
 use Rattle.i8080_words.specs.declared.registers.Regs.{Regs}
-use Rattle.i8080_words.specs.declared.registers.Processor.{Processor}
+use Rattle.altair_laws.proofs.Words.{Processor}
 use Rattle.i8080_words.specs.declared.instruction.Register.{Register}
 use Rattle.i8080_words.specs.declared.instruction.Register.TheVariants as reg
 use Rattle.i8080_words.specs.declared.instruction.Op.{Op}

@@ -2,15 +2,7 @@
 use Rattle.std.proofs.Common.{◌≡◌, ℕ, Bool, true, false, List, [], ◌∷◌, inl, inr, refl, sym, ap, ◌∙◌}
 use Rattle.std.specs.Prelude.{◌||◌}
 use Rattle.std.specs.List.{list_any}
-use Rattle.disk_dcdd.specs.Address.{address_of}
-use Rattle.disk_dcdd.specs.Completion.{is_busy_on}
-use Rattle.disk_dcdd.specs.Drive.{drive_of}
-use Rattle.disk_dcdd.specs.Sector.{is_at, place_of}
-use Rattle.disk_dcdd.specs.declared.sector.SectorWrite.{SectorWrite}
-use Rattle.guest_parts.specs.Guest.{Guest}
-use Rattle.guest_board.specs.Guest.{address_under}
-use Rattle.altair_laws.specs.Stands.{AreWrites, IsPending}
-use Rattle.pair_protocol.specs.Lawful.{Among}
+use Rattle.altair_laws.proofs.Words.{Among, AreWrites, Guest, IsPending, SectorWrite, address_of, address_under, drive_of, is_at, is_busy_on, place_of}
 use Rattle.pair_protocol.proofs.Keeps.Disk.{same_address-refl}
 
 some_is : {A : Type 0} (test : A → Bool) (xs : List A) (x : A) → Among x xs → test x ≡ true → list_any test xs ≡ true

@@ -8,21 +8,7 @@ use Rattle.std.proofs.lemmas.Bool.Decides.{eqb_tells}
 use Rattle.std.proofs.lemmas.List.{length-set, get_or-set_same, get_or-set_other, get_or_past}
 use Rattle.std.proofs.lemmas.Option.{cond_some, same_Some}
 use Rattle.serial_2sio.specs.Port as serial
-use Rattle.disk_dcdd.specs.declared.address.SectorAddress.{SectorAddress}
-use Rattle.event_callbacks.specs.Completions.{port_of}
-use Rattle.event_callbacks.specs.declared.operations.Operation.{Operation}
-use Rattle.event_callbacks.specs.declared.operations.Operation.TheVariants.{Byte, Write}
-use Rattle.guest_parts.specs.Guest.{Guest}
-use Rattle.guest_board.specs.Guest.{guest_at_boot, wired, stepped, take_from, altair, after_rx, after_sent, due_byte, oldest_byte}
-use Rattle.guest_lockstep.specs.Machine.{Move, Do, Take}
-use Rattle.guest_board.specs.Ports.{Wired, after_byte}
-use Rattle.guest_lockstep.specs.declared.input.Input.{Input}
-use Rattle.guest_lockstep.specs.declared.input.Input.TheVariants.{Rx, Sent}
-use Rattle.guest_board.specs.declared.setup.Setup.{Setup}
-use Rattle.i8080_words.specs.declared.registers.Processor.{Processor}
-use Rattle.guest_lockstep.specs.Reach.{inputs, output, acceptances}
-use Rattle.pair_protocol.specs.Lawful.{Reaches}
-use Rattle.pair_protocol.proofs.Traces.Moves.{acceptances_of-append, runs-split}
+use Rattle.altair_laws.proofs.Words.{Byte, Do, Guest, Input, Move, Operation, Processor, Reaches, Rx, SectorAddress, Sent, Setup, Take, Wired, Write, acceptances, acceptances_of-append, after_byte, after_rx, after_sent, altair, due_byte, guest_at_boot, inputs, oldest_byte, output, port_of, runs-split, stepped, take_from, wired}
 use Rattle.altair_laws.proofs.Moves.{Tells, from_boot, length-output}
 use Rattle.altair_laws.proofs.Steps.{Gave, GaveNothing, GaveByte, GaveWrite, Steps, steps_from, after_step, same_unaccepted}
 use Rattle.altair_laws.proofs.Counts.{zeros}

@@ -8,16 +8,8 @@ use Rattle.std.specs.Option.{option_map_or, option_and_then}
 use Rattle.std.proofs.lemmas.Bool.{and_parts, ltb-true, eqb-false, both_ways}
 use Rattle.std.proofs.lemmas.List.{length-set, drop-set-lt, get_or-set_same}
 use Rattle.std.proofs.lemmas.List.Elements.{All-set}
-use Rattle.disk_dcdd.specs.Command.{drive_at_boot, has_bit, where_set, stepped_in, stepped_out, loaded, unloaded, commanded_drive, commanded_sector, moves_head, started}
-use Rattle.disk_dcdd.specs.Completion.{is_head_loaded, is_busy_on}
-use Rattle.disk_dcdd.specs.Controller.{AreDrives}
-use Rattle.disk_dcdd.specs.Drive.{Drives, drive_of, after_command, commanded, after_data, after_keep, kept_at, issued_by, issued_at, after_issue, has_room, write_of}
-use Rattle.disk_dcdd.specs.Sector.{is_at, is_written, may_fill, with_byte_filled}
+use Rattle.altair_laws.proofs.Words.{AreDrives, CurrentSector, Drives, SECTOR_BYTES, TRACKS, after_command, after_data, after_issue, after_keep, commanded, commanded_drive, commanded_sector, drive_at_boot, drive_of, has_bit, has_room, is_at, is_busy_on, is_head_loaded, is_written, issued_at, issued_by, kept_at, loaded, may_fill, moves_head, or-false, started, stepped_in, stepped_out, unloaded, where_set, with_byte_filled, write_of}
 use Rattle.disk_dcdd.specs.declared.drive.Drive.{Drive}
-use Rattle.disk_dcdd.specs.declared.drive.TheConstants.{TRACKS}
-use Rattle.disk_dcdd.specs.declared.sector.CurrentSector.{CurrentSector}
-use Rattle.disk_dcdd.specs.declared.sector.TheConstants.{SECTOR_BYTES}
-use Rattle.pair_protocol.proofs.Passed.{or-false}
 use Rattle.altair_laws.proofs.Drives.{LAST_BYTE, IsOver, Stands, Calm, calm-refl, Continues, Same, same-over, keeps}
 
 -- the bits of OUT 09h

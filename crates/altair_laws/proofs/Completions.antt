@@ -8,26 +8,9 @@ use Rattle.std.proofs.lemmas.Bool.{cases_Bool, and_parts, not-true, both_ways, e
 use Rattle.std.proofs.lemmas.Bool.Decides.{eqb_tells}
 use Rattle.std.proofs.lemmas.List.{length-set}
 use Rattle.std.proofs.lemmas.Option.{cond_some}
-use Rattle.disk_dcdd.specs.Address.{address_of, same_address, index_of}
-use Rattle.disk_dcdd.specs.Completion.{is_selected, is_sector_due, is_sector_busy, is_outstanding}
-use Rattle.disk_dcdd.specs.Controller.{IsIssued}
-use Rattle.disk_dcdd.specs.Sector.{place_of}
-use Rattle.disk_dcdd.specs.declared.address.SectorAddress.{SectorAddress}
-use Rattle.disk_dcdd.specs.declared.sector.Place.{Place}
-use Rattle.disk_dcdd.specs.declared.sector.SectorWrite.{SectorWrite}
-use Rattle.event_callbacks.specs.Operations.{Operations, operation_at, without_operation}
+use Rattle.altair_laws.proofs.Words.{Among, Guest, Input, IsIssued, Move, Operations, Place, Reaches, Rx, Sector, SectorAddress, SectorWrite, Sent, Setup, Take, Write, Written, address_of, after_rx, after_sector, after_sent, after_written, altair, image_from, index_of, is_outstanding, is_sector_busy, is_sector_due, is_selected, oldest_byte, operation_at, operation_at-without_other, operations, place_of, same_address, take_from, with_completed, without_operation}
 use Rattle.event_callbacks.specs.declared.operations.OpId.TheVariants as id
-use Rattle.event_callbacks.specs.declared.operations.Operation.TheVariants.{Write}
-use Rattle.event_callbacks.proofs.OperationMap.{operation_at-without_other}
-use Rattle.guest_board.specs.declared.setup.Setup.{Setup}
-use Rattle.guest_parts.specs.Guest.{Guest}
-use Rattle.guest_board.specs.Guest.{altair, after_rx, after_sent, after_sector, take_from, with_completed, oldest_byte, after_written}
-use Rattle.guest_lockstep.specs.Machine.{Move, Take}
-use Rattle.guest_lockstep.specs.declared.input.Input.{Input}
-use Rattle.guest_lockstep.specs.declared.input.Input.TheVariants.{Rx, Sent, Sector, Written}
-use Rattle.guest_lockstep.specs.Reach.{operations, image_from}
 use Rattle.guest_lockstep.specs.declared.timed.Bare.TheVariants as bare
-use Rattle.pair_protocol.specs.Lawful.{Among, Reaches}
 use Rattle.altair_laws.proofs.Moves.{Tells, from_boot, operations-left}
 use Rattle.altair_laws.proofs.Operations.{AreGiven, given-take, given-gone, without-cases}
 use Rattle.altair_laws.proofs.Drives.{Stands}

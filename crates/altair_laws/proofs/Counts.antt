@@ -5,18 +5,7 @@ use Rattle.std.proofs.lemmas.Bool.{ltb-true, and_parts, cases_lt}
 use Rattle.std.proofs.lemmas.Bool.Decides.{eqb_tells}
 use Rattle.std.proofs.lemmas.List.{length-set, get_or-set_same, get_or-set_other, get_or_past}
 use Rattle.std.proofs.lemmas.Option.{cond_some}
-use Rattle.i8080_words.specs.declared.limits.TheConstants.{GREATEST_NUMBER}
-use Rattle.disk_dcdd.specs.declared.address.SectorAddress.{SectorAddress}
-use Rattle.event_callbacks.specs.declared.operations.Operation.{Operation}
-use Rattle.guest_parts.specs.Guest.{Guest}
-use Rattle.guest_board.specs.Guest.{guest_at_boot, take_from, altair, after_rx}
-use Rattle.guest_lockstep.specs.Machine.{Move, Do, Take}
-use Rattle.guest_lockstep.specs.declared.input.Input.{Input}
-use Rattle.guest_lockstep.specs.declared.input.Input.TheVariants.{Rx}
-use Rattle.guest_board.specs.declared.setup.Setup.{Setup}
-use Rattle.guest_lockstep.specs.Reach.{inputs, steps, keys}
-use Rattle.pair_protocol.specs.Lawful.{Reaches}
-use Rattle.pair_protocol.proofs.Traces.Moves.{steps-append}
+use Rattle.altair_laws.proofs.Words.{Do, GREATEST_NUMBER, Guest, Input, Move, Operation, Reaches, Rx, SectorAddress, Setup, Take, after_rx, altair, guest_at_boot, inputs, keys, steps, steps-append, take_from}
 use Rattle.altair_laws.proofs.Moves.{Tells, from_boot, length-keys}
 use Rattle.altair_laws.proofs.Steps.{Steps, steps_from, after_step}
 

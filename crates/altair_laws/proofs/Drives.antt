@@ -4,14 +4,7 @@
 use Rattle.std.proofs.Common.{◌≡◌, ℕ, ◌+◌, ◌≤◌, ◌<◌, Bool, true, false, cond, length, Option, Some, None, refl, sym, ap, ◌∙◌, subst, arith}
 use Rattle.std.specs.Prelude.{IsTrue, IfSome, ◌&&◌, ◌==◌, nat_lt}
 use Rattle.std.proofs.lemmas.Bool.{ltb-true, eqb-false}
-use Rattle.disk_dcdd.specs.Command.{selected_by}
-use Rattle.disk_dcdd.specs.Completion.{is_head_loaded, is_sector_busy}
-use Rattle.disk_dcdd.specs.Controller.{AreDrives, AreOutstanding}
-use Rattle.disk_dcdd.specs.Drive.{Drives, after_select, after_position, after_read}
-use Rattle.disk_dcdd.specs.Sector.{IsUnfinished, is_shown_now, may_read, after_showing, after_reading}
-use Rattle.disk_dcdd.specs.declared.controller.TheConstants.{DRIVES}
-use Rattle.disk_dcdd.specs.declared.sector.CurrentSector.{CurrentSector}
-use Rattle.disk_dcdd.specs.declared.sector.TheConstants.{SECTORS, SECTOR_BYTES}
+use Rattle.altair_laws.proofs.Words.{AreDrives, AreOutstanding, CurrentSector, DRIVES, Drives, IsUnfinished, SECTORS, SECTOR_BYTES, after_position, after_read, after_reading, after_select, after_showing, is_head_loaded, is_sector_busy, is_shown_now, may_read, selected_by}
 
 -- the place of byte 137
 abbrev pub LAST_BYTE : ℕ

@@ -6,23 +6,10 @@ use Rattle.std.specs.Prelude.{Contains, slice_index}
 use Rattle.std.proofs.lemmas.Bool.{cases_lt}
 use Rattle.std.proofs.lemmas.List.{get_or_past, length-map}
 use Rattle.std.proofs.lemmas.List.Elements.{Contains-append_left, Contains-append_right}
-use Rattle.disk_dcdd.specs.Sector.{place_of}
-use Rattle.disk_dcdd.specs.declared.address.SectorAddress.{SectorAddress}
-use Rattle.disk_dcdd.specs.declared.sector.Place.{Place}
+use Rattle.altair_laws.proofs.Words.{Among, AreBytes, Byte, Guest, IsLast, Move, OpId, Operation, Place, SectorAddress, Setup, Write, altair, id_of, operation_at, place_of, port_of}
 use Rattle.serial_2sio.specs.Port as serial
-use Rattle.event_callbacks.specs.Completions.{port_of}
-use Rattle.event_callbacks.specs.Operations.{id_of, operation_at}
-use Rattle.event_callbacks.specs.declared.operations.OpId.{OpId}
 use Rattle.event_callbacks.specs.declared.operations.OpId.TheVariants as id
-use Rattle.event_callbacks.specs.declared.operations.Operation.{Operation}
-use Rattle.event_callbacks.specs.declared.operations.Operation.TheVariants.{Byte, Write}
-use Rattle.guest_parts.specs.Guest.{Guest}
-use Rattle.guest_board.specs.Guest.{altair}
-use Rattle.guest_lockstep.specs.Machine.{Move}
 use Rattle.guest_lockstep.specs.Outstanding.{AreFew}
-use Rattle.guest_board.specs.declared.setup.Setup.{Setup}
-use Rattle.altair_laws.specs.Stands.{AreBytes, IsLast}
-use Rattle.pair_protocol.specs.Lawful.{Among}
 use Rattle.altair_laws.proofs.Bytes.{Bytes}
 use Rattle.altair_laws.proofs.Writes.{Writes}
 

@@ -7,22 +7,9 @@ use Rattle.std.specs.Option.{option_map_or}
 use Rattle.std.proofs.lemmas.Bool.{cases_Bool, and_parts, and_from, eqb-true, eq-eqb, lt-ltb, both_ways}
 use Rattle.std.proofs.lemmas.Bool.Decides.{eqb_tells}
 use Rattle.std.proofs.lemmas.List.{get_or-set_same, get_or-set_other}
-use Rattle.disk_dcdd.specs.Address.{address_of, same_address, index_of}
-use Rattle.disk_dcdd.specs.declared.address.SectorAddress.{SectorAddress}
-use Rattle.disk_dcdd.specs.declared.address.TheConstants.{DRIVE_SECTORS}
-use Rattle.disk_dcdd.specs.declared.drive.TheConstants.{TRACKS}
-use Rattle.disk_dcdd.specs.declared.sector.SectorWrite.{SectorWrite}
-use Rattle.disk_dcdd.specs.declared.sector.TheConstants.{SECTORS}
-use Rattle.event_callbacks.specs.declared.operations.Operation.{Operation}
-use Rattle.event_callbacks.specs.declared.operations.Operation.TheVariants.{Byte, Write}
-use Rattle.guest_lockstep.specs.Machine.{Move, Do, Take}
-use Rattle.guest_lockstep.specs.declared.input.Input.{Input}
-use Rattle.guest_lockstep.specs.declared.input.Input.TheVariants.{Written}
-use Rattle.guest_lockstep.specs.Reach.{inputs, steps, operations, bare, bytes_after, image_from}
+use Rattle.altair_laws.proofs.Words.{Among, Byte, DRIVE_SECTORS, Do, Input, Move, Operation, SECTORS, SectorAddress, SectorWrite, TRACKS, Take, Write, Written, address_of, bare, bytes_after, image_from, index_of, inputs, inputs-append, operations, same_address, steps}
 use Rattle.guest_lockstep.specs.declared.timed.Bare.{Bare}
 use Rattle.guest_lockstep.specs.declared.timed.Timed.{Timed}
-use Rattle.pair_protocol.specs.Lawful.{Among}
-use Rattle.pair_protocol.proofs.Traces.Moves.{inputs-append}
 use Rattle.altair_laws.proofs.Moves.{Tells}
 
 -- ---- addresses

@@ -6,21 +6,10 @@ use Rattle.std.specs.Option.{option_map_or}
 use Rattle.std.proofs.lemmas.Bool.{ltb-true, eqb-true, and_parts, both_ways}
 use Rattle.std.proofs.lemmas.Option.{cond_some}
 use Rattle.serial_2sio.specs.Port as serial
-use Rattle.disk_dcdd.specs.Completion.{is_selected, is_head_loaded, is_sector_due, is_sector_busy}
-use Rattle.disk_dcdd.specs.Drive.{Drives}
-use Rattle.disk_dcdd.specs.declared.address.SectorAddress.{SectorAddress}
-use Rattle.disk_dcdd.specs.declared.controller.TheConstants.{DRIVES}
-use Rattle.i8080_words.specs.declared.limits.TheConstants.{GREATEST_NUMBER}
-use Rattle.disk_dcdd.specs.declared.sector.TheConstants.{SECTORS}
-use Rattle.event_callbacks.specs.Completions.{port_of, is_due}
+use Rattle.altair_laws.proofs.Words.{DRIVES, Drives, GREATEST_NUMBER, Guest, Input, Rx, SECTORS, Sector, SectorAddress, Sent, Setup, Written, after_rx, after_sector, after_sent, altair, is_due, is_head_loaded, is_sector_busy, is_sector_due, is_selected, may_take_sector, port_of, take_from}
 use Rattle.event_callbacks.specs.declared.devices.Done.TheVariants as done
 use Rattle.event_callbacks.specs.declared.devices.TheConstants.{PORTS}
-use Rattle.guest_parts.specs.Guest.{Guest}
-use Rattle.guest_board.specs.Guest.{altair, take_from, after_rx, after_sent, after_sector, may_take_sector}
 use Rattle.guest_lockstep.specs.Lockstep.{IsInput, HasRoom}
-use Rattle.guest_lockstep.specs.declared.input.Input.{Input}
-use Rattle.guest_lockstep.specs.declared.input.Input.TheVariants.{Rx, Sent, Sector, Written}
-use Rattle.guest_board.specs.declared.setup.Setup.{Setup}
 use Rattle.altair_laws.proofs.Drives.{Stands}
 
 -- a selected drive is one of those that a controller may have

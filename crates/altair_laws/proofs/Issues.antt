@@ -2,26 +2,9 @@
 -- no outstanding write goes; all that is known of the other writes stays.
 use Rattle.std.proofs.Common.{◌≡◌, ℕ, ◌+◌, ◌*◌, ◌≤◌, ◌<◌, List, [], ◌∷◌, ◌++◌, Option, Some, None, ◌⊎◌, inl, inr, refl, sym, ap, ◌∙◌, subst, arith}
 use Rattle.std.specs.Prelude.{slice_index}
-use Rattle.disk_dcdd.specs.Address.{address_of}
+use Rattle.altair_laws.proofs.Words.{Among, Byte, DRIVE_SECTORS, Do, Guest, Move, Operation, Place, Processor, SectorAddress, SectorWrite, Wired, Write, address_of, after_byte, among-left, among-right, among-split, operation_at-with, operation_at-with_other, operations, place_of, stepped, wired, with_given, with_operation}
 use Rattle.disk_dcdd.specs.Drive as drives
-use Rattle.disk_dcdd.specs.Sector.{place_of}
-use Rattle.disk_dcdd.specs.declared.address.SectorAddress.{SectorAddress}
-use Rattle.disk_dcdd.specs.declared.address.TheConstants.{DRIVE_SECTORS}
-use Rattle.disk_dcdd.specs.declared.sector.Place.{Place}
-use Rattle.disk_dcdd.specs.declared.sector.SectorWrite.{SectorWrite}
-use Rattle.event_callbacks.specs.Operations.{with_operation}
 use Rattle.event_callbacks.specs.declared.operations.OpId.TheVariants as id
-use Rattle.event_callbacks.specs.declared.operations.Operation.{Operation}
-use Rattle.event_callbacks.specs.declared.operations.Operation.TheVariants.{Byte, Write}
-use Rattle.event_callbacks.proofs.OperationMap.{operation_at-with, operation_at-with_other}
-use Rattle.guest_parts.specs.Guest.{Guest}
-use Rattle.guest_board.specs.Guest.{with_given, wired, stepped}
-use Rattle.guest_lockstep.specs.Machine.{Move, Do}
-use Rattle.guest_board.specs.Ports.{Wired, after_byte}
-use Rattle.i8080_words.specs.declared.registers.Processor.{Processor}
-use Rattle.guest_lockstep.specs.Reach.{operations}
-use Rattle.pair_protocol.specs.Lawful.{Among}
-use Rattle.pair_protocol.proofs.Traces.Lists.{among-left, among-split, among-right}
 use Rattle.altair_laws.proofs.Moves.{operations-left}
 use Rattle.altair_laws.proofs.Operations.{given-step}
 use Rattle.altair_laws.proofs.Drives.{Stands}

@@ -1,12 +1,7 @@
 -- The laws of a pair's machine hold of the Altair, each by one of the invariants of its traces.
 use Rattle.std.proofs.Common.{◌≡◌, ℕ, true, cond, List, Some, None, ◌⊎◌, inl, inr, refl, ap}
 use Rattle.std.specs.Prelude.{◌||◌}
-use Rattle.disk_dcdd.specs.declared.address.SectorAddress.{SectorAddress}
-use Rattle.guest_parts.specs.Guest.{Guest}
-use Rattle.guest_board.specs.Guest.{altair, step_from, is_spent, is_idle, next, wired_after}
-use Rattle.guest_lockstep.specs.Machine.{Move}
-use Rattle.guest_board.specs.declared.setup.Setup.{Setup}
-use Rattle.pair_protocol.specs.Lawful.{Lawful, IsUnwritten, IsWritten}
+use Rattle.altair_laws.proofs.Words.{Guest, IsUnwritten, IsWritten, Lawful, Move, SectorAddress, Setup, altair, is_idle, is_spent, next, step_from, wired_after}
 use Rattle.altair_laws.proofs.Images.{Apart}
 use Rattle.altair_laws.proofs.Counts.{counts_after, keys_taken}
 use Rattle.altair_laws.proofs.Limits.{within_after}

@@ -1,3 +1,4 @@
+pub mod Words
 pub mod Moves
 pub mod Operations
 pub mod Accesses

@@ -6,19 +6,7 @@ use Rattle.std.specs.Prelude.{slice_index, slice_index_or, slice_set, nat_lt, na
 use Rattle.std.proofs.lemmas.Bool.{ltb-true, leb-false, and_parts}
 use Rattle.std.proofs.lemmas.Option.{cond_some}
 use Rattle.disk_dcdd.specs.Drive as drives
-use Rattle.disk_dcdd.specs.declared.address.SectorAddress.{SectorAddress}
-use Rattle.i8080_words.specs.declared.limits.TheConstants.{GREATEST_NUMBER}
-use Rattle.guest_parts.specs.Guest.{Guest}
-use Rattle.guest_board.specs.Guest.{guest_at_boot, wired, stepped, take_from, altair, after_rx, is_spent}
-use Rattle.guest_lockstep.specs.Machine.{Move}
-use Rattle.guest_board.specs.Ports.{Wired}
-use Rattle.guest_lockstep.specs.declared.input.Input.{Input}
-use Rattle.guest_lockstep.specs.declared.input.Input.TheVariants.{Rx}
-use Rattle.guest_board.specs.declared.setup.Setup.{Setup}
-use Rattle.i8080_words.specs.declared.registers.Processor.{Processor}
-use Rattle.altair_laws.specs.Stands.{IsWithin}
-use Rattle.pair_protocol.specs.Lawful.{top, Reaches}
-use Rattle.pair_protocol.proofs.Passed.{or-false}
+use Rattle.altair_laws.proofs.Words.{GREATEST_NUMBER, Guest, Input, IsWithin, Move, Processor, Reaches, Rx, SectorAddress, Setup, Wired, after_rx, altair, guest_at_boot, is_spent, or-false, stepped, take_from, top, wired}
 use Rattle.altair_laws.proofs.Moves.{from_boot}
 use Rattle.altair_laws.proofs.Steps.{Gave, GaveNothing, GaveByte, GaveWrite, steps_from, after_step}
 use Rattle.altair_laws.proofs.Sectors.{issues, after_data-issue}

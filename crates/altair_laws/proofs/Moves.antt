@@ -2,13 +2,7 @@
 -- joined end to end.
 use Rattle.std.proofs.Common.{◌≡◌, ◌≢◌, true, false, ℕ, ◌+◌, List, [], ◌∷◌, ◌++◌, length, ◌⊎◌, inl, refl, sym, ap, ◌∙◌, subst, append_assoc, append-nil, Option, Some, None, length-append}
 use Rattle.std.specs.Prelude.{◌==◌}
-use Rattle.event_callbacks.specs.declared.operations.Operation.{Operation}
-use Rattle.guest_lockstep.specs.Machine.{Machine, Move, Do, Take, Runs}
-use Rattle.guest_lockstep.specs.declared.input.Input.{Input}
-use Rattle.guest_lockstep.specs.Reach.{inputs, operations, output, keys}
-use Rattle.pair_protocol.specs.Lawful.{Among}
-use Rattle.pair_protocol.proofs.Traces.Moves.{operations-append, keys_of-append, output-append}
-use Rattle.pair_protocol.proofs.Traces.Lists.{among-left, among-right}
+use Rattle.altair_laws.proofs.Words.{Among, Do, Input, Machine, Move, Operation, Runs, Take, among-left, among-right, inputs, keys, keys_of-append, operations, operations-append, output, output-append}
 
 pub length-output : (port : ℕ) (xs ys : List Move)
     → length (output port (xs ++ ys)) ≡ length (output port xs) + length (output port ys)

@@ -4,19 +4,7 @@
 use Rattle.std.proofs.Common.{◌≡◌, ℕ, ◌<◌, List, Some, sym, subst}
 use Rattle.std.specs.Prelude.{IfSome, IsTrue, nat_lt}
 use Rattle.std.proofs.lemmas.Bool.{and_from, lt-ltb}
-use Rattle.disk_dcdd.specs.Address.{address_of, is_on_disk, has_sector}
-use Rattle.disk_dcdd.specs.declared.address.SectorAddress.{SectorAddress}
-use Rattle.disk_dcdd.specs.declared.drive.TheConstants.{TRACKS}
-use Rattle.disk_dcdd.specs.declared.sector.SectorWrite.{SectorWrite}
-use Rattle.disk_dcdd.specs.declared.sector.TheConstants.{SECTORS}
-use Rattle.event_callbacks.specs.Operations.{operation_at}
-use Rattle.event_callbacks.specs.declared.operations.OpId.{OpId}
-use Rattle.event_callbacks.specs.declared.operations.Operation.TheVariants.{Write}
-use Rattle.guest_parts.specs.Guest.{Guest}
-use Rattle.guest_board.specs.Guest.{altair, address_under}
-use Rattle.guest_lockstep.specs.Machine.{Move}
-use Rattle.guest_board.specs.declared.setup.Setup.{Setup}
-use Rattle.pair_protocol.specs.Lawful.{Reaches}
+use Rattle.altair_laws.proofs.Words.{Guest, Move, OpId, Reaches, SECTORS, SectorAddress, SectorWrite, Setup, TRACKS, Write, address_of, address_under, altair, has_sector, is_on_disk, operation_at}
 use Rattle.pair_protocol.specs.OnDisk.{StaysOnDisk}
 use Rattle.altair_laws.proofs.Drives.{Stands}
 use Rattle.altair_laws.proofs.Commands.{drive-track}

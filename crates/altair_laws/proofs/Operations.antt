@@ -2,16 +2,8 @@
 -- an operation puts it under its name, and one that is completed takes no other with it.
 use Rattle.std.proofs.Common.{◌≡◌, ◌≢◌, ◌⊎◌, Option, Some, None, List, [], ◌∷◌, ◌++◌, sym, ap, subst, ◌∙◌, inl, inr}
 use Rattle.std.specs.FinMap as map
-use Rattle.event_callbacks.specs.Operations.{Operations, id_of, operation_at, with_operation, without_operation}
-use Rattle.event_callbacks.specs.declared.operations.OpId.{OpId}
-use Rattle.event_callbacks.specs.declared.operations.Operation.{Operation}
+use Rattle.altair_laws.proofs.Words.{Among, Do, Input, Move, OpId, Operation, Operations, Take, id_of, operation_at, operation_at-empty, operation_at-with_named, operation_at-with_other, operation_at-without_named, operation_at-without_other, operations, with_given, with_operation, without_operation}
 use Rattle.event_callbacks.proofs.Names.{name_cases}
-use Rattle.event_callbacks.proofs.OperationMap.{operation_at-empty, operation_at-with_named, operation_at-with_other, operation_at-without_named, operation_at-without_other}
-use Rattle.guest_lockstep.specs.Machine.{Move, Do, Take}
-use Rattle.guest_board.specs.Guest.{with_given}
-use Rattle.guest_lockstep.specs.declared.input.Input.{Input}
-use Rattle.guest_lockstep.specs.Reach.{operations}
-use Rattle.pair_protocol.specs.Lawful.{Among}
 use Rattle.altair_laws.proofs.Moves.{same_some, operations-left, operations-last}
 
 pub none_some : {A : Type 0} (x : A) → None ≡ Some x → ⊥

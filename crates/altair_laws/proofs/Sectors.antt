@@ -13,17 +13,8 @@ use Rattle.std.proofs.lemmas.List.Folds.{list_any_at}
 use Rattle.std.proofs.lemmas.List.Kept.{AllPairs-filter}
 use Rattle.std.proofs.lemmas.List.Quantifiers.{all_pairs_push}
 use Rattle.std.proofs.lemmas.Option.{cond_some, option_and_then_some}
-use Rattle.disk_dcdd.specs.Completion.{is_head_loaded, is_busy_on, is_sector_busy, is_sector_due, after_sector, after_written}
-use Rattle.disk_dcdd.specs.Controller.{IsDrives, IsUnderHead, IsIssued, Follows}
-use Rattle.disk_dcdd.specs.Drive.{Drives, drive_of, issued_by, after_data, after_keep, after_issue, has_room, write_of}
-use Rattle.disk_dcdd.specs.Sector.{is_at, place_of, with_byte_filled}
-use Rattle.disk_dcdd.specs.declared.controller.TheConstants.{OUTSTANDING}
-use Rattle.i8080_words.specs.declared.limits.TheConstants.{GREATEST_NUMBER}
-use Rattle.disk_dcdd.specs.declared.drive.TheConstants.{TRACKS}
-use Rattle.disk_dcdd.specs.declared.sector.CurrentSector.{CurrentSector}
-use Rattle.disk_dcdd.specs.declared.sector.Place.{Place}
-use Rattle.disk_dcdd.specs.declared.sector.SectorWrite.{SectorWrite}
-use Rattle.disk_dcdd.specs.declared.sector.TheConstants.{SECTORS, SECTOR_BYTES}
+use Rattle.altair_laws.proofs.Words.{CurrentSector, Drives, Follows, GREATEST_NUMBER, IsDrives, IsIssued, IsUnderHead, OUTSTANDING, Place, SECTORS, SECTOR_BYTES, SectorWrite, TRACKS, after_data, after_issue, after_keep, drive_of, has_room, is_at, is_busy_on, is_head_loaded, is_sector_busy, is_sector_due, issued_by, place_of, with_byte_filled, write_of}
+use Rattle.disk_dcdd.specs.Completion.{after_sector, after_written}
 use Rattle.altair_laws.proofs.Drives.{LAST_BYTE, IsOver, Stands, IsWholeSector}
 use Rattle.altair_laws.proofs.Commands.{drive-track}
 

@@ -5,28 +5,9 @@ use Rattle.std.specs.Prelude.{IfSome, slice_index, slice_set, ◌==◌}
 use Rattle.std.specs.Option.{option_map_or}
 use Rattle.std.proofs.lemmas.Bool.{eqb-true}
 use Rattle.std.proofs.lemmas.Option.{cond_some}
-use Rattle.disk_dcdd.specs.Address.{address_of, index_of}
-use Rattle.disk_dcdd.specs.Completion.{is_outstanding}
-use Rattle.disk_dcdd.specs.Drive.{Drives}
-use Rattle.disk_dcdd.specs.declared.address.SectorAddress.{SectorAddress}
-use Rattle.disk_dcdd.specs.declared.address.TheConstants.{DRIVE_SECTORS}
-use Rattle.disk_dcdd.specs.declared.sector.Place.{Place}
-use Rattle.disk_dcdd.specs.declared.sector.SectorWrite.{SectorWrite}
-use Rattle.event_callbacks.specs.Operations.{operation_at}
+use Rattle.altair_laws.proofs.Words.{AltairStands, Among, AreWhole, AreWholeWrites, DRIVE_SECTORS, Do, Drives, Guest, Input, IsWhole, Move, Operation, Place, Processor, Reaches, Rx, SECTOR_BYTES, Sector, SectorAddress, SectorWrite, Setup, Take, Wired, Write, Written, address_of, after_sector, after_written, altair, guest_at_boot, index_of, is_outstanding, operation_at, operations, take_from, wired, with_completed}
 use Rattle.event_callbacks.specs.declared.operations.OpId.TheVariants as id
-use Rattle.event_callbacks.specs.declared.operations.Operation.{Operation}
-use Rattle.event_callbacks.specs.declared.operations.Operation.TheVariants.{Write}
 use Rattle.guest_memory.proofs.NewMemory.{only_zeros}
-use Rattle.guest_parts.specs.Guest.{Guest}
-use Rattle.guest_board.specs.Guest.{guest_at_boot, wired, take_from, altair, with_completed, after_written, after_sector}
-use Rattle.guest_lockstep.specs.Machine.{Move, Do, Take}
-use Rattle.guest_board.specs.Ports.{Wired}
-use Rattle.guest_lockstep.specs.declared.input.Input.{Input}
-use Rattle.guest_lockstep.specs.declared.input.Input.TheVariants.{Rx, Sector, Written}
-use Rattle.guest_board.specs.declared.setup.Setup.{Setup}
-use Rattle.i8080_words.specs.declared.registers.Processor.{Processor}
-use Rattle.altair_laws.specs.Stands.{AreWholeWrites, IsWhole, AreWhole, AltairStands}
-use Rattle.pair_protocol.specs.Lawful.{Among, Reaches}
 use Rattle.altair_laws.proofs.Moves.{from_boot}
 use Rattle.altair_laws.proofs.Drives.{IsWholeSector}
 use Rattle.altair_laws.proofs.Sectors.{Issues, issues, after_data-issue, drives-stand}
@@ -38,8 +19,6 @@ use Rattle.altair_laws.proofs.Writes.{writes-boot, Has, WasIssued, operations_no
 use Rattle.altair_laws.proofs.Completions.{writes-take}
 use Rattle.altair_laws.proofs.Issues.{same_operations, writes-step}
 use Rattle.altair_laws.proofs.Counts.{counts_after}
-use Rattle.guest_lockstep.specs.Reach.{operations}
-use Rattle.disk_dcdd.specs.declared.sector.TheConstants.{SECTOR_BYTES}
 use Rattle.altair_laws.proofs.Limits.{top_is, set-within, within_after}
 
 -- what holds besides what is known of the writes

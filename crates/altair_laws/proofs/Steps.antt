@@ -8,22 +8,13 @@ use Rattle.std.proofs.lemmas.List.{length-set}
 use Rattle.std.proofs.lemmas.Option.{none-some, same_Some}
 use Rattle.i8080_words.specs.Effects.{Access, after_accesses}
 use Rattle.i8080_words.specs.Effects.Access.{Write, Input, Output}
-use Rattle.i8080_words.specs.declared.registers.Processor.{Processor}
+use Rattle.altair_laws.proofs.Words.{Do, GREATEST_NUMBER, Guest, Move, Operation, Processor, SectorWrite, Wired, after_access, after_byte, after_disk_data, after_out, after_serial_data, device_at, devices_after_in, is_idle, is_spent, next, or-false, port_of, step_from, step_of, stepped, wired, wired_after, with_disk, with_port, write_given}
 use Rattle.serial_2sio.specs.Port as serial
 use Rattle.disk_dcdd.specs.Drive as drives
-use Rattle.i8080_words.specs.declared.limits.TheConstants.{GREATEST_NUMBER}
-use Rattle.disk_dcdd.specs.declared.sector.SectorWrite.{SectorWrite}
-use Rattle.event_callbacks.specs.Completions.{port_of}
 use Rattle.event_callbacks.specs.declared.devices.Devices.{Devices}
-use Rattle.event_callbacks.specs.declared.operations.Operation.{Operation}
 use Rattle.event_callbacks.specs.declared.operations.Operation.TheVariants as operation
-use Rattle.guest_parts.specs.Guest.{Guest}
-use Rattle.guest_board.specs.Guest.{wired, wired_after, step_of, step_from, stepped, next, is_spent, is_idle}
-use Rattle.guest_lockstep.specs.Machine.{Move, Do}
-use Rattle.guest_board.specs.Ports.{Wired, device_at, with_disk, with_port, devices_after_in, after_byte, after_serial_data, after_disk_data, write_given, after_out, after_access}
 use Rattle.altair_laws.proofs.Accesses.{Kind, Memory, Read, Sent, AreWrites, kind_of_step}
 use Rattle.altair_laws.proofs.Drives.{Calm, calm-refl, calm-position, calm-read, calm-select}
-use Rattle.pair_protocol.proofs.Passed.{or-false}
 use Rattle.altair_laws.proofs.Commands.{calm-command, calm-data}
 
 -- nothing is sent, and the controller is calm

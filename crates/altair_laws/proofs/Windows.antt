@@ -7,24 +7,8 @@ use Rattle.std.proofs.lemmas.Grind.{get_or-set_at}
 use Rattle.std.proofs.lemmas.List.{get_or-set_other}
 use Rattle.std.proofs.lemmas.Option.{cond_some, none-some}
 use Rattle.serial_2sio.specs.Port as serial
-use Rattle.disk_dcdd.specs.declared.address.SectorAddress.{SectorAddress}
-use Rattle.event_callbacks.specs.Completions.{port_of}
-use Rattle.event_callbacks.specs.Operations.{operation_at}
-use Rattle.event_callbacks.specs.declared.operations.OpId.{OpId}
+use Rattle.altair_laws.proofs.Words.{AreBytes, Byte, Guest, Input, IsLast, Move, OpId, Operation, Processor, Reaches, Rx, Sector, SectorAddress, Sent, Setup, Wired, Write, Written, after_byte, after_rx, after_sent, altair, guest_at_boot, oldest_byte, operation_at, operation_at-empty, operation_at-with_named, operation_at-with_other, operation_at-without_other, port_of, stepped, take_from, wired, with_given}
 use Rattle.event_callbacks.specs.declared.operations.OpId.TheVariants as id
-use Rattle.event_callbacks.specs.declared.operations.Operation.{Operation}
-use Rattle.event_callbacks.specs.declared.operations.Operation.TheVariants.{Byte, Write}
-use Rattle.event_callbacks.proofs.OperationMap.{operation_at-empty, operation_at-with_named, operation_at-with_other, operation_at-without_other}
-use Rattle.guest_parts.specs.Guest.{Guest}
-use Rattle.guest_board.specs.Guest.{guest_at_boot, wired, stepped, take_from, altair, with_given, after_rx, after_sent, oldest_byte}
-use Rattle.guest_lockstep.specs.Machine.{Move}
-use Rattle.guest_board.specs.Ports.{Wired, after_byte}
-use Rattle.guest_lockstep.specs.declared.input.Input.{Input}
-use Rattle.guest_lockstep.specs.declared.input.Input.TheVariants.{Rx, Sent, Sector, Written}
-use Rattle.guest_board.specs.declared.setup.Setup.{Setup}
-use Rattle.i8080_words.specs.declared.registers.Processor.{Processor}
-use Rattle.altair_laws.specs.Stands.{IsLast, AreBytes}
-use Rattle.pair_protocol.specs.Lawful.{Reaches}
 use Rattle.altair_laws.proofs.Moves.{from_boot}
 use Rattle.altair_laws.proofs.Operations.{with-cases, without-cases}
 use Rattle.altair_laws.proofs.Steps.{Gave, GaveNothing, GaveByte, GaveWrite, steps_from, after_step, same_unaccepted}

@@ -3,28 +3,10 @@
 -- greatest number of the completed ones.
 use Rattle.std.proofs.Common.{◌≡◌, ℕ, ◌*◌, ◌≤◌, ◌<◌, false, List, [], ◌∷◌, ◌++◌, length, get_or, Some, None, ◌⊎◌, inl, inr, sym, ap, ◌∙◌, subst, append-nil, arith, refl, Option}
 use Rattle.std.proofs.lemmas.Bool.{cases_order, both_ways}
-use Rattle.disk_dcdd.specs.Address.{address_of, same_address, index_of}
-use Rattle.disk_dcdd.specs.Controller.{IsIssued}
-use Rattle.disk_dcdd.specs.Sector.{place_of, is_at}
-use Rattle.disk_dcdd.specs.declared.address.SectorAddress.{SectorAddress}
-use Rattle.disk_dcdd.specs.declared.address.TheConstants.{DRIVE_SECTORS}
-use Rattle.disk_dcdd.specs.declared.sector.Place.{Place}
-use Rattle.disk_dcdd.specs.declared.sector.SectorWrite.{SectorWrite}
-use Rattle.event_callbacks.specs.Operations.{Operations, operation_at, with_operation}
+use Rattle.altair_laws.proofs.Words.{Among, Byte, DRIVE_SECTORS, Do, Guest, Input, IsIssued, Move, Operation, Operations, Place, SectorAddress, SectorWrite, Setup, TRACKS, Take, Write, address_of, among-split, drive_at_boot, guest_at_boot, image_from, index_of, inputs, is_at, operation_at, operation_at-empty, operation_at-with_other, operations, operations-append, place_of, same_address, with_operation}
 use Rattle.event_callbacks.specs.declared.operations.OpId.TheVariants as id
-use Rattle.event_callbacks.specs.declared.operations.Operation.{Operation}
-use Rattle.event_callbacks.specs.declared.operations.Operation.TheVariants.{Byte, Write}
-use Rattle.event_callbacks.proofs.OperationMap.{operation_at-with_other, operation_at-empty}
-use Rattle.guest_parts.specs.Guest.{Guest}
-use Rattle.guest_board.specs.Guest.{guest_at_boot}
-use Rattle.guest_lockstep.specs.Machine.{Move, Do, Take}
-use Rattle.guest_lockstep.specs.declared.input.Input.{Input}
-use Rattle.guest_lockstep.specs.Reach.{inputs, operations, image_from}
 use Rattle.guest_lockstep.specs.declared.timed.Bare.{Bare}
 use Rattle.guest_lockstep.specs.declared.timed.Bare.TheVariants as bare
-use Rattle.pair_protocol.specs.Lawful.{Among}
-use Rattle.pair_protocol.proofs.Traces.Moves.{operations-append}
-use Rattle.pair_protocol.proofs.Traces.Lists.{among-split}
 use Rattle.altair_laws.proofs.Operations.{AreGiven, with-cases, given-boot}
 use Rattle.altair_laws.proofs.Drives.{Stands}
 use Rattle.altair_laws.proofs.Images.{number_of, same-address, place-among, write-same, bares}
@@ -33,12 +15,9 @@ use Rattle.std.specs.Option.{option_map_or}
 use Rattle.std.proofs.lemmas.List.{length-replicate}
 use Rattle.std.proofs.lemmas.List.Elements.{All-replicate, All-drop, All-nil}
 use Rattle.std.proofs.lemmas.Option.{none-some}
-use Rattle.disk_dcdd.specs.Command.{drive_at_boot}
 use Rattle.disk_dcdd.specs.declared.drive.Drive.{Drive}
-use Rattle.disk_dcdd.specs.declared.drive.TheConstants.{TRACKS}
 use Rattle.guest_memory.specs.Pages.{zeros}
 use Rattle.guest_memory.proofs.NewMemory.{only_zeros}
-use Rattle.guest_board.specs.declared.setup.Setup.{Setup}
 use Rattle.std.specs.FinMap as map
 
 -- the write is outstanding

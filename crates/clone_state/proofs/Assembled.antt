@@ -5,19 +5,11 @@ use Rattle.std.specs.Global.{Vec}
 use Rattle.std.specs.List.{list_all}
 use Rattle.std.proofs.lemmas.Bool.{false≢true}
 use Rattle.std.proofs.lemmas.List.Elements.{All-cons, All-tail}
-use Rattle.i8080_words.specs.declared.refusal.Fault.{Fault}
-use Rattle.i8080_words.specs.declared.refusal.Fault.TheVariants.{Malformed, NotWhole, OutOfMemory}
-use Rattle.guest_parts.specs.Guest.{Guest}
+use Rattle.clone_state.proofs.Words.{Checkpoint, Fault, FirstPart, FitsBoard, Gathering, Guest, HasPages, HasSlots, IsOfBoard, Malformed, NotWhole, OutOfMemory, Slots, checkpoint_in_parts, first_in, fit_slots, gathered, guest_in, guest_of, machine_in, slots_of, whole_answer}
 use Rattle.guest_parts.specs.Parts as board
 use Rattle.guest_parts.specs.declared.parts.BoardParts.{BoardParts}
 use Rattle.log_entry.specs.Numbers.{◌>>=◌}
-use Rattle.clone_state.specs.Assembly.{Gathering, Slots, gathered, machine_in, whole_answer}
-use Rattle.clone_state.specs.Checkpoint.{Checkpoint, FirstPart, checkpoint_in_parts, guest_of}
 use Rattle.clone_state.specs.Copies.{refused_as}
-use Rattle.clone_state.specs.Laws.{FitsBoard}
-use Rattle.clone_state.specs.Parts.{first_in, guest_in}
-use Rattle.clone_state.specs.Reading.{IsOfBoard}
-use Rattle.clone_state.specs.Slots.{HasPages, HasSlots, fit_slots, slots_of}
 use Rattle.clone_state.proofs.Made.{AreParts, no_first, parts_make, parts_unfit, says, slots_full}
 use Rattle.clone_state.proofs.Rebuilding.{read_stands}
 

@@ -5,7 +5,7 @@ use Rattle.std.proofs.lemmas.Bool.{le-ltb}
 use Rattle.std.proofs.lemmas.List.Elements.{All-head, All-tail}
 use Rattle.log_entry.specs.Numbers.{◌>>=◌}
 use Rattle.log_entry.proofs.NumberLaws.{number_again}
-use Rattle.clone_state.specs.Codec.{Codec, Again, alone, both, by, only, one, bytes, bytes_at, number, spell_each, read_all, read_each, times, counted}
+use Rattle.clone_state.proofs.Words.{Again, Codec, alone, both, by, bytes, bytes_at, counted, number, one, only, read_all, read_each, spell_each, times}
 
 pub both_again : {A B : Type 0} (c : Codec A) (d : Codec B) (x : A) (y : B) → Again c x → Again d y
     → Again (both c d) (x, y)

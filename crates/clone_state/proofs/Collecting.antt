@@ -2,8 +2,7 @@
 use Rattle.std.proofs.Common.{◌≡◌, ℕ, suc, zero, ◌+◌, ◌-◌, ◌<◌, List, [], ◌∷◌, ◌++◌, length, Option, Some, None, refl, sym, ap, ◌∙◌, append_assoc, append-nil, arith}
 use Rattle.std.proofs.lemmas.Option.{same_Some}
 use Rattle.log_entry.specs.Numbers.{◌>>=◌}
-use Rattle.log_entry.proofs.ReadingLaws.{first_read}
-use Rattle.clone_state.specs.Codec.{Codec, read_each}
+use Rattle.clone_state.proofs.Words.{Codec, first_read, read_each}
 
 -- what is read, after the values that were read before
 abbrev after_these : {A : Type 0} → List A → List A × List ℕ → Option (List A × List ℕ)

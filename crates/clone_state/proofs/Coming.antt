@@ -3,14 +3,7 @@ use Rattle.std.proofs.Common.{◌≡◌, ℕ, ◌+◌, ◌≤◌, Bool, true, fa
 use Rattle.std.specs.Prelude.{slice_set, vec_capacity}
 use Rattle.std.specs.Global.{Vec}
 use Rattle.std.proofs.lemmas.Bool.{eq-eqb, eqb-true, ltb-true, ne_eqb}
-use Rattle.i8080_words.specs.declared.refusal.Fault.{Fault}
-use Rattle.i8080_words.specs.declared.refusal.Fault.TheVariants.{Malformed, WrongGeneration}
-use Rattle.log_entry.specs.Numbers.{IsBytes}
-use Rattle.clone_state.specs.Assembly.{Gathering, Slots, after_forgetting, after_part, answer_to, is_missing, part_answer, with_part, without_part}
-use Rattle.clone_state.specs.Checkpoint.{FirstPart}
-use Rattle.clone_state.specs.Codec.{read_all}
-use Rattle.clone_state.specs.Parts.{PartMessage, first_in, is_page, is_payload, message_at, part_count, table, table_count}
-use Rattle.clone_state.specs.Slots.{FitsSlot, HasSlots, is_free, taken}
+use Rattle.clone_state.proofs.Words.{Fault, FirstPart, FitsSlot, Gathering, HasSlots, IsBytes, Malformed, PartMessage, Slots, WrongGeneration, after_forgetting, after_part, answer_to, first_in, is_free, is_missing, is_page, is_payload, message_at, part_answer, part_count, read_all, table, table_count, taken, with_part, without_part}
 use Rattle.clone_state.proofs.Made.{page_length}
 use Rattle.clone_state.proofs.Messages.{message_written}
 use Rattle.clone_state.proofs.ReadSizes.{first_size, table_size}

@@ -9,17 +9,9 @@ use Rattle.std.proofs.lemmas.List.Elements.{All-cons, All-head, All-tail}
 use Rattle.std.proofs.lemmas.List.Kept.{AllPairs-cons}
 use Rattle.disk_dcdd.specs.Command.{drive_at_boot}
 use Rattle.disk_dcdd.specs.Completion.{is_head_loaded, is_sector_busy}
-use Rattle.disk_dcdd.specs.Controller.{Follows, IsDrives, IsIssued, IsUnderHead}
-use Rattle.disk_dcdd.specs.Drive.{Drives}
-use Rattle.disk_dcdd.specs.Sector.{is_at}
+use Rattle.clone_state.proofs.Words.{CurrentSector, Drive, Drives, Follows, GREATEST_NUMBER, IsDrives, IsIssued, IsUnderHead, Place, SECTORS, SECTOR_BYTES, are_drives, are_in_order, are_outstanding, has_current, has_drives, is_at, is_at_boot, is_controller, is_issued, is_on_track, may_be_under_head, may_follow, selects_attached}
 use Rattle.disk_dcdd.specs.declared.controller.TheConstants.{DRIVES, OUTSTANDING}
-use Rattle.i8080_words.specs.declared.limits.TheConstants.{GREATEST_NUMBER}
-use Rattle.disk_dcdd.specs.declared.drive.Drive.{Drive}
 use Rattle.disk_dcdd.specs.declared.drive.TheConstants.{TRACKS}
-use Rattle.disk_dcdd.specs.declared.sector.CurrentSector.{CurrentSector}
-use Rattle.disk_dcdd.specs.declared.sector.Place.{Place}
-use Rattle.disk_dcdd.specs.declared.sector.TheConstants.{SECTORS, SECTOR_BYTES}
-use Rattle.clone_state.specs.Possible.{has_drives, selects_attached, is_on_track, is_at_boot, are_drives, may_be_under_head, has_current, is_issued, may_follow, are_in_order, are_outstanding, is_controller}
 
 -- ---- tests
 

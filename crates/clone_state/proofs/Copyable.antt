@@ -5,29 +5,16 @@ use Rattle.std.specs.List.{list_all, zip}
 use Rattle.std.proofs.lemmas.List.Elements.{All-cons, All-head, All-tail}
 use Rattle.serial_2sio.specs.Port as serial
 use Rattle.disk_dcdd.specs.Completion.{is_outstanding}
-use Rattle.disk_dcdd.specs.Controller.{IsIssued, IsUnderHead}
-use Rattle.disk_dcdd.specs.Drive.{Drives}
+use Rattle.clone_state.proofs.Words.{Checkpoint, CurrentSector, Drives, GREATEST_NUMBER, Guest, HasOneByte, IsCopyable, IsIssued, IsUnderHead, Place, SECTOR_BYTES, SectorWrite, are_completed, are_levels, are_zeros, checkpoint_of, first, first_in, guest_in, guest_of, is_controller, is_possible, is_window, later_parts, may_be_completed, may_halt, oldest_of, padded, parts_of, port_stands, spelling_01, window_of, write_at, writes_at}
 use Rattle.disk_dcdd.specs.declared.address.TheConstants.{DRIVE_SECTORS}
 use Rattle.disk_dcdd.specs.declared.controller.TheConstants.{DRIVES, OUTSTANDING}
-use Rattle.i8080_words.specs.declared.limits.TheConstants.{GREATEST_NUMBER}
-use Rattle.disk_dcdd.specs.declared.sector.CurrentSector.{CurrentSector}
-use Rattle.disk_dcdd.specs.declared.sector.Place.{Place}
-use Rattle.disk_dcdd.specs.declared.sector.SectorWrite.{SectorWrite}
-use Rattle.disk_dcdd.specs.declared.sector.TheConstants.{SECTOR_BYTES}
 use Rattle.event_callbacks.specs.Completions.{port_of}
 use Rattle.event_callbacks.specs.Operations.{Operations, operation_at}
 use Rattle.event_callbacks.specs.declared.devices.Devices.{Devices}
 use Rattle.event_callbacks.specs.declared.operations.OpId.TheVariants as id
 use Rattle.event_callbacks.specs.declared.operations.Operation.TheVariants as operation
 use Rattle.guest_parts.specs.Board.{AreCompleted, IsHeld}
-use Rattle.guest_parts.specs.Guest.{Guest}
-use Rattle.guest_parts.specs.Parts.{are_completed, are_levels, may_be_completed, oldest_of, port_stands}
 use Rattle.log_entry.specs.Numbers.{◌>>=◌}
-use Rattle.clone_state.specs.Checkpoint.{Checkpoint, checkpoint_of, guest_of, padded, window_of, write_at, writes_at}
-use Rattle.clone_state.specs.FirstPart.{first, spelling_01}
-use Rattle.clone_state.specs.Laws.{HasOneByte, IsCopyable}
-use Rattle.clone_state.specs.Parts.{first_in, guest_in, later_parts, parts_of}
-use Rattle.clone_state.specs.Possible.{are_zeros, is_controller, is_possible, is_window, may_halt}
 use Rattle.clone_state.proofs.Controllers.{at_most, both_true, controller_passes, strictly}
 use Rattle.clone_state.proofs.First.{AreNumbers, IsFirst, IsPortImage, first_in_again, first_in_again_01}
 use Rattle.clone_state.proofs.Devices.{HasOne, IsCurrent, IsWrite}

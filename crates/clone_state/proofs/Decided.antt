@@ -5,15 +5,8 @@ use Rattle.std.specs.List.{zip}
 use Rattle.std.specs.Result.{result_ok}
 use Rattle.std.proofs.lemmas.Bool.{false≢true}
 use Rattle.std.proofs.lemmas.Option.{none-some, same_Some}
-use Rattle.disk_dcdd.specs.declared.sector.Place.{Place}
-use Rattle.i8080_words.specs.declared.refusal.Fault.{Fault}
+use Rattle.clone_state.proofs.Words.{Drives, Fault, FirstImage, FirstPart, HasSizes, IsDrives, Place, PortImage, controller_of, controller_with, fields_of, first_of_image, if_possible, is_controller, is_possible}
 use Rattle.serial_2sio.specs.Port as serial
-use Rattle.disk_dcdd.specs.Controller.{IsDrives}
-use Rattle.disk_dcdd.specs.Drive.{Drives}
-use Rattle.clone_state.specs.Checkpoint.{FirstPart}
-use Rattle.clone_state.specs.FirstPart.{FirstImage, PortImage, first_of_image}
-use Rattle.clone_state.specs.Possible.{HasSizes, is_controller, is_possible}
-use Rattle.clone_state.specs.Reading.{controller_of, controller_with, fields_of, if_possible}
 use Rattle.clone_state.specs.declared.reading.first_part.Fields.{Fields}
 use Rattle.clone_state.proofs.Controllers.{controller_holds, controller_passes}
 use Rattle.clone_state.proofs.Lists.{zip_first, zip_second}

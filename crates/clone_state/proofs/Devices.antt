@@ -6,12 +6,7 @@ use Rattle.std.proofs.lemmas.Bool.{eqb-true, ltb-true, and_parts}
 use Rattle.serial_2sio.specs.Port as serial
 use Rattle.serial_2sio.specs.declared.acia.Receiver.{Receiver}
 use Rattle.serial_2sio.specs.declared.acia.Receiver.TheVariants.{Empty, Full, FullLost, Over}
-use Rattle.disk_dcdd.specs.declared.drive.Drive.{Drive}
-use Rattle.disk_dcdd.specs.declared.sector.CurrentSector.{CurrentSector}
-use Rattle.disk_dcdd.specs.declared.sector.SectorWrite.{SectorWrite}
-use Rattle.clone_state.specs.Codec.{Codec, Again, both, only, one, bytes, number, times}
-use Rattle.clone_state.specs.Possible.{are_zeros, is_window}
-use Rattle.clone_state.specs.FirstPart.{truth, maybe, code_of_receiver, receiver_of, is_receiver, receiver, PortImage, has_window, port, PortImage01, has_byte, port_01, CurrentImage, no_bytes, shown_current, is_current, current_of, current, drive_with, drives, write}
+use Rattle.clone_state.proofs.Words.{Again, Codec, CurrentImage, CurrentSector, Drive, PortImage, PortImage01, SectorWrite, are_zeros, both, bytes, code_of_receiver, current, current_of, drive_with, drives, has_byte, has_window, is_current, is_receiver, is_window, maybe, no_bytes, number, one, only, port, port_01, receiver, receiver_of, shown_current, times, truth, write}
 use Rattle.clone_state.proofs.Codecs.{both_again, by_again, code_again, only_again, one_again, bytes_again, numbers_again, times_again}
 use Rattle.clone_state.proofs.Spellings.{Spells, one_spells, bytes_spells, number_spells, both_spells, by_spells, only_spells, times_spells}
 use Rattle.clone_state.proofs.Lists.{map_length, zip_length}

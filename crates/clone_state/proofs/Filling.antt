@@ -4,8 +4,7 @@ use Rattle.std.specs.Prelude.{ℕ, ◌==◌, ◌&&◌, not}
 use Rattle.std.specs.List.{list_all}
 use Rattle.std.proofs.Math.Dec.{eqb-suc-zero}
 use Rattle.log_entry.specs.Numbers.{◌>>=◌}
-use Rattle.clone_state.specs.Assembly.{Slots, gathered}
-use Rattle.clone_state.specs.Slots.{slots_of}
+use Rattle.clone_state.proofs.Words.{Slots, gathered, slots_of}
 
 next_is : (payload : List ℕ) (o : Option (List (List ℕ)))
     → is_some (o >>= λ rest. Some (payload ∷ rest)) ≡ is_some o

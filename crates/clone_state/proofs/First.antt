@@ -6,15 +6,8 @@ use Rattle.std.proofs.lemmas.Bool.{eq-eqb, eqb-true}
 use Rattle.std.proofs.lemmas.List.{nil_from_length}
 use Rattle.std.proofs.lemmas.Option.{none-some}
 use Rattle.serial_2sio.specs.Port as serial
-use Rattle.disk_dcdd.specs.Sector.{place_of}
-use Rattle.log_entry.specs.Numbers.{◌>>=◌, IsBytes}
-use Rattle.log_entry.proofs.ReadingLaws.{IsBytes-rest, first_read, admitted}
-use Rattle.clone_state.specs.Codec.{Codec, Again, alone, by, one, bytes, number, read_all, times, counted}
-use Rattle.clone_state.specs.Checkpoint.{FirstPart}
-use Rattle.clone_state.specs.Reading.{IsOfBoard}
-use Rattle.clone_state.specs.Possible.{is_possible}
-use Rattle.clone_state.specs.FirstPart.{truth, maybe, processor, PortImage, has_window, port, port_01, current, drives, write, are_few, writes, controller, two_numbers, devices, FirstImage, fields, image_of_first, first_of_image, versioned, first, spelling_01}
-use Rattle.clone_state.specs.Parts.{first_in, of_drives}
+use Rattle.clone_state.proofs.Words.{Again, Codec, FirstImage, FirstPart, IsBytes, IsBytes-rest, IsOfBoard, PortImage, admitted, alone, are_few, by, bytes, controller, counted, current, devices, drives, fields, first, first_in, first_of_image, first_read, has_window, image_of_first, is_possible, maybe, number, of_drives, one, place_of, port, port_01, processor, read_all, spelling_01, times, truth, two_numbers, versioned, write, writes}
+use Rattle.log_entry.specs.Numbers.{◌>>=◌}
 use Rattle.clone_state.proofs.Codecs.{both_again, by_again, only_again, one_again, bytes_again, numbers_again, times_again, counted_again, all_again}
 use Rattle.clone_state.proofs.Spellings.{Spells, weaker, one_spells, bytes_spells, number_spells, both_spells, by_spells, only_spells, times_spells, counted_spells}
 use Rattle.clone_state.proofs.Devices.{HasOne, port_again, port_spells, port_01_again, port_01_spells, IsCurrent, current_again, current_spells, drives_again, drives_spells, IsWrite, write_again, write_spells}

@@ -4,14 +4,9 @@ use Rattle.std.specs.Prelude.{slice_get, slice_index_or, slice_set}
 use Rattle.std.proofs.lemmas.Bool.{and_parts, eqb-true}
 use Rattle.std.proofs.lemmas.List.{length-replicate, length-set}
 use Rattle.std.proofs.lemmas.Option.{none-some, same_Some}
-use Rattle.guest_parts.specs.Guest.{Guest}
+use Rattle.clone_state.proofs.Words.{Gathering, Guest, IsCopyable, PartMessage, Slots, after_part, checkpoint_of, first_read, gathered, guest_in, is_missing, is_whole, machine_in, message_at, nothing_gathered, part_count, parts_of, with_part}
 use Rattle.log_entry.specs.Numbers.{◌>>=◌}
-use Rattle.log_entry.proofs.ReadingLaws.{first_read}
-use Rattle.clone_state.specs.Assembly.{Gathering, Slots, after_part, gathered, is_missing, is_whole, machine_in, nothing_gathered, with_part}
-use Rattle.clone_state.specs.Checkpoint.{checkpoint_of}
 use Rattle.clone_state.specs.Gathering.{AreOf, IsOfImage}
-use Rattle.clone_state.specs.Laws.{IsCopyable}
-use Rattle.clone_state.specs.Parts.{PartMessage, guest_in, message_at, part_count, parts_of}
 use Rattle.clone_state.proofs.Copyable.{parts_make_it}
 
 -- ---- slots

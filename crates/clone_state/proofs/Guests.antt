@@ -6,10 +6,7 @@ use Rattle.std.specs.FinMap as finite
 use Rattle.std.proofs.lemmas.Bool.Decides.{nat_tests}
 use Rattle.std.proofs.lemmas.List.Elements.{All-cons, All-head, All-tail}
 use Rattle.serial_2sio.specs.Port as serial
-use Rattle.disk_dcdd.specs.Controller.{IsDrives}
-use Rattle.disk_dcdd.specs.Sector.{place_of}
-use Rattle.disk_dcdd.specs.declared.sector.Place.{Place}
-use Rattle.disk_dcdd.specs.declared.sector.SectorWrite.{SectorWrite}
+use Rattle.clone_state.proofs.Words.{Guest, IsDrives, Place, SectorWrite, byte_of, bytes_from, bytes_numbered, checkpoint_of, guest_of, oldest_of, operations_in, padded, place_of, window_of, with_each, write_at, writes_at, writes_of}
 use Rattle.event_callbacks.specs.Completions.{port_of}
 use Rattle.event_callbacks.specs.declared.devices.Devices.{Devices}
 use Rattle.event_callbacks.specs.declared.devices.TheConstants.{PORTS}
@@ -20,12 +17,9 @@ use Rattle.event_callbacks.specs.declared.operations.Operation.TheVariants as op
 use Rattle.event_callbacks.specs.Operations.{Operations, operation_at, with_operation, id_of}
 use Rattle.event_callbacks.proofs.Names.{name_cases}
 use Rattle.event_callbacks.proofs.OperationMap.{operation_at-empty, operation_at-with_named, operation_at-with_other, same_operations}
-use Rattle.guest_parts.specs.Guest.{Guest}
 use Rattle.guest_parts.specs.Board.{AreAwaited, IsBoard, IsHeld, is_on_its_way}
-use Rattle.guest_parts.specs.Parts.{with_each, bytes_from, oldest_of, writes_of}
 use Rattle.guest_parts.proofs.Shown.{AreAmong}
 use Rattle.guest_parts.proofs.Standing.{awaited-parts}
-use Rattle.clone_state.specs.Checkpoint.{byte_of, bytes_numbered, window_of, padded, write_at, writes_at, checkpoint_of, operations_in, guest_of}
 
 -- ---- maps of operations
 

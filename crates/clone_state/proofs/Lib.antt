@@ -1,3 +1,4 @@
+pub mod Words
 pub mod Codecs
 pub mod Spellings
 pub mod Lists

@@ -9,16 +9,9 @@ use Rattle.std.proofs.Math.Seq.{take-length}
 use Rattle.std.proofs.lemmas.List.{length-map, take_more}
 use Rattle.std.proofs.lemmas.List.Elements.{All-cons, All-head, All-tail}
 use Rattle.std.proofs.lemmas.Option.{none-some, same_Some}
-use Rattle.disk_dcdd.specs.Drive.{Drives}
-use Rattle.guest_parts.specs.Parts.{may_be_completed}
+use Rattle.clone_state.proofs.Words.{Checkpoint, Drives, FirstPart, IsPage, Slots, admitted, bytes, bytes_in, checkpoint_in, first_in, first_read, fit_slots, fits_together, fitting, gathered, guest_in, guest_of, is_page, may_be_completed, number, numbers_at, numbers_in, page, read_all, read_each, read_joined, read_parts, slots_of, table, table_count, times}
 use Rattle.log_entry.specs.Numbers.{◌>>=◌}
-use Rattle.log_entry.proofs.ReadingLaws.{admitted, first_read}
-use Rattle.clone_state.specs.Assembly.{Slots, gathered}
-use Rattle.clone_state.specs.Checkpoint.{Checkpoint, FirstPart, guest_of}
-use Rattle.clone_state.specs.Codec.{bytes, number, read_all, read_each, times}
-use Rattle.clone_state.specs.Parts.{checkpoint_in, first_in, fitting, guest_in, is_page, page, read_joined, read_parts, table, table_count}
-use Rattle.clone_state.specs.Possible.{fits_together}
-use Rattle.clone_state.specs.Slots.{IsPage, bytes_at, bytes_in, fit_slots, numbers_at, numbers_in, slots_of}
+use Rattle.clone_state.specs.Slots.{bytes_at}
 use Rattle.clone_state.proofs.Codecs.{all_again}
 use Rattle.clone_state.proofs.Collecting.{read_count}
 use Rattle.clone_state.proofs.Controllers.{both_true}

@@ -6,12 +6,8 @@ use Rattle.std.proofs.lemmas.List.{length-take, take-append-drop}
 use Rattle.std.proofs.lemmas.Nat.{be_bytes_4}
 use Rattle.std.proofs.lemmas.Option.{same_Some, none-some}
 use Rattle.byteorder.specs.Endian.{big_bytes}
-use Rattle.log_entry.specs.Numbers.{IsBytes, generation_from}
+use Rattle.clone_state.proofs.Words.{IsBytes, IsBytes-rest, IsMessage, PartMessage, admitted, after_tag, first_read, generation_from, is_payload, message_at, message_bytes, word}
 use Rattle.log_entry.proofs.GenerationLaws.{generation_takes}
-use Rattle.log_entry.proofs.ReadingLaws.{IsBytes-rest, first_read, admitted}
-use Rattle.clone_state.specs.FirstPart.{word}
-use Rattle.clone_state.specs.Laws.{IsMessage}
-use Rattle.clone_state.specs.Parts.{PartMessage, after_tag, is_payload, message_at, message_bytes}
 use Rattle.clone_state.proofs.PartsRead.{Read, after_generation, after_index}
 use Rattle.clone_state.proofs.Values.{word_spells}
 

@@ -2,11 +2,8 @@
 use Rattle.std.proofs.Common.{◌≡◌, ℕ, ◌<◌, ◌≤◌, true, false, cond, List, [], ◌∷◌, ◌++◌, length, Option, Some, None, refl, sym, ap, ◌∙◌, arith}
 use Rattle.std.specs.Prelude.{nat_le}
 use Rattle.std.proofs.lemmas.Bool.Decides.{nat_tests}
-use Rattle.disk_dcdd.specs.declared.sector.SectorWrite.{SectorWrite}
+use Rattle.clone_state.proofs.Words.{SectorWrite, are_few, counted, one, only, read_each, write, writes, writes_in}
 use Rattle.log_entry.specs.Numbers.{◌>>=◌}
-use Rattle.clone_state.specs.Codec.{counted, one, only, read_each}
-use Rattle.clone_state.specs.FirstPart.{are_few, write, writes}
-use Rattle.clone_state.specs.Reading.{writes_in}
 use Rattle.clone_state.specs.declared.reading.controller.Outstanding.{Outstanding}
 use Rattle.clone_state.proofs.Collecting.{read_count}
 

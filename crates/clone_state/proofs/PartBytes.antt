@@ -3,12 +3,8 @@ use Rattle.std.proofs.Common.{◌≡◌, ℕ, ◌<◌, ◌≤◌, List, [], leng
 use Rattle.std.specs.Prelude.{IfOk, IsOkUnless, Result, Ok, Err, slice_index_or}
 use Rattle.std.specs.Global.{Vec}
 use Rattle.std.proofs.lemmas.Option.{slice_get_past, slice_get-get_or}
-use Rattle.i8080_words.specs.declared.refusal.Fault.{Fault}
-use Rattle.i8080_words.specs.declared.refusal.Fault.TheVariants.{OutOfMemory, Unknown}
-use Rattle.guest_parts.specs.Guest.{Guest}
-use Rattle.clone_state.specs.Checkpoint.{checkpoint_of}
+use Rattle.clone_state.proofs.Words.{Fault, Guest, OutOfMemory, Unknown, checkpoint_of, parts_of}
 use Rattle.clone_state.specs.Image.{Spells, part_at, part_bytes}
-use Rattle.clone_state.specs.Parts.{parts_of}
 
 pub past_the_image : (g : Guest) (generation index : ℕ) → length (parts_of (checkpoint_of g)) ≤ index
     → Spells (part_at g generation index) (Err Unknown)

@@ -4,14 +4,8 @@ use Rattle.std.specs.Prelude.{All}
 use Rattle.std.proofs.lemmas.Bool.{eqb-true}
 use Rattle.std.proofs.lemmas.List.Elements.{All-cons, All-head, All-tail}
 use Rattle.std.proofs.lemmas.Option.{same_Some, none-some}
-use Rattle.log_entry.specs.Numbers.{◌>>=◌, IsBytes}
-use Rattle.log_entry.proofs.ReadingLaws.{first_read, admitted}
-use Rattle.clone_state.specs.Codec.{Codec, Again, number, read_all}
-use Rattle.clone_state.specs.Checkpoint.{Checkpoint, FirstPart}
-use Rattle.clone_state.specs.FirstPart.{first, spelling_01}
-use Rattle.clone_state.specs.Laws.{AreRead}
-use Rattle.clone_state.specs.Parts.{page, table, table_count, part_count, pieces, later_parts, parts_of, first_in, read_joined, read_parts, fitting, checkpoint_in}
-use Rattle.clone_state.specs.Possible.{fits_together}
+use Rattle.clone_state.proofs.Words.{Again, AreRead, Checkpoint, Codec, FirstPart, IsBytes, admitted, checkpoint_in, first, first_in, first_read, fits_together, fitting, later_parts, number, page, part_count, parts_of, pieces, read_all, read_joined, read_parts, spelling_01, table, table_count}
+use Rattle.log_entry.specs.Numbers.{◌>>=◌}
 use Rattle.clone_state.proofs.Codecs.{bytes_again, numbers_again, times_again, all_again, take_front, drop_front}
 use Rattle.clone_state.proofs.Spellings.{Spells, bytes_spells, number_spells, times_spells, all_spells, all_holds}
 use Rattle.clone_state.proofs.Lists.{map_length}

@@ -9,12 +9,7 @@ use Rattle.std.proofs.lemmas.Option.{none-some, same_Some, slice_get_within}
 use Rattle.byteorder.specs.Endian.{big_bytes}
 use Rattle.log_entry.specs.Numbers.{◌>>=◌}
 use Rattle.log_entry.proofs.GenerationLaws.{generation_again}
-use Rattle.log_entry.proofs.ReadingLaws.{first_read}
-use Rattle.clone_state.specs.Checkpoint.{Checkpoint, guest_of}
-use Rattle.clone_state.specs.Codec.{Codec, both, by, one, read_all}
-use Rattle.clone_state.specs.FirstPart.{word}
-use Rattle.clone_state.specs.Laws.{IsMessage, PartsAreReadAgain}
-use Rattle.clone_state.specs.Parts.{PartMessage, checked, checkpoint_in, first_in, fitting, guest_in, is_page, is_payload, message_at, message_bytes, page, part_count, read_joined, read_parts, table, table_count}
+use Rattle.clone_state.proofs.Words.{Checkpoint, Codec, IsMessage, PartMessage, PartsAreReadAgain, both, by, checked, checkpoint_in, first_in, first_read, fitting, guest_in, guest_of, is_page, is_payload, message_at, message_bytes, one, page, part_count, read_all, read_joined, read_parts, table, table_count, word}
 
 -- ---- a message is read again
 

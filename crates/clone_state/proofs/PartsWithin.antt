@@ -2,12 +2,7 @@
 use Rattle.std.proofs.Common.{◌≡◌, ℕ, ◌<◌, Bool, true, false, cond, eqb, ltb, List, [], ◌∷◌, Some, None, is_some, refl, subst, arith}
 use Rattle.std.proofs.lemmas.Bool.{eqb-true, ltb-true}
 use Rattle.std.proofs.lemmas.Option.{none-some, same_Some}
-use Rattle.log_entry.specs.Numbers.{generation_from}
-use Rattle.log_entry.proofs.ReadingLaws.{first_read}
-use Rattle.clone_state.specs.Codec.{read_all}
-use Rattle.clone_state.specs.Laws.{IndexesAreWithin}
-use Rattle.clone_state.specs.FirstPart.{word}
-use Rattle.clone_state.specs.Parts.{PartMessage, after_tag, first_in, is_page, is_payload, message_at, part_count, table}
+use Rattle.clone_state.proofs.Words.{IndexesAreWithin, PartMessage, after_tag, first_in, first_read, generation_from, is_page, is_payload, message_at, part_count, read_all, table, word}
 
 -- no payload is well-formed for an index past the image
 payload_within : (drives index : ℕ) (payload : List ℕ) → is_payload drives index payload ≡ true

@@ -4,13 +4,9 @@ use Rattle.std.specs.Prelude.{slice_index_or}
 use Rattle.std.specs.List.{zip}
 use Rattle.std.proofs.lemmas.List.{append-nil, take_more, get_or-append_right, get_or_append_left, get_or-map, drop-drop, length-map}
 use Rattle.std.proofs.Math.Nat.{suc-mul}
-use Rattle.disk_dcdd.specs.declared.sector.TheConstants.{SECTORS}
+use Rattle.clone_state.proofs.Words.{Checkpoint, Codec, FirstPart, SECTORS, both, by, bytes, controller, counted, current, devices, drives, fields, first, later_parts, maybe, number, one, only, page, part_count, parts_of, pieces, port, processor, spell_each, table, table_count, times, truth, two_numbers, versioned, write, writes}
 use Rattle.serial_2sio.specs.Port as serial
 use Rattle.guest_memory.specs.declared.memory.TheConstants.{PAGES, PAGE_BYTES}
-use Rattle.clone_state.specs.Checkpoint.{Checkpoint, FirstPart}
-use Rattle.clone_state.specs.Codec.{Codec, both, by, only, one, bytes, times, counted, number, spell_each}
-use Rattle.clone_state.specs.FirstPart.{first, versioned, fields, devices, two_numbers, controller, writes, processor, port, maybe, truth, drives, current, write}
-use Rattle.clone_state.specs.Parts.{page, table, table_count, part_count, pieces, later_parts, parts_of}
 use Rattle.clone_state.proofs.PartLaws.{pieces_length}
 
 -- one more value is spelled after the others

@@ -4,14 +4,8 @@ use Rattle.std.specs.Int.{w64, from_be_bytes}
 use Rattle.std.proofs.lemmas.Bool.{eqb-true}
 use Rattle.std.proofs.lemmas.Bool.Decides.{nat_tests}
 use Rattle.std.proofs.lemmas.Option.{none-some, same_Some}
-use Rattle.disk_dcdd.specs.declared.sector.SectorWrite.{SectorWrite}
-use Rattle.log_entry.specs.Numbers.{◌>>=◌, limited, number_from}
-use Rattle.log_entry.proofs.ReadingLaws.{admitted, first_read}
-use Rattle.clone_state.specs.Checkpoint.{FirstPart}
-use Rattle.clone_state.specs.Codec.{Codec, both, by, only, one, byte_at, bytes, number, read_all, read_each, times, counted}
-use Rattle.clone_state.specs.FirstPart.{PortImage, are_few, controller, current, devices, drives, fields, first, flags, interrupts, maybe, port, port_01, processor, receiver, registers, truth, two_numbers, versioned, word, write, writes}
-use Rattle.clone_state.specs.Parts.{first_in, of_drives, table}
-use Rattle.clone_state.specs.Possible.{is_possible}
+use Rattle.clone_state.proofs.Words.{Codec, FirstPart, PortImage, SectorWrite, admitted, are_few, both, by, byte_at, bytes, controller, counted, current, devices, drives, fields, first, first_in, first_read, flags, interrupts, is_possible, limited, maybe, number, number_from, of_drives, one, only, port, port_01, processor, read_all, read_each, receiver, registers, table, times, truth, two_numbers, versioned, word, write, writes}
+use Rattle.log_entry.specs.Numbers.{◌>>=◌}
 use Rattle.clone_state.proofs.Collecting.{read_count}
 use Rattle.clone_state.proofs.Controllers.{is_at_most}
 

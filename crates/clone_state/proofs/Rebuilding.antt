@@ -2,15 +2,8 @@
 use Rattle.std.proofs.Common.{◌≡◌, ℕ, ◌<◌, ◌^◌, true, List, [], ◌∷◌, map, refl, subst, arith}
 use Rattle.std.specs.Prelude.{◌&&◌, ◌==◌, nat_le}
 use Rattle.std.proofs.lemmas.Bool.{and_parts, eq-eqb}
-use Rattle.disk_dcdd.specs.Sector.{place_of}
-use Rattle.i8080_words.specs.declared.limits.TheConstants.{GREATEST_NUMBER}
-use Rattle.disk_dcdd.specs.declared.sector.Place.{Place}
-use Rattle.disk_dcdd.specs.declared.sector.SectorWrite.{SectorWrite}
-use Rattle.guest_parts.specs.Parts.{are_completed, are_levels, go_to, goes_to, port_stands, stands}
+use Rattle.clone_state.proofs.Words.{FitsBoard, GREATEST_NUMBER, Place, SectorWrite, are_completed, are_levels, checkpoint_in_parts, go_to, goes_to, is_controller, is_possible, may_halt, place_of, port_stands, stands}
 use Rattle.guest_parts.specs.declared.parts.BoardParts.{BoardParts}
-use Rattle.clone_state.specs.Checkpoint.{checkpoint_in_parts}
-use Rattle.clone_state.specs.Laws.{FitsBoard}
-use Rattle.clone_state.specs.Possible.{is_controller, is_possible, may_halt}
 use Rattle.clone_state.proofs.Controllers.{at_most, both_true}
 
 -- writes go to their own places

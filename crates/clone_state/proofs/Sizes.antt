@@ -3,16 +3,9 @@ use Rattle.std.proofs.Common.{◌≡◌, ℕ, zero, suc, ◌+◌, ◌*◌, List,
 use Rattle.std.specs.Prelude.{All}
 use Rattle.std.specs.List.{zip}
 use Rattle.std.proofs.lemmas.List.Elements.{All-append, All-cons, All-head, All-tail}
-use Rattle.disk_dcdd.specs.declared.drive.Drive.{Drive}
-use Rattle.disk_dcdd.specs.declared.sector.CurrentSector.{CurrentSector}
-use Rattle.disk_dcdd.specs.declared.sector.SectorWrite.{SectorWrite}
+use Rattle.clone_state.proofs.Words.{Checkpoint, Codec, CurrentSector, Drive, FirstPart, HasSize, PortImage, SectorWrite, are_few, both, by, bytes, controller, counted, current, devices, drives, fields, first, flags, image_of_first, interrupts, later_parts, maybe, no_bytes, number, one, only, page, pieces, port, processor, receiver, registers, shown_current, spell_each, table, table_count, times, truth, two_numbers, versioned, word, write, writes}
 use Rattle.i8080_words.specs.declared.registers.Processor.{Processor}
 use Rattle.std.specs.Prelude.{Bool, Option, Some, None}
-use Rattle.clone_state.specs.Codec.{Codec, both, by, bytes, counted, number, one, only, spell_each, times}
-use Rattle.clone_state.specs.Checkpoint.{Checkpoint, FirstPart}
-use Rattle.clone_state.specs.FirstPart.{PortImage, are_few, controller, current, devices, drives, fields, first, flags, image_of_first, interrupts, maybe, port, processor, receiver, registers, truth, two_numbers, versioned, word, write, writes, no_bytes, shown_current}
-use Rattle.clone_state.specs.Laws.{HasSize}
-use Rattle.clone_state.specs.Parts.{later_parts, page, pieces, table, table_count}
 use Rattle.clone_state.proofs.Devices.{IsCurrent, IsWrite, no_bytes_length}
 use Rattle.clone_state.proofs.First.{IsFirst, IsPortImage}
 use Rattle.clone_state.proofs.Lists.{map_length, zip_length}

@@ -4,10 +4,9 @@ use Rattle.std.proofs.Common.{◌≡◌, ℕ, zero, suc, ◌<◌, ◌^◌, Bool,
 use Rattle.std.proofs.lemmas.Bool.{eqb-true, ltb-false}
 use Rattle.std.proofs.lemmas.List.{length-take-le, nil_from_length, take-append-drop}
 use Rattle.std.proofs.lemmas.Option.{same_Some, none-some}
-use Rattle.log_entry.specs.Numbers.{◌>>=◌, IsBytes}
+use Rattle.clone_state.proofs.Words.{Codec, IsBytes, IsBytes-drop, OneSpelling, admitted, both, by, byte_at, bytes, bytes_at, counted, first_read, not_refused, number, one, only, read_all, read_each, spell_each, times}
+use Rattle.log_entry.specs.Numbers.{◌>>=◌}
 use Rattle.log_entry.proofs.NumberLaws.{number_takes}
-use Rattle.log_entry.proofs.ReadingLaws.{IsBytes-drop, first_read, not_refused, admitted}
-use Rattle.clone_state.specs.Codec.{Codec, OneSpelling, both, by, only, one, byte_at, bytes, bytes_at, number, spell_each, read_all, read_each, times, counted}
 use Rattle.clone_state.proofs.Codecs.{drop_front}
 
 -- what is read is written just so, and this holds of it

@@ -2,9 +2,7 @@
 use Rattle.std.proofs.Common.{◌≡◌, ℕ, suc, ◌+◌, ◌<◌, Bool, cond, List, [], ◌∷◌, ◌++◌, length, take, Option, Some, None, refl, sym, ap, ◌∙◌, arith}
 use Rattle.std.specs.Prelude.{◌==◌, slice_set}
 use Rattle.std.proofs.Math.Seq.{take-suc-set}
-use Rattle.log_entry.specs.Numbers.{number_from}
-use Rattle.clone_state.specs.Codec.{Codec, alone, number, read_all, times}
-use Rattle.clone_state.specs.Parts.{table}
+use Rattle.clone_state.proofs.Words.{Codec, alone, number, number_from, read_all, table, times}
 use Rattle.clone_state.proofs.Collecting.{collected, none_collected}
 
 pub number_reads : (bytes : List ℕ) → number.read bytes ≡ number_from bytes

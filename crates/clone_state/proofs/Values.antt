@@ -8,8 +8,7 @@ use Rattle.i8080_words.specs.declared.arithmetic.Flags.{Flags}
 use Rattle.i8080_words.specs.declared.registers.Interrupts.{Interrupts}
 use Rattle.i8080_words.specs.declared.registers.Interrupts.TheVariants.{Off, Soon, On}
 use Rattle.i8080_words.specs.declared.registers.Processor.{Processor}
-use Rattle.clone_state.specs.Codec.{Codec, Again, both, only, one}
-use Rattle.clone_state.specs.FirstPart.{is_bit, truth, word, or_none, some_below, maybe, is_flag_byte, flags, code_of_interrupts, interrupts_of, is_interrupts, interrupts, registers, processor}
+use Rattle.clone_state.proofs.Words.{Again, Codec, both, code_of_interrupts, flags, interrupts, interrupts_of, is_bit, is_flag_byte, is_interrupts, maybe, one, only, or_none, processor, registers, some_below, truth, word}
 use Rattle.clone_state.proofs.Codecs.{both_again, by_again, code_again, only_again, one_again}
 use Rattle.clone_state.proofs.Spellings.{Spells, one_spells, both_spells, by_spells, only_spells}
 

@@ -1,23 +1,13 @@
 -- How an alone node makes steps. A refusal of the first step refuses the call, and a refusal of a later one is only why
 -- the node stopped.
 use Rattle.std.proofs.Common.{◌≡◌, ℕ, zero, suc, ◌<◌, ◌⊎◌, inl, inr, Bool, true, false, cond, Option, Some, None, is_none, [], ◌∷◌, Ok, Err, refl, sym, ap, subst, ◌∙◌, arith}
-use Rattle.event_callbacks.specs.declared.operations.OpId.{OpId}
-use Rattle.event_callbacks.specs.declared.operations.Operation.{Operation}
+use Rattle.ft_node.proofs.Words.{Fault, Idle, IsAlone, Machine, Node, OpId, Operation, Reads, RunsOn, Spent, Stopped, fault_of, stepped}
 use Rattle.guest_lockstep.proofs.QuietSteps.{start_allowed, first_allowed, none_made}
 use Rattle.guest_lockstep.specs.Lockstep as lockstep
-use Rattle.guest_lockstep.specs.Machine.{Machine}
 use Rattle.guest_lockstep.specs.Running as running
-use Rattle.guest_lockstep.specs.Running.{RunsOn, fault_of}
-use Rattle.guest_lockstep.specs.declared.reads.Reads.{Reads}
 use Rattle.guest_lockstep.specs.declared.running.StopReason.TheVariants as reason
-use Rattle.guest_lockstep.specs.declared.running.Stopped.{Stopped}
-use Rattle.i8080_words.specs.declared.refusal.Fault.{Fault}
-use Rattle.i8080_words.specs.declared.refusal.Fault.TheVariants.{Spent, Idle}
-use Rattle.pair_protocol.specs.Node.{Node}
 use Rattle.pair_protocol.specs.Refusals as refusals
-use Rattle.pair_protocol.specs.Effects.{stepped}
 use Rattle.ft_node.specs.Calls as calls
-use Rattle.ft_node.specs.Roles.{IsAlone}
 use Rattle.ft_node.specs.declared.ran.Ran.{Ran}
 use Rattle.ft_node.proofs.ServingSteps.{steps_to}
 

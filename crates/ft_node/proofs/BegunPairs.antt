@@ -7,19 +7,8 @@ use Rattle.std.proofs.lemmas.List.{append-nil}
 use Rattle.std.proofs.lemmas.Option.{none-some}
 use Rattle.ft_node.specs.Kept.{ImageParts}
 use Rattle.event_callbacks.specs.declared.devices.TheConstants.{PORTS}
-use Rattle.guest_lockstep.specs.Machine.{Machine}
-use Rattle.guest_lockstep.specs.declared.reads.Reads.{Reads}
+use Rattle.ft_node.proofs.Words.{Alone, BeginsPair, Begun, Call, Copying, Covering, Covers, Ever, HasImage, HasTakenKeys, IsAlone, IsPrimary, Log, Machine, Node, OutOfMemory, Reads, Sending, Spent, Timed, begin_pair_refusal, begun, fault_if, first_of, last_generation, log, next_after, nothing_acknowledged, role_refusal}
 use Rattle.guest_lockstep.specs.Reach.{keys}
-use Rattle.guest_lockstep.specs.declared.timed.Timed.{Timed}
-use Rattle.i8080_words.specs.declared.refusal.Fault.TheVariants.{OutOfMemory, Spent}
-use Rattle.log_buffer.specs.Log.{Log, log}
-use Rattle.log_channel.specs.Channel.{Sending}
-use Rattle.output_rule.specs.Covering.{Covering, nothing_acknowledged}
-use Rattle.pair_protocol.specs.Copying.{Copying}
-use Rattle.pair_protocol.specs.Node.{Node, Alone, begun}
-use Rattle.pair_protocol.specs.Refusals.{begin_pair_refusal, fault_if, first_of, last_generation, role_refusal}
-use Rattle.ft_node.specs.Calls.{BeginsPair, Begun, Call, Ever, HasTakenKeys, next_after}
-use Rattle.ft_node.specs.Roles.{Covers, HasImage, IsAlone, IsPrimary}
 
 -- the keys of both ports
 abbrev pub taken_keys : {S : Type 0} → Machine S → S → List ℕ

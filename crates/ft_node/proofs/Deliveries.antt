@@ -2,14 +2,9 @@
 use Rattle.std.proofs.Common.{◌≡◌, ℕ, Bool, true, false, Option, Some, None, length, Result, Ok, Err, refl, sym, ap, subst, ◌∙◌}
 use Rattle.std.specs.Prelude.{◌==◌, if◌then◌else◌}
 use Rattle.std.proofs.lemmas.Bool.{eq-eqb, eqb-true}
-use Rattle.i8080_words.specs.declared.refusal.Fault.{Fault}
+use Rattle.ft_node.proofs.Words.{Call, DeliversLog, Entry, Expects, Fault, Held, Makes, Node, Unless, deliver_log_refusal, holds}
 use Rattle.log_channel.specs.declared.packet.Packet.{Packet}
 use Rattle.log_channel.specs.declared.packet.Packet.TheVariants.{Log, Ack}
-use Rattle.log_entry.specs.declared.entry.Entry.{Entry}
-use Rattle.pair_protocol.specs.Effects.{Held}
-use Rattle.pair_protocol.specs.Node.{Node, holds}
-use Rattle.pair_protocol.specs.Refusals.{deliver_log_refusal}
-use Rattle.ft_node.specs.Calls.{Call, DeliversLog, Expects, Makes, Unless}
 
 not_refused : (o : Option Fault) (next : Option Entry) (D : Type 0)
     → Unless {A = Option Entry} o (Ok next) (Unit {0}) D → (o ≡ None) × D

@@ -3,21 +3,13 @@
 use Rattle.std.proofs.Common.{◌≡◌, ℕ, Bool, true, false, cond, not, ◌==◌, Option, Some, None, List, [], ◌∷◌, Result, Ok, Err, refl, sym, ap, ◌∙◌}
 use Rattle.std.specs.Prelude.{OnOk, OnErr}
 use Rattle.disk_dcdd.specs.Address.{same_address}
-use Rattle.disk_dcdd.specs.Completion.{answered}
-use Rattle.guest_lockstep.specs.Machine.{Machine}
-use Rattle.guest_lockstep.specs.declared.reads.Reads.{Reads}
-use Rattle.i8080_words.specs.declared.refusal.Fault.{Fault}
-use Rattle.i8080_words.specs.declared.refusal.Fault.TheVariants.{NotDue, StaleRead}
-use Rattle.log_channel.specs.Channel.{Receiving}
-use Rattle.pair_protocol.specs.Node.{Node, Role, Backup, Draining, fetches}
+use Rattle.ft_node.proofs.Words.{Backup, Draining, Fault, IsFollower, Machine, Node, NotDue, Reads, Receiving, Role, StaleRead, answered, fault_if, fetches, first_of, role_refusal}
 use Rattle.pair_protocol.specs.Effects as effect
 use Rattle.pair_protocol.specs.Refusals as refusals
-use Rattle.pair_protocol.specs.Refusals.{first_of, fault_if, role_refusal}
 use Rattle.replayer.specs.Replaying as replaying
 use Rattle.replayer.specs.Replaying.{place_of}
 use Rattle.shared_disk.specs.declared.disk.SectorRead.{SectorRead}
 use Rattle.ft_node.specs.Calls as calls
-use Rattle.ft_node.specs.Roles.{IsFollower}
 use Rattle.ft_node.proofs.FollowerMoves.{wanted_is}
 
 -- what a call that went well, or did not, left

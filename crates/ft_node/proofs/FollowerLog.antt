@@ -3,14 +3,9 @@
 use Rattle.std.proofs.Common.{ℕ, Option, List, ◌≢◌, ◌<◌, ◌+◌, [], ◌∷◌, ◌++◌, length, Result, Ok, Err, refl, sym, ap, subst, ◌∙◌, arith, length-append, inl, inr}
 use Rattle.std.proofs.lemmas.Bool.Decides.{leb_tells}
 use Rattle.std.proofs.lemmas.List.{drop_all, drop-append-le}
-use Rattle.guest_lockstep.specs.declared.reads.Reads.{Reads}
-use Rattle.i8080_words.specs.declared.refusal.Fault.{Fault}
+use Rattle.ft_node.proofs.Words.{Backup, Entry, Fault, IsFollower, Node, Reads, Receiving, holding, holds}
 use Rattle.log_channel.specs.Channel as channel
-use Rattle.log_channel.specs.Channel.{Receiving, holding}
-use Rattle.log_entry.specs.declared.entry.Entry.{Entry}
-use Rattle.pair_protocol.specs.Node.{Node, Backup, holds}
 use Rattle.ft_node.specs.Calls as calls
-use Rattle.ft_node.specs.Roles.{IsFollower}
 
 -- the backup that holds one more entry
 held_one : {S : Type 0} (reads : Reads) (x : Node S) (s : S) (come : Option (List ℕ)) (r : Receiving) (e : Entry) → IsFollower Backup reads s come r x

@@ -4,22 +4,15 @@
 use Rattle.std.proofs.Common.{◌≡◌, ℕ, zero, suc, ◌+◌, ◌-◌, ◌≤◌, inl, inr, Bool, true, false, eqb, cond, Option, Some, None, List, [], ◌∷◌, length, drop, Result, Ok, Err, refl, sym, ap, subst, ◌∙◌, arith, length-drop}
 use Rattle.std.specs.Prelude.{is_none, slice_get, ◌==◌, if◌then◌else◌}
 use Rattle.std.proofs.lemmas.Bool.{eq-eqb, eqb-true}
-use Rattle.guest_lockstep.specs.Machine.{Machine}
-use Rattle.guest_lockstep.specs.declared.reads.Reads.{Reads}
+use Rattle.ft_node.proofs.Words.{AtEnd, AwaitsBytes, Backup, Entry, Fault, IsBehind, IsFollower, Machine, MovesSome, NeedsMoves, NoMemory, NoTurns, Node, OneInput, OneMark, OneRead, OneStep, Reads, Receiving, Replays, Role, is_role}
 use Rattle.guest_lockstep.specs.declared.replay_end.ReplayEnd.{ReplayEnd}
 use Rattle.guest_lockstep.specs.declared.replay_end.ReplayEnd.TheVariants.{Turns, End, Wait, Memory}
-use Rattle.i8080_words.specs.declared.refusal.Fault.{Fault}
-use Rattle.log_channel.specs.Channel.{Receiving}
-use Rattle.log_entry.specs.declared.entry.Entry.{Entry}
 use Rattle.log_entry.specs.declared.entry.Entry.TheVariants as entry
-use Rattle.pair_protocol.specs.Node.{Node, Role, Backup, is_role}
 use Rattle.pair_protocol.specs.Refusals as refusals
 use Rattle.pair_protocol.specs.Effects as effect
-use Rattle.pair_protocol.specs.Effects.{NeedsMoves, IsBehind, Replays, NoTurns, AtEnd, AwaitsBytes, NoMemory, OneStep, OneMark, OneInput, OneRead, MovesSome}
 use Rattle.replayer.specs.Replaying as replaying
 use Rattle.replayer.specs.declared.replayer.Replayed.{Replayed}
 use Rattle.ft_node.specs.Calls as calls
-use Rattle.ft_node.specs.Roles.{IsFollower}
 
 -- a follower with this machine, which has replayed this many entries, and with these bytes for its next one
 abbrev pub at : {S : Type 0} → Node S → S → ℕ → Option (List ℕ) → Node S

@@ -1,13 +1,7 @@
 -- An alone node whose machine's pages are copied early is the node of the protocol that it was.
 use Rattle.std.proofs.Common.{◌≡◌, ℕ, None, [], ◌∷◌, Result, Ok, Err, refl, sym, subst, ◌∙◌}
 use Rattle.std.specs.Prelude.{IsOkUnless}
-use Rattle.guest_lockstep.specs.declared.reads.Reads.{Reads}
-use Rattle.i8080_words.specs.declared.refusal.Fault.{Fault}
-use Rattle.i8080_words.specs.declared.refusal.Fault.TheVariants.{OutOfMemory}
-use Rattle.pair_protocol.specs.Node.{Node, Alone}
-use Rattle.pair_protocol.specs.Refusals.{role_refusal}
-use Rattle.ft_node.specs.Calls.{Call, Ever, Freshens}
-use Rattle.ft_node.specs.Roles.{IsAlone}
+use Rattle.ft_node.proofs.Words.{Alone, Call, Ever, Fault, Freshens, IsAlone, Node, OutOfMemory, Reads, role_refusal}
 
 pub still_alone : {S : Type 0} (reads : Reads) (s t : S) (generation : ℕ) (x : Node S) → t ≡ s → IsAlone reads s generation x
     → IsAlone reads t generation x

@@ -4,12 +4,8 @@ use Rattle.std.proofs.Common.{◌≡◌, ℕ, zero, suc, ◌<◌, Bool, true, fa
 use Rattle.std.specs.Prelude.{slice_get, slice_index_or, slice_set}
 use Rattle.std.proofs.lemmas.Option.{none-some}
 use Rattle.clone_state.specs.Assembly as table
-use Rattle.clone_state.specs.Assembly.{Gathering, Slots, after_forgetting, after_part, answer_to, is_missing, with_part, without_part}
-use Rattle.clone_state.specs.Parts.{PartMessage, message_at}
-use Rattle.i8080_words.specs.declared.refusal.Fault.{Fault}
-use Rattle.i8080_words.specs.declared.refusal.Fault.TheVariants.{WrongGeneration}
+use Rattle.ft_node.proofs.Words.{Fault, Gathering, PartMessage, Slots, WrongGeneration, after_forgetting, after_part, answer_to, gathered, is_missing, message_at, with_first, with_part, without_part}
 use Rattle.log_entry.specs.Numbers.{◌>>=◌}
-use Rattle.pair_protocol.specs.Node.{gathered, with_first}
 
 -- ---- slots
 

@@ -1,12 +1,7 @@
 -- A node that is running halts.
 use Rattle.std.proofs.Common.{◌≡◌, ℕ, Ok, ap, not, refl, true}
-use Rattle.guest_lockstep.specs.Machine.{Machine}
-use Rattle.i8080_words.specs.declared.refusal.Fault.TheVariants.{WrongRole}
-use Rattle.pair_protocol.specs.Copying.{Copying}
-use Rattle.pair_protocol.specs.Node.{Node, halts}
-use Rattle.pair_protocol.specs.Refusals.{fault_if, stop_refusal}
+use Rattle.ft_node.proofs.Words.{Copying, IsNode, Machine, Node, WrongRole, fault_if, halts, stop_refusal}
 use Rattle.ft_node.specs.Calls as calls
-use Rattle.ft_node.specs.Seats.{IsNode}
 use Rattle.ft_node.specs.declared.halted.Halted.{Halted}
 use Rattle.ft_node.specs.declared.node.Node as code
 use Rattle.ft_node.specs.declared.node.Node.TheVariants as seat

@@ -2,24 +2,13 @@
 -- is what these two answer.
 use Rattle.std.proofs.Common.{◌≡◌, ℕ, not, ◌==◌, Option, Some, None, List, [], ◌∷◌, Result, refl, sym, ap, subst, ◌∙◌}
 use Rattle.disk_dcdd.specs.Address.{same_address}
-use Rattle.disk_dcdd.specs.Completion.{answered}
+use Rattle.ft_node.proofs.Words.{Alone, Copying, Fault, IsAlone, IsNode, Machine, Makes, Node, NotDue, Reads, Took, WrongNumber, answered, board_of, fault_if, first_of, get_reply_refusal, is_number, keys_spent, log_full, log_spent, put_reply_refusal, refusal_of, serves, take_key_refusal, tell_sent_refusal, took}
 use Rattle.disk_dcdd.specs.declared.address.SectorAddress.{SectorAddress}
-use Rattle.guest_lockstep.specs.Machine.{Machine, refusal_of}
 use Rattle.guest_lockstep.specs.declared.input.Input.{Input}
 use Rattle.guest_lockstep.specs.declared.input.Input.TheVariants as input
-use Rattle.guest_lockstep.specs.declared.reads.Reads.{Reads}
-use Rattle.i8080_words.specs.declared.refusal.Fault.{Fault}
-use Rattle.i8080_words.specs.declared.refusal.Fault.TheVariants.{NotDue, WrongNumber}
-use Rattle.pair_protocol.specs.Copying.{Copying}
-use Rattle.pair_protocol.specs.Effects.{Took, took}
 use Rattle.pair_protocol.specs.Lawful.{top}
-use Rattle.pair_protocol.specs.Node.{Node, Alone}
-use Rattle.pair_protocol.specs.Refusals.{fault_if, first_of, serves, log_full, log_spent, keys_spent, is_number, take_key_refusal, tell_sent_refusal, put_reply_refusal, get_reply_refusal}
-use Rattle.ft_node.specs.Calls.{Makes}
 use Rattle.ft_node.specs.Due as due
 use Rattle.ft_node.specs.Due.{refused_by}
-use Rattle.ft_node.specs.Roles.{IsAlone}
-use Rattle.ft_node.specs.Seats.{IsNode, board_of}
 use Rattle.ft_node.specs.declared.node.Node as code
 use Rattle.ft_node.specs.declared.node.Node.TheVariants as seat
 use Rattle.ft_node.proofs.PrimaryRefusals.{primary_serves}

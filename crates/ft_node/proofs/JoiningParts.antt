@@ -4,22 +4,11 @@
 use Rattle.std.proofs.Common.{◌≡◌, ℕ, ◌<◌, Bool, true, false, Option, Some, None, is_some, List, [], Result, Ok, Err, refl, sym, ap, subst, ◌∙◌}
 use Rattle.std.specs.Prelude.{OnErr}
 use Rattle.clone_state.specs.Assembly as table
-use Rattle.clone_state.specs.Assembly.{Gathering, after_forgetting, after_part, answer_to, is_whole, machine_in, part_answer, with_part, without_part}
-use Rattle.clone_state.specs.Copies.{CopiesAs, refused_as}
+use Rattle.ft_node.proofs.Words.{Backup, Becomes, CopiesAs, Copying, Fault, Gathering, GetsPart, IsFollower, IsJoining, IsNode, Machine, Node, PartMessage, Reads, Receiving, after_forgetting, after_part, alone_board, answer_to, gets_part, guest_in, is_whole, joins, machine_in, message_at, part_answer, refused_as, with_part, without_part}
 use Rattle.clone_state.specs.Laws.{IndexesAreWithin}
-use Rattle.clone_state.specs.Parts.{PartMessage, guest_in, message_at}
 use Rattle.guest_parts.specs.Guest.{Guest}
-use Rattle.guest_lockstep.specs.Machine.{Machine}
-use Rattle.guest_lockstep.specs.declared.reads.Reads.{Reads}
-use Rattle.i8080_words.specs.declared.refusal.Fault.{Fault}
-use Rattle.log_channel.specs.Channel.{Receiving}
 use Rattle.log_entry.specs.Numbers.{◌>>=◌}
-use Rattle.pair_protocol.specs.Copying.{Copying}
-use Rattle.pair_protocol.specs.Node.{Node, Backup, gets_part, joins}
-use Rattle.ft_node.specs.Calls.{GetsPart}
 use Rattle.ft_node.specs.Joined.{Joined}
-use Rattle.ft_node.specs.Roles.{IsFollower, IsJoining}
-use Rattle.ft_node.specs.Seats.{Becomes, IsNode, alone_board}
 use Rattle.ft_node.specs.declared.node.Node as code
 use Rattle.ft_node.specs.declared.node.Node.TheVariants as seat
 use Rattle.ft_node.specs.declared.ran.PartCame.{PartCame}

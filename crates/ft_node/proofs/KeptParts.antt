@@ -5,25 +5,12 @@ use Rattle.std.proofs.lemmas.Option.{slice_get_past}
 use Rattle.std.specs.Global.{Vec}
 use Rattle.guest_parts.specs.Parts.{guest_of_parts}
 use Rattle.clone_state.specs.Checkpoint.{checkpoint_of}
-use Rattle.clone_state.specs.Copies.{image_parts}
+use Rattle.ft_node.proofs.Words.{Copying, Covering, Ever, Fault, Gives, HasImage, IsImageOf, IsPrimary, Log, Machine, Node, Primary, Reads, Sending, SendsPart, SpellsPart, Unknown, Unless, acts_as, fault_if, has_part, image_parts, part_count, send_part_refusal}
 use Rattle.clone_state.specs.Laws.{PartsAreCounted}
-use Rattle.clone_state.specs.Parts.{part_count}
 use Rattle.clone_state.specs.declared.image.Image.{Image}
 use Rattle.ft_node.specs.Kept.{ImageParts, image_of}
 use Rattle.clone_state.specs.Image.{Spells, part_bytes}
-use Rattle.guest_lockstep.specs.Machine.{Machine}
-use Rattle.guest_lockstep.specs.declared.reads.Reads.{Reads}
-use Rattle.i8080_words.specs.declared.refusal.Fault.{Fault}
-use Rattle.i8080_words.specs.declared.refusal.Fault.TheVariants.{Unknown}
-use Rattle.log_buffer.specs.Log.{Log}
-use Rattle.log_channel.specs.Channel.{Sending}
-use Rattle.output_rule.specs.Covering.{Covering}
-use Rattle.pair_protocol.specs.Copying.{Copying}
-use Rattle.pair_protocol.specs.Node.{Node, Primary, acts_as}
-use Rattle.pair_protocol.specs.Refusals.{fault_if, has_part, send_part_refusal}
-use Rattle.ft_node.specs.Calls.{Ever, Gives, SendsPart, SpellsPart, Unless}
 use Rattle.ft_node.specs.Kept.{part_of}
-use Rattle.ft_node.specs.Roles.{HasImage, IsImageOf, IsPrimary}
 
 module _ {S : Type 0} (C : Copying S) (x : Node S) (index : ℕ) (result : Result (Vec ℕ) Fault) where
   -- only the image refuses a part

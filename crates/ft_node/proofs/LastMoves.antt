@@ -3,18 +3,12 @@
 use Rattle.std.proofs.Common.{◌≡◌, ◌≢◌, ℕ, true, false, Bool, cond, is_none, Option, List, length, Ok, Err, refl, sym, subst, ap, ◌∙◌}
 use Rattle.std.specs.Prelude.{◌==◌}
 use Rattle.std.proofs.lemmas.Bool.{eqb-true}
-use Rattle.guest_lockstep.specs.Machine.{Machine}
-use Rattle.guest_lockstep.specs.declared.reads.Reads.{Reads}
+use Rattle.ft_node.proofs.Words.{Draining, Fault, IsFollower, Machine, NeedsMoves, Node, Reads, Receiving, after_drain, goes_live, wanted}
 use Rattle.guest_lockstep.specs.declared.replay_end.ReplayEnd.{ReplayEnd}
 use Rattle.guest_lockstep.specs.declared.replay_end.ReplayEnd.TheVariants.{Turns, End, Wait, Memory}
-use Rattle.i8080_words.specs.declared.refusal.Fault.{Fault}
-use Rattle.log_channel.specs.Channel.{Receiving}
-use Rattle.pair_protocol.specs.Node.{Node, Draining, goes_live}
-use Rattle.pair_protocol.specs.Effects.{NeedsMoves, after_drain, wanted}
 use Rattle.replayer.specs.Replaying as replaying
 use Rattle.replayer.specs.declared.replayer.Replayed.{Replayed}
 use Rattle.ft_node.specs.Calls as calls
-use Rattle.ft_node.specs.Roles.{IsFollower}
 use Rattle.ft_node.specs.declared.ran.Drained.{Drained}
 use Rattle.ft_node.proofs.FollowerMoves.{in_role, repeats}
 

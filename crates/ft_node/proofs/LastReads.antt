@@ -1,10 +1,6 @@
 -- Where the last read of a log is, as entries are added.
 use Rattle.std.proofs.Common.{◌≡◌, ℕ, zero, suc, ◌+◌, Bool, true, false, cond, List, [], ◌∷◌, ◌++◌, length, refl, sym, ap, ◌∙◌, arith}
-use Rattle.log_entry.specs.Entries.{is_read}
-use Rattle.log_entry.specs.declared.entry.Entry.{Entry}
-use Rattle.output_rule.specs.Covering.{Covering}
-use Rattle.pair_protocol.specs.Waiting.{reads_in, up_to_read}
-use Rattle.ft_node.specs.Noting.{with_entry}
+use Rattle.ft_node.proofs.Words.{Covering, Entry, is_read, reads_in, up_to_read, with_entry}
 
 up_to_later : (read : Bool) (n : ℕ) → up_to_read read (suc n) ≡ suc (suc n)
 up_to_later true n = refl

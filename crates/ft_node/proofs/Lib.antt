@@ -1,3 +1,4 @@
+pub mod Words
 pub mod PrimaryRefusals
 pub mod LastReads
 pub mod PrimaryNotes

@@ -5,18 +5,8 @@ use Rattle.std.specs.Prelude.{slice_get, slice_index_or, slice_set}
 use Rattle.std.proofs.lemmas.List.{length-set}
 use Rattle.std.proofs.lemmas.Option.{same_Some}
 use Rattle.clone_state.specs.Assembly as table
-use Rattle.clone_state.specs.Assembly.{Gathering, Slots, answer_to, is_missing, is_whole, with_part, without_part}
-use Rattle.clone_state.specs.Copies.{refused_as}
-use Rattle.clone_state.specs.Parts.{PartMessage}
-use Rattle.i8080_words.specs.declared.refusal.Fault.{Fault}
-use Rattle.i8080_words.specs.declared.refusal.Fault.TheVariants.{Malformed, OutOfMemory, WrongGeneration}
-use Rattle.pair_protocol.specs.Copying.{Copying}
-use Rattle.pair_protocol.specs.Effects.{GotPart, Again, Comes, Completes}
-use Rattle.pair_protocol.specs.Node.{Node, Backup, Joining, gathered, gets_part, joins}
-use Rattle.pair_protocol.specs.Refusals.{fault_if, first_of, generation_refusal, part_comes_refusal, role_refusal}
-use Rattle.ft_node.specs.Calls.{Call, GetsPart, IsLast, Unless, last_refusal, part_refusal, parts_with, reply_of, unfit}
+use Rattle.ft_node.proofs.Words.{Again, Backup, Call, Comes, Completes, Copying, Fault, Gathering, GetsPart, GotPart, IsFollower, IsJoining, IsLast, Joining, Malformed, Node, OutOfMemory, PartMessage, Slots, Unless, WrongGeneration, answer_to, fault_if, first_of, gathered, generation_refusal, gets_part, is_missing, is_whole, joins, last_refusal, part_comes_refusal, part_refusal, parts_with, refused_as, reply_of, role_refusal, unfit, with_part, without_part}
 use Rattle.ft_node.specs.Joined.{Joined}
-use Rattle.ft_node.specs.Roles.{IsFollower, IsJoining}
 use Rattle.ft_node.specs.declared.ran.PartCame.{PartCame}
 use Rattle.ft_node.specs.declared.ran.PartCame.TheVariants as reply
 use Rattle.ft_node.proofs.Gatherings.{IsPart, came, free_slot, gathered_alike, is_free, is_taken, taken_slot, with_it}

@@ -1,10 +1,7 @@
 -- What a check says of a call: if it passed, the call does what it does if nothing refuses it; if not, it is refused.
 use Rattle.std.proofs.Common.{◌≡◌, ◌∙◌, Option, Some, None, Result, Ok, Err, sym, refl, subst, ap}
 use Rattle.std.specs.Result.{IsErrAnd}
-use Rattle.disk_dcdd.specs.Completion.{answered}
-use Rattle.i8080_words.specs.declared.refusal.Fault.{Fault}
-use Rattle.pair_protocol.specs.Node.{Node}
-use Rattle.ft_node.specs.Calls.{Call}
+use Rattle.ft_node.proofs.Words.{Call, Fault, Node, answered}
 
 -- an option without a value
 pub none_there : {A : Type 0} (o : Option A) → ((value : A) → o ≡ Some value → ⊥) → o ≡ None

@@ -6,26 +6,13 @@ use Rattle.std.proofs.lemmas.Bool.{ltb-false}
 use Rattle.std.proofs.lemmas.List.{drop-drop}
 use Rattle.std.proofs.lemmas.List.Elements.{All-drop}
 use Rattle.event_callbacks.specs.declared.devices.TheConstants.{PORTS}
-use Rattle.guest_lockstep.specs.Machine.{Machine}
-use Rattle.guest_lockstep.specs.declared.reads.Reads.{Reads}
-use Rattle.i8080_words.specs.declared.refusal.Fault.TheVariants.{WrongGeneration, BadAck}
-use Rattle.log_buffer.specs.Log.{Log, log, next_of, dropped_to}
-use Rattle.log_channel.specs.Channel.{Sending, ack_answer, acknowledged}
+use Rattle.ft_node.proofs.Words.{BadAck, Covering, Covers, DeliversAcknowledgement, Entry, IsEntry, IsPrimary, Log, Machine, Node, Reads, Sending, Timed, WrongGeneration, ack_answer, acknowledged, after_acknowledge, deliver_acknowledgement_refusal, dropped_to, fault_if, first_of, hears, inputs_of, log, next_of}
 use Rattle.log_channel.specs.declared.packet.Packet.{Packet}
 use Rattle.log_channel.specs.declared.packet.Packet.TheVariants as packet
-use Rattle.log_entry.specs.Entries.{inputs_of}
-use Rattle.log_entry.specs.Spelling.{IsEntry}
-use Rattle.log_entry.specs.declared.entry.Entry.{Entry}
 use Rattle.output_rule.proofs.Told.{tells_acknowledged}
-use Rattle.output_rule.specs.Covering.{Covering, after_acknowledge}
 use Rattle.output_rule.specs.Keys.{keys_in}
 use Rattle.output_rule.specs.Laws.{Tells}
-use Rattle.pair_protocol.specs.Node.{Node, hears}
-use Rattle.pair_protocol.specs.Refusals.{first_of, fault_if, deliver_acknowledgement_refusal}
 use Rattle.guest_lockstep.specs.Reach as reach
-use Rattle.guest_lockstep.specs.declared.timed.Timed.{Timed}
-use Rattle.ft_node.specs.Calls.{DeliversAcknowledgement}
-use Rattle.ft_node.specs.Roles.{IsPrimary, Covers}
 use Rattle.ft_node.proofs.PrimaryRefusals.{primary_acts, allowed}
 use Rattle.ft_node.proofs.PrimaryInputs.{next_behind}
 

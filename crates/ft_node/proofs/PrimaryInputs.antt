@@ -3,26 +3,10 @@
 use Rattle.std.proofs.Common.{◌≡◌, ℕ, ◌+◌, ◌≤◌, Option, Some, None, Ok, List, [], ◌∷◌, ◌++◌, length, drop, length-append, refl, sym, ap, subst, ◌∙◌, arith}
 use Rattle.std.proofs.lemmas.List.{drop-append-le, length-drop}
 use Rattle.std.proofs.lemmas.List.Elements.{All-push}
-use Rattle.event_callbacks.specs.declared.operations.OpId.{OpId}
-use Rattle.guest_lockstep.specs.Machine.{Machine}
-use Rattle.guest_lockstep.specs.declared.reads.Reads.{Reads}
+use Rattle.ft_node.proofs.Words.{ComesAndGoes, Covering, Entry, IsEntry, IsPrimary, IsWithinLimits, Log, Machine, Makes, Node, Offers, OpId, Reads, Sending, Took, after_forget, completed_by, entry_of, log, next_of, primary_takes, pushed, reads_in, took, with_entry}
 use Rattle.guest_lockstep.specs.declared.input.Input.{Input}
-use Rattle.log_buffer.specs.Log.{Log, log, next_of, pushed, IsWithinLimits}
-use Rattle.log_channel.specs.Channel.{Sending}
-use Rattle.log_entry.specs.Entries.{entry_of}
-use Rattle.log_entry.specs.Spelling.{IsEntry}
-use Rattle.log_entry.specs.declared.entry.Entry.{Entry}
-use Rattle.output_rule.specs.Covering.{Covering, after_forget}
 use Rattle.output_rule.specs.declared.notes.Note.{Note}
-use Rattle.pair_protocol.specs.Node.{Node, primary_takes}
-use Rattle.pair_protocol.specs.Effects.{Took, took}
-use Rattle.pair_protocol.specs.Waiting.{reads_in}
-use Rattle.recorder.specs.Recording.{Offers}
-use Rattle.ft_node.specs.Calls.{Makes}
-use Rattle.ft_node.specs.Noting.{with_entry}
 use Rattle.ft_node.proofs.LastReads.{last_after}
-use Rattle.guest_lockstep.specs.Outstanding.{ComesAndGoes, completed_by}
-use Rattle.ft_node.specs.Roles.{IsPrimary}
 use Rattle.ft_node.proofs.PrimaryNotes.{Covers-kept, keeps_all, keeps_others}
 use Rattle.ft_node.proofs.PrimaryNotes as notes
 use Rattle.ft_node.proofs.PrimaryRefusals.{Keeps}

@@ -7,16 +7,11 @@ use Rattle.std.specs.Prelude.{AllPairs}
 use Rattle.std.proofs.lemmas.Bool.{cases_Bool}
 use Rattle.std.proofs.lemmas.List.{take-append-le}
 use Rattle.std.proofs.lemmas.List.Kept.{AllPairs-filter}
-use Rattle.event_callbacks.specs.Operations.{id_of}
-use Rattle.event_callbacks.specs.declared.operations.OpId.{OpId}
+use Rattle.ft_node.proofs.Words.{AreFew, AreOfOutstanding, ComesAndGoes, Covering, Covers, Entry, IsCovering, Machine, Node, OpId, Operation, Timed, after_forget, after_note, id_of, inputs_of, marks, note_of, notes_after, primary_steps, reads_in, waits_for, waits_in, waits_of}
 use Rattle.event_callbacks.specs.declared.operations.OpId.TheVariants as id
-use Rattle.event_callbacks.specs.declared.operations.Operation.{Operation}
 use Rattle.event_callbacks.specs.declared.operations.Operation.TheVariants as operation
-use Rattle.guest_lockstep.specs.Machine.{Machine}
-use Rattle.log_entry.specs.Entries.{inputs_of, marks}
-use Rattle.log_entry.specs.declared.entry.Entry.{Entry}
 use Rattle.log_entry.specs.declared.entry.Entry.TheVariants as entry
-use Rattle.output_rule.specs.Covering.{Covering, IsCovering, after_forget, after_note, waits_for as waits_now}
+use Rattle.output_rule.specs.Covering.{waits_for as waits_now}
 use Rattle.output_rule.specs.Laws.{AreNotesOf}
 use Rattle.output_rule.specs.Notes.{note_of as note_in, same_name, with_note, without_note, AreApart}
 use Rattle.output_rule.specs.declared.notes.Note.{Note}
@@ -25,13 +20,8 @@ use Rattle.output_rule.proofs.FewNotes.{few_notes}
 use Rattle.output_rule.proofs.Names.{equal_from_same, same_name-itself}
 use Rattle.output_rule.proofs.NoteLists.{apart-with_note, note_comes, note_goes}
 use Rattle.pair_protocol.specs.Node as protocol
-use Rattle.pair_protocol.specs.Node.{Node, note_of, notes_after, primary_steps}
-use Rattle.pair_protocol.specs.Waiting.{reads_in, waits_for}
 use Rattle.pair_protocol.proofs.Keeps.PrimaryLog.{same_name-refl}
-use Rattle.guest_lockstep.specs.declared.timed.Timed.{Timed}
 use Rattle.guest_lockstep.specs.Reach as reach
-use Rattle.guest_lockstep.specs.Outstanding.{ComesAndGoes, AreFew}
-use Rattle.ft_node.specs.Roles.{AreOfOutstanding, Covers, waits_in, waits_of}
 use Rattle.ft_node.proofs.LastReads.{reads_without}
 
 -- ---- names

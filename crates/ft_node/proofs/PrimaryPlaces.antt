@@ -1,22 +1,12 @@
 -- What a run leaves, besides the machine. Quiet steps change no operation, so whatever had a note is still outstanding
 -- after them; the new name is outstanding too, and since few operations are, there is room for its note.
 use Rattle.std.proofs.Common.{◌≡◌, ℕ, Option, Some, None, Ok, refl, ◌∙◌}
-use Rattle.event_callbacks.specs.Operations.{id_of}
-use Rattle.event_callbacks.specs.declared.operations.OpId.{OpId}
-use Rattle.guest_lockstep.specs.Machine.{Machine}
+use Rattle.ft_node.proofs.Words.{AdvancesSome, AdvancesUnless, AllTurns, AreFew, AreOfOutstanding, Begin, ComesAndGoes, Covering, Fault, HasPlace, IsCovering, IsFrugal, IsRefused, Log, Machine, More, OpId, Quiet, RunsOn, Stopped, advance_refusal, id_of}
 use Rattle.guest_lockstep.specs.declared.reads.Reads.TheVariants.{Logged}
-use Rattle.i8080_words.specs.declared.refusal.Fault.{Fault}
-use Rattle.log_buffer.specs.Log.{Log}
-use Rattle.output_rule.specs.Covering.{Covering, IsCovering}
 use Rattle.recorder.proofs.Advances.{records_steps}
 use Rattle.recorder.proofs.Recorded.{is_run}
 use Rattle.guest_lockstep.specs.Recorded.{Counts}
-use Rattle.guest_lockstep.specs.Running.{Quiet, Begin, More, RunsOn, AllTurns, Gives, IsRefused}
-use Rattle.recorder.specs.Recording.{AdvancesUnless, AdvancesSome, advance_refusal}
-use Rattle.guest_lockstep.specs.declared.running.Stopped.{Stopped}
-use Rattle.ft_node.specs.Noting.{HasPlace}
-use Rattle.guest_lockstep.specs.Outstanding.{ComesAndGoes, AreFew, IsFrugal}
-use Rattle.ft_node.specs.Roles.{AreOfOutstanding}
+use Rattle.guest_lockstep.specs.Running.{Gives}
 use Rattle.ft_node.proofs.PrimaryNotes.{AreOfOutstanding-noted, room_for_note}
 
 -- ---- a run that was made

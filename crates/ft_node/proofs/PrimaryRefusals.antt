@@ -7,17 +7,11 @@ use Rattle.std.proofs.lemmas.Bool.{le-leb, lt-leb, eq-eqb, ne_eqb, cases_lt}
 use Rattle.std.proofs.lemmas.List.{length-drop}
 use Rattle.i8080_words.specs.declared.limits.TheConstants.{GREATEST_NUMBER}
 use Rattle.guest_lockstep.specs.Lockstep as lockstep
-use Rattle.guest_lockstep.specs.Machine.{Machine}
-use Rattle.i8080_words.specs.declared.refusal.Fault.{Fault}
-use Rattle.i8080_words.specs.declared.refusal.Fault.TheVariants.{WrongRole, LogFull, Spent, Idle}
+use Rattle.ft_node.proofs.Words.{Alone, Fault, Idle, IsWithinLimits, Log, LogFull, Machine, Node, Primary, Spent, Unless, WrongRole, advance_refusal, fault_if, first_of, is_role, log, log_full, log_size, log_spent, next_of, refusal_behind, role_refusal, room_answer, serves, step_refusal}
 use Rattle.log_buffer.specs.Log as buffer
-use Rattle.log_buffer.specs.Log.{Log, log, IsWithinLimits, next_of, answered, room_answer}
+use Rattle.log_buffer.specs.Log.{answered}
 use Rattle.log_buffer.specs.declared.buffer.TheConstants.{CAPACITY}
 use Rattle.pair_protocol.specs.Lawful.{top}
-use Rattle.pair_protocol.specs.Node.{Node, Primary, Alone, is_role}
-use Rattle.pair_protocol.specs.Refusals.{fault_if, first_of, role_refusal, serves, log_size, log_full, log_spent, step_refusal}
-use Rattle.recorder.specs.Recording.{advance_refusal, refusal_behind}
-use Rattle.ft_node.specs.Calls.{Unless}
 use Rattle.ft_node.specs.Due.{refused_by}
 
 -- ---- lists of refusals

@@ -3,19 +3,9 @@
 use Rattle.std.specs.Option.{option_map}
 use Rattle.std.proofs.Common.{◌≡◌, ℕ, Bool, true, false, not, Option, Some, None, is_none, [], ◌∷◌, refl, sym, ap, ◌∙◌, arith}
 use Rattle.std.specs.Prelude.{nat_lt, nat_le, ◌&&◌, ◌||◌}
-use Rattle.event_callbacks.specs.declared.operations.OpId.{OpId}
-use Rattle.event_callbacks.specs.declared.operations.Operation.{Operation}
-use Rattle.guest_lockstep.specs.Machine.{Machine}
-use Rattle.guest_lockstep.specs.declared.reads.Reads.{Reads}
-use Rattle.i8080_words.specs.declared.refusal.Fault.TheVariants.{NotCovered, NotDue}
-use Rattle.log_buffer.specs.Log.{Log}
-use Rattle.log_channel.specs.Channel.{Sending}
-use Rattle.output_rule.specs.Covering.{Covering, is_noted_covered}
+use Rattle.ft_node.proofs.Words.{Covering, Covers, IsPrimary, Log, Machine, Node, NotCovered, NotDue, Note, OpId, Operation, Primary, Reads, Sending, covers, fault_if, first_of, is_noted_covered, is_role, note_of, release_refusal, waits_in}
 use Rattle.output_rule.specs.Notes.{note_of as note_in}
 use Rattle.output_rule.specs.declared.notes.Note as notes
-use Rattle.pair_protocol.specs.Node.{Node, Note, Primary, covers, is_role, note_of}
-use Rattle.pair_protocol.specs.Refusals.{fault_if, first_of, release_refusal}
-use Rattle.ft_node.specs.Roles.{Covers, IsPrimary, waits_in}
 use Rattle.ft_node.proofs.PrimaryRefusals.{primary_serves}
 
 -- a note of the coverage and one of the protocol that wait for the same are covered alike

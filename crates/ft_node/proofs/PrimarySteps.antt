@@ -4,28 +4,11 @@ use Rattle.std.proofs.Common.{◌≡◌, ℕ, ◌+◌, ◌<◌, ◌≤◌, Optio
 use Rattle.std.proofs.lemmas.List.{append-nil, length-drop, drop-append-le}
 use Rattle.std.proofs.lemmas.List.Elements.{All-push}
 use Rattle.i8080_words.specs.declared.limits.TheConstants.{GREATEST_NUMBER}
-use Rattle.event_callbacks.specs.Operations.{id_of}
-use Rattle.event_callbacks.specs.declared.operations.Operation.{Operation}
-use Rattle.guest_lockstep.specs.Machine.{Machine}
-use Rattle.guest_lockstep.specs.declared.reads.Reads.{Reads}
-use Rattle.i8080_words.specs.declared.refusal.Fault.{Fault}
-use Rattle.log_buffer.specs.Log.{Log, log, next_of, pushed}
-use Rattle.log_channel.specs.Channel.{Sending}
-use Rattle.log_entry.specs.Spelling.{IsEntry}
+use Rattle.ft_node.proofs.Words.{AdvancesUnless, ComesAndGoes, Covering, Fault, IsEntry, IsPrimary, Log, Machine, Node, Operation, Reads, Sending, Stopped, Unless, advance_refusal, id_of, log, logged, next_of, noted, primary_steps, pushed, reads_in, stepped}
 use Rattle.log_entry.specs.declared.entry.Entry.TheVariants.{Mark}
-use Rattle.output_rule.specs.Covering.{Covering}
-use Rattle.pair_protocol.specs.Node.{Node, primary_steps}
 use Rattle.pair_protocol.specs.Refusals as refusals
-use Rattle.pair_protocol.specs.Effects.{stepped}
-use Rattle.pair_protocol.specs.Waiting.{reads_in}
 use Rattle.guest_lockstep.specs.declared.running.StopReason.{StopReason}
-use Rattle.guest_lockstep.specs.declared.running.Stopped.{Stopped}
-use Rattle.recorder.specs.Recording.{AdvancesUnless, advance_refusal, logged}
 use Rattle.ft_node.specs.Calls as calls
-use Rattle.ft_node.specs.Calls.{Unless}
-use Rattle.ft_node.specs.Noting.{noted}
-use Rattle.guest_lockstep.specs.Outstanding.{ComesAndGoes}
-use Rattle.ft_node.specs.Roles.{IsPrimary}
 use Rattle.ft_node.specs.declared.ran.Ran.{Ran}
 use Rattle.ft_node.proofs.PrimaryInputs.{next_behind, same_primary}
 use Rattle.ft_node.proofs.PrimaryNotes.{Covers-kept, Covers-noted, keeps_all, noted_after}

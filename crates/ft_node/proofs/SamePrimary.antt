@@ -3,8 +3,7 @@ use Rattle.std.proofs.Common.{◌≡◌, ◌≤◌, Result, Ok, Err}
 use Rattle.std.specs.Prelude.{OnErr}
 use Rattle.std.proofs.Math.Bridge.{le_prop}
 use Rattle.std.proofs.Math.Nat.{ℕ_set}
-use Rattle.i8080_words.specs.declared.refusal.Fault.{Fault}
-use Rattle.log_buffer.specs.Log.{next_of}
+use Rattle.ft_node.proofs.Words.{Fault, next_of}
 use Rattle.ft_node.specs.declared.primary.Primary.{Primary}
 use mathlib.Core.HLevel.{is_prop→PathP}
 

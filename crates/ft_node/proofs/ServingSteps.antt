@@ -1,19 +1,12 @@
 -- Steps of a node that serves, in whatever role. A quiet step leaves it what it is, so the protocol's run is put together
 -- from its end: after the quiet steps comes the last step, or what stops the guest.
 use Rattle.std.proofs.Common.{◌≡◌, ℕ, suc, ◌+◌, ◌-◌, ◌<◌, Bool, true, false, cond, Option, Some, None, is_none, refl, subst, ap, ◌∙◌, arith}
-use Rattle.event_callbacks.specs.Operations.{id_of}
-use Rattle.event_callbacks.specs.declared.operations.Operation.{Operation}
+use Rattle.ft_node.proofs.Words.{Advances, AllTurns, Begin, Ends, Fault, Goes, Idle, IsRefused, Machine, More, Node, NoneLeft, Operation, Quiet, RunsOn, Short, Spent, Stopped, Waits, fault_of, id_of, stepped}
 use Rattle.guest_lockstep.specs.Lockstep.{step_refusal}
-use Rattle.guest_lockstep.specs.Machine.{Machine}
-use Rattle.guest_lockstep.specs.Running.{Quiet, Begin, More, RunsOn, AllTurns, IsRefused, fault_of}
 use Rattle.guest_lockstep.specs.Running as running
 use Rattle.guest_lockstep.specs.declared.running.StopReason.{StopReason}
 use Rattle.guest_lockstep.specs.declared.running.StopReason.TheVariants as reason
-use Rattle.guest_lockstep.specs.declared.running.Stopped.{Stopped}
-use Rattle.i8080_words.specs.declared.refusal.Fault.{Fault}
-use Rattle.i8080_words.specs.declared.refusal.Fault.TheVariants.{Spent, Idle}
-use Rattle.pair_protocol.specs.Effects.{Advances, NoneLeft, Ends, Waits, Short, Gives, Goes, stepped}
-use Rattle.pair_protocol.specs.Node.{Node}
+use Rattle.pair_protocol.specs.Effects.{Gives}
 
 none_is : {A : Type 0} (o : Option A) → is_none o ≡ true → o ≡ None
 none_is None e = refl

@@ -2,7 +2,7 @@
 -- replaced at one place, and after one more is appended to each.
 use Rattle.std.proofs.Common.{◌≡◌, [], ◌∷◌, ◌++◌, None, Some, List, refl, subst, suc, zero, ℕ}
 use Rattle.std.specs.Prelude.{Option, slice_get, slice_set}
-use Rattle.ft_world.specs.Shows.{Agree}
+use Rattle.ft_world.proofs.Words.{Agree}
 
 pub agree-set : {A B : Type 0} (P : A → B → Type 0) (xs : List A) (ys : List B) (k : ℕ) (a : A) (b : B) → P a b →
     ((n : ℕ) → Agree P (slice_get xs n) (slice_get ys n)) →

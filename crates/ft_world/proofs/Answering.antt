@@ -2,11 +2,7 @@
 -- as of a station in place of its node.
 use Rattle.std.proofs.Common.{◌≡◌, ◌∙◌, ℕ, List, Err, None, Ok, Option, Result, Some, ap, refl}
 use Rattle.std.specs.Result.{IsErrAnd}
-use Rattle.i8080_words.specs.declared.refusal.Fault.{Fault}
-use Rattle.arbiter_core.specs.declared.arbiter.Asking.{Asking}
-use Rattle.arbiter_core.specs.declared.arbiter.Won.{Won}
-use Rattle.pair_protocol.specs.Node.{Node, halts, wins}
-use Rattle.ft_node.specs.Calls.{SuspectsOf, Call, Unless}
+use Rattle.ft_world.proofs.Words.{Asking, Call, Fault, Node, SuspectsOf, Unless, Won, halts, wins}
 
 -- the other words for a call
 pub record Retells {A S : Type 0} (o : Option Fault) (needs also : Node S → Type 0) (does : A → Node S → Node S → Type 0)

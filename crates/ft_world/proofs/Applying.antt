@@ -1,28 +1,10 @@
 -- What follows from a row at a world that is shown: the world after it is reached by actions, so it is faithful, and
 -- what was settled grows. So an event applies if its row holds and the fields show the world after it.
-use Rattle.guest_parts.specs.Guest.{Guest}
+use Rattle.ft_world.proofs.Words.{Applies, Course, Event, Fault, Guest, IsFaithful, Leaves, Machine, MayNeedMemory, NeedsMemory, OutOfMemory, Reached, Record, Refuses, Reply, Row, Running, Shows, ShowsParts, ShowsSome, World, always_faithful, answer_of, changes_reach, fault_if, machine_of, refusal, row_changes, row_grows}
 use Rattle.std.proofs.Common.{◌≡◌, Bool, Err, List, None, Ok, Some, ap, false, subst, sym, true}
 use Rattle.std.specs.Prelude.{Result}
 use Rattle.std.specs.Result.{IsErrAnd}
-use Rattle.guest_lockstep.specs.Machine.{Machine}
-use Rattle.i8080_words.specs.declared.refusal.Fault.{Fault}
-use Rattle.i8080_words.specs.declared.refusal.Fault.TheVariants.{OutOfMemory}
-use Rattle.shared_disk.specs.declared.store.Record.{Record}
-use Rattle.pair_protocol.specs.Change.{Reached}
 use Rattle.pair_protocol.specs.Reply.{Refused}
-use Rattle.pair_protocol.specs.Refusals.{fault_if, refusal}
-use Rattle.pair_protocol.specs.Row.{Leaves, Refuses, Row, NeedsMemory}
-use Rattle.pair_protocol.specs.Rows.{MayNeedMemory}
-use Rattle.pair_protocol.specs.World.{World}
-use Rattle.pair_protocol.proofs.Promises.Growth.{row_grows}
-use Rattle.pair_protocol.proofs.RowActions.{row_changes}
-use Rattle.pair_protocol.proofs.Promises.Runs.{always_faithful, changes_reach}
-use Rattle.ft_world.specs.Applies.{Applies, IsFaithful, Shows, ShowsParts, ShowsSome}
-use Rattle.ft_world.specs.Running.{Running}
-use Rattle.ft_world.specs.Standing.{Course, machine_of}
-use Rattle.ft_world.specs.Words.{answer_of}
-use Rattle.pair_events.specs.declared.event.Event.{Event}
-use Rattle.pair_events.specs.declared.reply.Reply.{Reply}
 
 -- a world that is shown is faithful, since actions reach it
 pub shown_is_faithful : {B H D S : Type 0} (state : B → S) (copied : B → Guest) (M : Machine S) (records : D → List Record)

@@ -1,38 +1,15 @@
 -- A write arrives at the disk: the record of its sector is the greatest that arrived there, and every other sector
 -- keeps its record. A write that was released is to a sector of the disk, so only the device itself can fail.
-use Rattle.guest_parts.specs.Guest.{Guest}
+use Rattle.ft_world.proofs.Words.{Accepts, Agree, Applies, AreMessages, Course, DeviceFails, DeviceFault, Fault, Guest, IsAt, IsDisk, IsMessage, Machine, Message, NeedsMemory, PutsWrite, Record, Reply, Row, Running, SectorAddress, SectorRecord, SectorWrite, Shows, Unknown, address_of, after_meeting, after_put, machine_of, record_at, record_of, refusal_at, reply_of, same_address, same_some, sector_record, sector_record-one, with_put, with_record, write_of, write_refusal}
 use Rattle.std.proofs.Common.{◌≡◌, [], ◌∷◌, ◌++◌, ◌∙◌, Bool, Err, List, None, Ok, Some, ap, cond, false, inl, inr, refl, subst, sym, true, ℕ}
 use Rattle.std.specs.Option.{option_and_then, option_map_or}
 use Rattle.std.specs.Prelude.{if◌then◌else◌, Option, Result, is_some, nat_lt, slice_get}
-use Rattle.disk_dcdd.specs.Address.{address_of, same_address}
-use Rattle.disk_dcdd.specs.declared.address.SectorAddress.{SectorAddress}
-use Rattle.disk_dcdd.specs.declared.sector.SectorWrite.{SectorWrite}
 use Rattle.event_callbacks.specs.declared.operations.Operation.TheVariants as operation
-use Rattle.guest_lockstep.specs.Machine.{Machine}
-use Rattle.i8080_words.specs.declared.refusal.Fault.{Fault}
-use Rattle.i8080_words.specs.declared.refusal.Fault.TheVariants.{DeviceFault, Unknown}
-use Rattle.shared_disk.specs.Arrivals.{after_meeting, after_put, record_of}
-use Rattle.shared_disk.specs.Records.{IsAt, record_at, refusal_at, with_record}
-use Rattle.shared_disk.specs.declared.store.Record.{Record}
 use Rattle.shared_disk.proofs.RecordsBySector.{is_other, is_same, record_at-with_other, record_at-with_same}
 use Rattle.pair_protocol.specs.Reply as protocol
-use Rattle.pair_protocol.specs.Refusals.{write_refusal}
-use Rattle.pair_protocol.specs.Row.{Accepts, DeviceFails, Row, NeedsMemory}
 use Rattle.pair_protocol.specs.World as world
-use Rattle.pair_protocol.specs.World.{SectorRecord, sector_record, with_put}
-use Rattle.pair_protocol.proofs.Traces.Lists.{same_some}
-use Rattle.pair_protocol.proofs.Promises.OneMore.{sector_record-one}
-use Rattle.ft_world.specs.Applies.{Applies, Shows}
-use Rattle.ft_world.specs.Devices.{PutsWrite}
-use Rattle.ft_world.specs.Messages.{write_of}
-use Rattle.ft_world.specs.Running.{Running}
-use Rattle.ft_world.specs.Shows.{Agree, AreMessages, IsDisk}
-use Rattle.ft_world.specs.Standing.{Course, machine_of}
-use Rattle.ft_world.specs.Words.{IsMessage, reply_of}
 use Rattle.pair_events.specs.declared.event.Event.TheVariants as event
-use Rattle.ft_world.specs.declared.message.Message.{Message}
 use Rattle.ft_world.specs.declared.message.Message.TheVariants as message
-use Rattle.pair_events.specs.declared.reply.Reply.{Reply}
 use Rattle.ft_world.proofs.Applying.{applies, refuses, unchanged}
 use Rattle.ft_world.proofs.Released.{writes_on_disk}
 use Rattle.ft_world.proofs.Sending.{messages_push}

@@ -2,65 +2,27 @@
 -- the run that it follows takes that sector there, so it was ready at the selected drive, and is a sector of the disk. If
 -- the answer has the number of the read, its bytes are those that the run takes, as in every world that actions reach; so
 -- they may be kept.
-use Rattle.guest_parts.specs.Guest.{Guest}
+use Rattle.ft_world.proofs.Words.{After, Applies, Backup, Course, Do, Draining, Entry, Fault, Fetched, Fetches, GetsSector, Guest, Host, Input, IsFollower, IsHost, IsNode, IsOnTrace-back, Machine, MayFetch, Message, Move, Never, Node, NotDue, OfNode, OutOfMemory, Reached, Reads, Record, Replaying, Reply, Role, Running, SectorAddress, SectorRead, Shows, StaleRead, Station, Stays, Take, Unknown, Wants, World, acts_as, at_fetched, at_node, drop-at, entries, entry_of, faults_in, fetch_refusal, fetched_refusal, fetches, first-passed, get_set, has_sector, is-at-read, machine_of, next_read, node-passed, nodes_stand, read_address, refusal, replaying, role_refusal, same_address, sector_of, wanted, wanted_of, with_node}
 use Rattle.std.proofs.Common.{◌≡◌, ◌≤◌, ◌+◌, ◌∙◌, ◌++◌, [], ◌∷◌, Bool, Err, List, None, Ok, Option, Some, ap, arith, drop, eqb-true, false, inl, inr, not, refl, subst, suc, sym, true, zero, ℕ}
 use Rattle.std.specs.Option.{option_and_then}
 use Rattle.std.specs.Prelude.{IfErr, IsTrue, Result, if◌then◌else◌, is_none, slice_get, ◌==◌}
-use Rattle.disk_dcdd.specs.Address.{has_sector, same_address}
-use Rattle.disk_dcdd.specs.declared.address.SectorAddress.{SectorAddress}
-use Rattle.guest_lockstep.specs.Machine.{Do, Machine, Move, Take}
 use Rattle.guest_lockstep.specs.Recorded.{Accepts, Recorded}
-use Rattle.guest_lockstep.specs.declared.input.Input.{Input}
 use Rattle.guest_lockstep.specs.declared.input.Input.TheVariants.{Rx, Sector, Sent, Written}
-use Rattle.guest_lockstep.specs.declared.reads.Reads.{Reads}
 use Rattle.guest_lockstep.specs.declared.reads.Reads.TheVariants.{Logged, Shared}
-use Rattle.i8080_words.specs.declared.refusal.Fault.{Fault}
-use Rattle.i8080_words.specs.declared.refusal.Fault.TheVariants.{NotDue, OutOfMemory, StaleRead, Unknown}
 use Rattle.log_channel.specs.Channel.{Receiving}
-use Rattle.log_entry.specs.Entries.{entries, entry_of}
 use Rattle.log_entry.specs.Standing.{IsOnTrace, owed}
-use Rattle.log_entry.specs.declared.entry.Entry.{Entry}
 use Rattle.log_entry.specs.declared.entry.Entry.TheVariants as entry
 use Rattle.replayer.specs.Replaying as replayer
 use Rattle.replayer.specs.Replaying.{bytes_refusal}
 use Rattle.replayer.proofs.Fronts.{not_behind}
-use Rattle.shared_disk.specs.Records.{faults_in}
-use Rattle.shared_disk.specs.declared.disk.SectorRead.{SectorRead}
-use Rattle.shared_disk.specs.declared.store.Record.{Record}
-use Rattle.pair_protocol.specs.Change.{After, Fetches, Reached, Replaying}
-use Rattle.pair_protocol.specs.Effects.{Fetched, Wants, next_read, wanted, wanted_of}
 use Rattle.pair_protocol.specs.Effects as effect
-use Rattle.pair_protocol.specs.Node.{Backup, Draining, Node, Role, acts_as, fetches}
-use Rattle.pair_protocol.specs.Refusals.{at_fetched, at_node, fetch_refusal, fetched_refusal, refusal, role_refusal}
-use Rattle.pair_protocol.specs.Rows.{OfNode}
 use Rattle.pair_protocol.specs.World as sent
-use Rattle.pair_protocol.specs.World.{World, with_node}
-use Rattle.pair_protocol.proofs.Booted.{IsOnTrace-back}
 use Rattle.pair_protocol.proofs.Keeps.Disk.{same_address-is}
-use Rattle.pair_protocol.proofs.OneNode.{is-at-read}
-use Rattle.pair_protocol.proofs.Passed.{first-passed, node-passed, replaying}
-use Rattle.pair_protocol.proofs.Promises.NodeStands.{nodes_stand}
-use Rattle.pair_protocol.proofs.Traces.Lists.{drop-at, get_set}
-use Rattle.ft_node.specs.Calls.{Never}
-use Rattle.ft_node.specs.Roles.{IsFollower}
-use Rattle.ft_node.specs.Seats.{IsNode, MayFetch}
 use Rattle.ft_node.specs.declared.node.Node as code
 use Rattle.ft_node.specs.declared.node.Node.TheVariants as seat
-use Rattle.ft_world.specs.Applies.{Applies, Shows}
-use Rattle.ft_world.specs.Devices.{GetsSector}
-use Rattle.ft_world.specs.Messages.{sector_of}
-use Rattle.ft_world.specs.Running.{Running}
-use Rattle.ft_world.specs.Shows.{IsHost}
-use Rattle.ft_world.specs.Standing.{Course, machine_of}
-use Rattle.ft_world.specs.Staying.{Stays}
-use Rattle.ft_world.specs.Words.{read_address}
 use Rattle.pair_events.specs.declared.event.Event.TheVariants as event
-use Rattle.pair_events.specs.declared.reply.Reply.{Reply}
 use Rattle.pair_events.specs.declared.reply.Reply.TheVariants as reply
-use Rattle.ft_world.specs.declared.host.Host.{Host}
 use Rattle.ft_world.specs.declared.host.Host.TheVariants as host
-use Rattle.ft_world.specs.declared.message.Message.{Message}
-use Rattle.ft_world.specs.declared.station.Station.{Station}
 use Rattle.ft_world.proofs.Agreeing.{agree-other}
 use Rattle.ft_world.proofs.Applying.{refuses}
 use Rattle.ft_world.proofs.AtHosts.{AsksNode, AtHost}

@@ -1,29 +1,10 @@
 -- Pages of an alone node's machine are copied early: the node of the protocol stays as it is, and so does the world. The
 -- reply says how many pages are still stale.
-use Rattle.guest_parts.specs.Guest.{Guest}
+use Rattle.ft_world.proofs.Words.{Applies, AreFreshened, Copying, Course, Ever, Fault, Freshens, Guest, Host, HostFreshened, IsNode, IsStation, Machine, Node, Record, Running, Shows, Station, WithStation, freshen_refusal, get_set, with_node, with_same}
 use Rattle.std.proofs.Common.{◌≡◌, ◌∙◌, ℕ, Bool, Err, List, Ok, Result, Some, ap, refl}
 use Rattle.std.specs.Prelude.{slice_get}
-use Rattle.guest_lockstep.specs.Machine.{Machine}
-use Rattle.i8080_words.specs.declared.refusal.Fault.{Fault}
-use Rattle.shared_disk.specs.declared.store.Record.{Record}
-use Rattle.pair_protocol.specs.Copying.{Copying}
-use Rattle.pair_protocol.specs.Node.{Node}
-use Rattle.pair_protocol.specs.Refusals.{freshen_refusal}
-use Rattle.pair_protocol.specs.World.{with_node}
-use Rattle.pair_protocol.proofs.OneNode.{with_same}
-use Rattle.pair_protocol.proofs.Traces.Lists.{get_set}
-use Rattle.ft_node.specs.Calls.{Ever, Freshens}
-use Rattle.ft_node.specs.Seats.{AreFreshened, IsNode}
 use Rattle.ft_node.specs.declared.node.Node as code
-use Rattle.ft_world.specs.Applies.{Applies, Shows}
-use Rattle.ft_world.specs.Freshened.{HostFreshened}
-use Rattle.ft_world.specs.Lending.{WithStation}
-use Rattle.ft_world.specs.Running.{Running}
-use Rattle.ft_world.specs.Shows.{IsStation}
-use Rattle.ft_world.specs.Standing.{Course}
-use Rattle.ft_world.specs.declared.host.Host.{Host}
 use Rattle.ft_world.specs.declared.host.Host.TheVariants as host
-use Rattle.ft_world.specs.declared.station.Station.{Station}
 use Rattle.pair_events.specs.declared.event.Event.TheVariants as event
 use Rattle.pair_events.specs.declared.reply.Reply.TheVariants as reply
 use Rattle.ft_world.proofs.Answering.{retold}

@@ -1,31 +1,8 @@
 -- What an event does at one host is what it does at its station: every other host stays, and so does every other node.
-use Rattle.pair_protocol.specs.Copying.{Copying}
-use Rattle.guest_parts.specs.Guest.{Guest}
+use Rattle.ft_world.proofs.Words.{Agree, Alone, AreHosts, Ask, Asking, Backup, Call, Copying, Course, Draining, Fault, Gives, Guest, HasNoNode, Host, IsHost, IsNode, IsStation, Joining, Machine, Makes, Node, OfNode, Primary, Record, Role, Running, Shows, Spare, Station, Suspects, SuspectsOf, Unknown, Unless, WithStation, Won, World, at_node, get_set, get_set_other, halts, is_role, same_or_not, set_get, suspect_refusal, winner_of, wins}
 use Rattle.std.proofs.Common.{◌≡◌, ℕ, List, Err, None, Ok, Option, Result, Some, inl, inr, refl, subst, sym}
 use Rattle.std.specs.Prelude.{slice_get, slice_set, if◌then◌else◌}
-use Rattle.arbiter_core.specs.Winners.{winner_of}
-use Rattle.arbiter_core.specs.declared.arbiter.Asking.{Asking}
-use Rattle.arbiter_core.specs.declared.arbiter.Won.{Won}
-use Rattle.guest_lockstep.specs.Machine.{Machine}
-use Rattle.i8080_words.specs.declared.refusal.Fault.{Fault}
-use Rattle.i8080_words.specs.declared.refusal.Fault.TheVariants.{Unknown}
-use Rattle.shared_disk.specs.declared.store.Record.{Record}
-use Rattle.pair_protocol.specs.Node.{Node, Role, Primary, Backup, Joining, Draining, Alone, Spare, halts, is_role, wins}
-use Rattle.pair_protocol.specs.Refusals.{at_node, suspect_refusal}
-use Rattle.pair_protocol.specs.Rows.{OfNode}
-use Rattle.pair_protocol.specs.World.{World}
-use Rattle.pair_protocol.proofs.Traces.Lists.{get_set, same_or_not, get_set_other}
-use Rattle.pair_protocol.proofs.OneNode.{set_get}
-use Rattle.ft_node.specs.Calls.{Ask, SuspectsOf, Suspects, Call, Gives, Makes, Unless}
-use Rattle.ft_world.specs.Applies.{Shows}
-use Rattle.ft_world.specs.Lending.{HasNoNode, WithStation}
-use Rattle.ft_world.specs.Running.{Running}
-use Rattle.ft_node.specs.Seats.{IsNode}
-use Rattle.ft_world.specs.Shows.{Agree, AreHosts, IsHost, IsStation}
-use Rattle.ft_world.specs.Standing.{Course}
-use Rattle.ft_world.specs.declared.host.Host.{Host}
 use Rattle.ft_world.specs.declared.host.Host.TheVariants as host
-use Rattle.ft_world.specs.declared.station.Station.{Station}
 use Rattle.ft_world.proofs.Answering.{asked, unless}
 
 -- the node of a number becomes another one, and every other host stays

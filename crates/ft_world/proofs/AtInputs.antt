@@ -1,36 +1,17 @@
 -- Events by which a node takes an input: it keeps its role and its generation. A key was typed, and a byte was accepted,
 -- exactly if it was in the world that is shown, so their events are refused alike.
-use Rattle.guest_parts.specs.Guest.{Guest}
+use Rattle.ft_world.proofs.Words.{Applies, AreTerminals, Course, Event, Ever, Fault, Guest, Host, Machine, PORTS, Record, Running, Screen, Shows, Took, Took-booted, Unknown, answered, at_node, blank, fault_if, machine_of, no_terminal, not_accepted, not_typed, refusal, screen_in, terminal_in}
 use Rattle.std.proofs.Common.{◌≡◌, ◌≤◌, ◌∙◌, Err, List, None, Ok, Some, ap, inl, inr, length, refl, subst, sym, ℕ}
 use Rattle.std.specs.Prelude.{Option, Result, is_none, nat_lt, ok_or, slice_get, ◌==◌, ◌||◌}
 use Rattle.std.proofs.lemmas.Bool.Decides.{leb_tells}
 use Rattle.std.proofs.lemmas.List.{get_or_past}
-use Rattle.disk_dcdd.specs.Completion.{answered}
-use Rattle.event_callbacks.specs.declared.devices.TheConstants.{PORTS}
-use Rattle.guest_lockstep.specs.Machine.{Machine}
-use Rattle.i8080_words.specs.declared.refusal.Fault.{Fault}
-use Rattle.i8080_words.specs.declared.refusal.Fault.TheVariants.{Unknown}
-use Rattle.shared_disk.specs.declared.store.Record.{Record}
-use Rattle.terminals.specs.Screen.{Screen, blank}
-use Rattle.pair_protocol.specs.Effects.{Took}
 use Rattle.pair_protocol.specs.Refusals as refusals
-use Rattle.pair_protocol.specs.Refusals.{at_node, fault_if, not_accepted, not_typed, refusal}
 use Rattle.pair_protocol.specs.World as world
-use Rattle.pair_protocol.specs.World.{no_terminal, terminal_in}
-use Rattle.pair_protocol.proofs.Booted.{Took-booted}
-use Rattle.ft_node.specs.Calls.{Ever}
-use Rattle.ft_world.specs.Applies.{Applies, Shows}
 use Rattle.ft_world.proofs.AtHosts.{AtHost}
 use Rattle.ft_world.specs.Devices as table
-use Rattle.ft_world.specs.Devices.{screen_in}
 use Rattle.ft_world.specs.Offers.{Offers, input_of, offer_refusal}
-use Rattle.ft_world.specs.Running.{Running}
-use Rattle.ft_world.specs.Shows.{AreTerminals}
-use Rattle.ft_world.specs.Standing.{Course, machine_of}
-use Rattle.pair_events.specs.declared.event.Event.{Event}
 use Rattle.pair_events.specs.declared.event.Event.TheVariants as event
 use Rattle.pair_events.specs.declared.reply.Reply.TheVariants as reply
-use Rattle.ft_world.specs.declared.host.Host.{Host}
 use Rattle.ft_world.specs.declared.offer.Offer.{Offer}
 use Rattle.ft_world.specs.declared.offer.Offer.TheVariants as offer
 use Rattle.ft_world.proofs.Applying.{refuses}

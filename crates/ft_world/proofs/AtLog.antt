@@ -1,36 +1,17 @@
 -- A log entry arrives at a backup, and an acknowledgement at a primary. The bytes of a message spell one packet, so the
 -- node does with it what the row says of the entry or the acknowledgement that was sent; a message of another kind brings
 -- neither, and is unknown.
-use Rattle.guest_parts.specs.Guest.{Guest}
+use Rattle.ft_world.proofs.Words.{Agree, Applies, Call, Course, DeliversAcknowledgement, DeliversLog, Entry, Fault, Guest, Heard, Held, Host, IsMessage, Machine, Message, NeedsEntry, Never, Node, Record, Reply, Running, Shows, Unknown, ack_of, at_acknowledgement, at_log_entry, deliver_acknowledgement_refusal, deliver_log_refusal, log_of, reply_of, same_some}
 use Rattle.std.proofs.Common.{◌≡◌, ◌∙◌, Bool, Err, List, None, Ok, Some, ap, cond, false, refl, subst, true, ℕ}
 use Rattle.std.specs.Option.{option_and_then}
 use Rattle.std.specs.Prelude.{Option, Result, slice_get, unwrap_or}
-use Rattle.guest_lockstep.specs.Machine.{Machine}
-use Rattle.i8080_words.specs.declared.refusal.Fault.{Fault}
-use Rattle.i8080_words.specs.declared.refusal.Fault.TheVariants.{Unknown}
 use Rattle.log_channel.specs.Packet.{packet_at}
 use Rattle.log_channel.specs.declared.packet.Packet.TheVariants as packet
-use Rattle.log_entry.specs.declared.entry.Entry.{Entry}
-use Rattle.shared_disk.specs.declared.store.Record.{Record}
-use Rattle.pair_protocol.specs.Effects.{Heard, Held, NeedsEntry}
 use Rattle.pair_protocol.specs.Reply as protocol
-use Rattle.pair_protocol.specs.Node.{Node}
-use Rattle.pair_protocol.specs.Refusals.{deliver_acknowledgement_refusal, at_acknowledgement, at_log_entry, deliver_log_refusal}
 use Rattle.pair_protocol.specs.World as world
-use Rattle.pair_protocol.proofs.Traces.Lists.{same_some}
-use Rattle.ft_world.specs.Applies.{Applies, Shows}
-use Rattle.ft_node.specs.Calls.{Call, DeliversLog, DeliversAcknowledgement, Never}
 use Rattle.ft_world.proofs.AtHosts.{AtHost}
-use Rattle.ft_world.specs.Messages.{ack_of, log_of}
-use Rattle.ft_world.specs.Running.{Running}
-use Rattle.ft_world.specs.Shows.{Agree}
-use Rattle.ft_world.specs.Standing.{Course}
-use Rattle.ft_world.specs.Words.{IsMessage, reply_of}
 use Rattle.pair_events.specs.declared.event.Event.TheVariants as event
-use Rattle.pair_events.specs.declared.reply.Reply.{Reply}
 use Rattle.pair_events.specs.declared.reply.Reply.TheVariants as reply
-use Rattle.ft_world.specs.declared.host.Host.{Host}
-use Rattle.ft_world.specs.declared.message.Message.{Message}
 use Rattle.ft_world.specs.declared.message.Message.TheVariants as message
 use Rattle.ft_world.proofs.Applying.{refuses}
 use Rattle.ft_world.proofs.AtOneNode.{node_applies, node_refused}

@@ -2,41 +2,19 @@
 -- and has not replayed are the next entries of a recorded run, as at every node of a world that actions reach; so its
 -- calls may be made. Its moves keep its generation and its role, and a machine that begins elsewhere makes the same
 -- moves. A drained node is alone, and was no backup before.
-use Rattle.guest_parts.specs.Guest.{Guest}
+use Rattle.ft_world.proofs.Words.{Applies, Backup, Course, Drained-booted, DrainedBy, Draining, Fault, Guest, Halted, Host, IsBehind-booted, IsFollower, IsHost, IsNode, IsOnTrace-back, Machine, MayReplay, NeedsMoves, Never, Node, OfNode, Reads, Record, Replayed-booted, ReplayedBy, Replaying, Reply, Role, Running, Shows, ShowsSome, Station, Stepped-booted, SteppedBy, drain_refusal, drain_reply, machine_of, nodes_stand, replay_refusal, reply_of, step_refusal, stop_refusal}
 use Rattle.std.proofs.Common.{◌≡◌, Err, List, Ok, Option, Some, drop, inl, inr, refl, subst, sym, ℕ}
 use Rattle.std.specs.Prelude.{slice_get, ◌<◌}
-use Rattle.guest_lockstep.specs.Machine.{Machine}
-use Rattle.guest_lockstep.specs.declared.reads.Reads.{Reads}
-use Rattle.i8080_words.specs.declared.refusal.Fault.{Fault}
 use Rattle.log_channel.specs.Channel.{Receiving}
 use Rattle.log_entry.specs.Standing.{IsOnTrace}
 use Rattle.replayer.specs.declared.replayer.Replayed.{Replayed}
-use Rattle.shared_disk.specs.declared.store.Record.{Record}
-use Rattle.pair_protocol.specs.Change.{Replaying}
-use Rattle.pair_protocol.specs.Effects.{Halted, NeedsMoves}
-use Rattle.pair_protocol.specs.Node.{Backup, Draining, Node, Role}
-use Rattle.pair_protocol.specs.Refusals.{drain_refusal, replay_refusal, step_refusal, stop_refusal}
-use Rattle.pair_protocol.specs.Rows.{OfNode, drain_reply}
-use Rattle.pair_protocol.proofs.Booted.{Drained-booted, IsBehind-booted, IsOnTrace-back, Replayed-booted, Stepped-booted}
-use Rattle.pair_protocol.proofs.Promises.NodeStands.{nodes_stand}
-use Rattle.ft_node.specs.Calls.{DrainedBy, Never, ReplayedBy, SteppedBy}
-use Rattle.ft_node.specs.Roles.{IsFollower}
-use Rattle.ft_node.specs.Seats.{IsNode, MayReplay}
 use Rattle.ft_node.specs.declared.node.Node as code
 use Rattle.ft_node.specs.declared.node.Node.TheVariants as seat
 use Rattle.ft_node.specs.declared.ran.Drained.{Drained}
 use Rattle.ft_node.specs.declared.ran.Ran.{Ran}
-use Rattle.ft_world.specs.Applies.{Applies, Shows, ShowsSome}
 use Rattle.ft_world.proofs.AtHosts.{AtHost}
-use Rattle.ft_world.specs.declared.station.Station.{Station}
-use Rattle.ft_world.specs.Running.{Running}
-use Rattle.ft_world.specs.Shows.{IsHost}
-use Rattle.ft_world.specs.Standing.{Course, machine_of}
-use Rattle.ft_world.specs.Words.{reply_of}
 use Rattle.pair_events.specs.declared.event.Event.TheVariants as event
-use Rattle.pair_events.specs.declared.reply.Reply.{Reply}
 use Rattle.pair_events.specs.declared.reply.Reply.TheVariants as reply
-use Rattle.ft_world.specs.declared.host.Host.{Host}
 use Rattle.ft_world.specs.declared.host.Host.TheVariants as host
 use Rattle.ft_world.proofs.Agreeing.{agree-other}
 use Rattle.ft_world.proofs.AtOneNode.{elsewhere, node_applies, node_refused}

@@ -2,17 +2,7 @@
 -- generation stays, and so does the only node that may be its backup.
 use Rattle.std.proofs.Common.{◌≡◌, [], ◌∷◌, ◌∙◌, List, Some, ap, inl, inr, refl, suc, sym, zero, ℕ}
 use Rattle.std.specs.Prelude.{max, slice_get, slice_set, ◌⊎◌}
-use Rattle.guest_lockstep.specs.Machine.{Machine}
-use Rattle.shared_disk.specs.declared.store.Record.{Record}
-use Rattle.pair_protocol.specs.Node.{Node}
-use Rattle.pair_protocol.specs.Settled.{highest, is_backup}
-use Rattle.pair_protocol.specs.World.{with_node}
-use Rattle.pair_protocol.proofs.Traces.Lists.{same_some}
-use Rattle.ft_world.specs.Applies.{ShowsParts}
-use Rattle.ft_world.specs.Running.{Running}
-use Rattle.ft_world.specs.Shows.{AreHosts, IsOnlyBackup}
-use Rattle.ft_world.specs.Standing.{Course}
-use Rattle.ft_world.specs.declared.host.Host.{Host}
+use Rattle.ft_world.proofs.Words.{AreHosts, Course, Host, IsOnlyBackup, Machine, Node, Record, Running, ShowsParts, highest, is_backup, same_some, with_node}
 
 pub highest_set : {S : Type 0} (nodes : List (Node S)) (n : ℕ) (x y : Node S) → slice_get nodes n ≡ Some x →
     y.generation ≡ x.generation → highest (slice_set nodes n y) ≡ highest nodes

@@ -1,29 +1,10 @@
 -- An event at one node: its row follows from what it does at that node, since every other node stays, the node keeps its
 -- generation, and it is a backup afterwards exactly if it was one before.
-use Rattle.guest_parts.specs.Guest.{Guest}
+use Rattle.ft_world.proofs.Words.{Accepts, Applies, AreHosts, AtNode, Course, Does, Event, Fault, Gives, Guest, Host, Leaves, Machine, MayNeedMemory, NeedsMemory, Never, Node, OfNode, OutOfMemory, Record, Refuses, Reply, Row, Running, Shows, Unless, World, at_node, first_of, machine_of, node-passed, refusal, reply_of, with_node}
 use Rattle.std.proofs.Common.{◌≡◌, ◌∷◌, ◌∙◌, [], Err, List, None, Ok, Some, ap, inl, inr, refl, subst, sym, ℕ}
 use Rattle.std.specs.Prelude.{Option, slice_get, ◌⊎◌}
-use Rattle.guest_lockstep.specs.Machine.{Machine}
-use Rattle.i8080_words.specs.declared.refusal.Fault.{Fault}
-use Rattle.i8080_words.specs.declared.refusal.Fault.TheVariants.{OutOfMemory}
-use Rattle.shared_disk.specs.declared.store.Record.{Record}
 use Rattle.pair_protocol.specs.Reply.{Refused}
-use Rattle.pair_protocol.specs.Node.{Node}
-use Rattle.pair_protocol.specs.Refusals.{at_node, first_of, refusal}
-use Rattle.pair_protocol.specs.Row.{Accepts, Leaves, Refuses, Row, NeedsMemory}
-use Rattle.pair_protocol.specs.Rows.{AtNode, Does, MayNeedMemory, OfNode}
-use Rattle.pair_protocol.specs.World.{World, with_node}
-use Rattle.pair_protocol.proofs.Passed.{node-passed}
-use Rattle.ft_world.specs.Applies.{Applies, Shows}
-use Rattle.ft_node.specs.Calls.{Gives, Never, Unless}
 use Rattle.ft_world.proofs.AtHosts.{AsksNode, AtHost, Becomes}
-use Rattle.ft_world.specs.Running.{Running}
-use Rattle.ft_world.specs.Shows.{AreHosts}
-use Rattle.ft_world.specs.Standing.{Course, machine_of}
-use Rattle.ft_world.specs.Words.{reply_of}
-use Rattle.pair_events.specs.declared.event.Event.{Event}
-use Rattle.pair_events.specs.declared.reply.Reply.{Reply}
-use Rattle.ft_world.specs.declared.host.Host.{Host}
 use Rattle.ft_world.proofs.Applying.{applies, refuses, unchanged, needs_memory}
 use Rattle.ft_world.proofs.AtNodes.{with_hosts, with_one_host}
 use Rattle.ft_world.proofs.Keeping.{Stays}

@@ -1,6 +1,6 @@
 -- A part of an image is sent, and arrives at a joining node. A part that was sent is of a machine that was run from boot, so
 -- it is read again from its message, and the parts that arrived fit one machine: nothing refuses the last one as malformed.
-use Rattle.guest_parts.specs.Guest.{Guest}
+use Rattle.ft_world.proofs.Words.{After, Again, Agree, Applies, Call, Comes, Completes, Copying, Course, Ever, Fault, GetsPart, GotPart, Guest, Host, IsLast, IsMessage, Joining, Machine, Malformed, Message, Node, Reached, Record, Reply, Running, Says, Shows, SpellsPart, Unknown, WrongGeneration, acts-in, among-get, at_part, fault_if, first-passed, first_of, gathered, generation_refusal, get_set, gets_part, is_backup, machine_of, only-passed, part_comes_refusal, part_of, part_refusal, passes-if, reply_of, role_refusal, same_some, send_part_refusal, with_node}
 use Rattle.std.proofs.Common.{◌≡◌, ◌∙◌, [], ◌∷◌, ℕ, ◌<◌, ◌^◌, Err, List, None, Ok, Option, Result, Some, ap, eqb-true, false, is_some, refl, subst, sym, true}
 use Rattle.std.specs.Global.{Vec}
 use Rattle.std.specs.Option.{option_and_then}
@@ -8,35 +8,12 @@ use Rattle.std.specs.Prelude.{is_none, slice_get, slice_index_or, ◌==◌}
 use Rattle.clone_state.specs.Image.{part_bytes}
 use Rattle.clone_state.specs.Parts.{PartMessage, guest_in, message_at}
 use Rattle.clone_state.proofs.PartsRead.{parts_read}
-use Rattle.guest_lockstep.specs.Machine.{Machine}
-use Rattle.i8080_words.specs.declared.refusal.Fault.{Fault}
-use Rattle.i8080_words.specs.declared.refusal.Fault.TheVariants.{Malformed, Unknown, WrongGeneration}
-use Rattle.shared_disk.specs.declared.store.Record.{Record}
-use Rattle.pair_protocol.specs.Change.{After, GetsPart, Reached}
-use Rattle.pair_protocol.specs.Copying.{Copying}
-use Rattle.pair_protocol.specs.Effects.{GotPart, Again, Comes, Completes}
 use Rattle.pair_protocol.specs.Reply as protocol
-use Rattle.pair_protocol.specs.Node.{Joining, Node, gathered, gets_part}
-use Rattle.pair_protocol.specs.Refusals.{at_part, fault_if, first_of, generation_refusal, part_comes_refusal, role_refusal, send_part_refusal}
-use Rattle.pair_protocol.specs.Settled.{is_backup}
 use Rattle.pair_protocol.specs.World as world
-use Rattle.pair_protocol.specs.World.{with_node}
-use Rattle.pair_protocol.proofs.Passed.{acts-in, first-passed, only-passed, passes-if}
 use Rattle.pair_protocol.proofs.Promises.Joining.{joining_is_given, parts_are_of_machines}
-use Rattle.pair_protocol.proofs.Traces.Lists.{among-get, get_set, same_some}
 use Rattle.ft_node.specs.Calls as calls
-use Rattle.ft_node.specs.Calls.{Call, Ever, IsLast, SpellsPart, part_refusal}
 use Rattle.ft_node.specs.declared.ran.PartCame.{PartCame}
-use Rattle.ft_world.specs.Applies.{Applies, Shows}
-use Rattle.ft_world.specs.Messages.{Says, part_of}
-use Rattle.ft_world.specs.Running.{Running}
-use Rattle.ft_world.specs.Shows.{Agree}
-use Rattle.ft_world.specs.Standing.{Course, machine_of}
-use Rattle.ft_world.specs.Words.{IsMessage, reply_of}
 use Rattle.pair_events.specs.declared.event.Event.TheVariants as event
-use Rattle.pair_events.specs.declared.reply.Reply.{Reply}
-use Rattle.ft_world.specs.declared.host.Host.{Host}
-use Rattle.ft_world.specs.declared.message.Message.{Message}
 use Rattle.ft_world.specs.declared.message.Message.TheVariants as message
 use Rattle.ft_world.proofs.Applying.{refuses}
 use Rattle.ft_world.proofs.AtHosts.{AsksNode, AtHost}

@@ -1,37 +1,17 @@
 -- Events at a terminal: a byte is typed there, a byte arrives, or the terminal is told how many keys are covered. The
 -- screen of a port has what the arrivals of the terminal gave, so one more byte leaves both alike.
-use Rattle.guest_parts.specs.Guest.{Guest}
+use Rattle.ft_world.proofs.Words.{Accepts, Agree, Applies, AreTerminals, Arrives, Course, Fault, Guest, IsMessage, IsTerminal, Machine, Message, PORTS, Record, Reply, Running, Screen, Shows, ShowsParts, Types, Unknown, World, accepted, accepted-one, accepted_after, accepted_in, after_arrival, after_key, arrival-counts, blank, byte_of, byte_refusal, comes_next, no_port, no_terminal, reply_of, same_some, screen_in, terminal-set, terminal_in, with_arrival, with_key}
 use Rattle.std.proofs.Common.{◌≡◌, ◌+◌, ◌<◌, ◌≤◌, [], ◌∷◌, ◌++◌, ◌∙◌, Bool, Err, List, None, Ok, Some, ap, arith, cond, eqb-true, false, inl, inr, length, refl, subst, sym, true, ℕ}
 use Rattle.std.specs.Option.{option_and_then}
 use Rattle.std.specs.Prelude.{Option, Result, nat_le, nat_lt, slice_get, slice_set, ◌==◌}
 use Rattle.std.proofs.lemmas.Bool.{le-leb, le-ltb, lt-leb}
 use Rattle.std.proofs.lemmas.List.{append-nil, length-set, set_past}
 use Rattle.std.proofs.lemmas.Option.{slice_get-get_or}
-use Rattle.event_callbacks.specs.declared.devices.TheConstants.{PORTS}
 use Rattle.event_callbacks.specs.declared.operations.Operation.TheVariants as operation
-use Rattle.guest_lockstep.specs.Machine.{Machine}
-use Rattle.i8080_words.specs.declared.refusal.Fault.{Fault}
-use Rattle.i8080_words.specs.declared.refusal.Fault.TheVariants.{Unknown}
-use Rattle.shared_disk.specs.declared.store.Record.{Record}
-use Rattle.terminals.specs.Screen.{Screen, after_arrival, after_key, blank, comes_next}
 use Rattle.pair_protocol.specs.Reply as protocol
-use Rattle.pair_protocol.specs.Refusals.{no_port, byte_refusal}
-use Rattle.pair_protocol.specs.Row.{Accepts}
 use Rattle.pair_protocol.specs.World as world
-use Rattle.pair_protocol.specs.World.{World, accepted, accepted_after, accepted_in, no_terminal, terminal_in, with_arrival, with_key}
-use Rattle.pair_protocol.proofs.Traces.Lists.{same_some}
-use Rattle.pair_protocol.proofs.Promises.OneMore.{accepted-one, terminal-set, arrival-counts}
-use Rattle.ft_world.specs.Applies.{Applies, Shows, ShowsParts}
-use Rattle.ft_world.specs.Devices.{Arrives, Types, screen_in}
-use Rattle.ft_world.specs.Messages.{byte_of}
-use Rattle.ft_world.specs.Running.{Running}
-use Rattle.ft_world.specs.Shows.{Agree, AreTerminals, IsTerminal}
-use Rattle.ft_world.specs.Standing.{Course}
-use Rattle.ft_world.specs.Words.{IsMessage, reply_of}
 use Rattle.pair_events.specs.declared.event.Event.TheVariants as event
-use Rattle.ft_world.specs.declared.message.Message.{Message}
 use Rattle.ft_world.specs.declared.message.Message.TheVariants as message
-use Rattle.pair_events.specs.declared.reply.Reply.{Reply}
 use Rattle.pair_events.specs.declared.reply.Reply.TheVariants as reply
 use Rattle.ft_world.proofs.Agreeing.{agree-both, agree-set}
 use Rattle.ft_world.proofs.Applying.{applies, refuses, stands, stands_not, needs_memory}

@@ -4,31 +4,10 @@
 use Rattle.std.proofs.Common.{◌≡◌, ◌∙◌, [], ◌∷◌, ◌++◌, List, None, Option, Some, ap, refl, subst, suc, sym, true, false, zero, ℕ}
 use Rattle.std.specs.Prelude.{IsSome, slice_get}
 use Rattle.std.specs.Option.{option_map_or}
-use Rattle.arbiter_core.specs.declared.arbiter.Asking.{Asking}
-use Rattle.guest_parts.specs.Guest.{Guest}
-use Rattle.guest_lockstep.specs.Machine.{Machine, booted_from}
-use Rattle.guest_lockstep.specs.declared.reads.Reads.{Reads}
-use Rattle.shared_disk.specs.Records.{record_at}
-use Rattle.shared_disk.specs.declared.store.Record.{Record}
-use Rattle.terminals.specs.Screen.{Screen, blank}
-use Rattle.pair_protocol.specs.Change.{AtBoot}
-use Rattle.pair_protocol.specs.Copying.{Copying}
-use Rattle.pair_protocol.specs.Node.{Backup, Node, Primary, Role, first_node}
-use Rattle.pair_protocol.specs.Settled.{is_backup}
-use Rattle.pair_protocol.specs.World.{no_terminal, opening}
-use Rattle.pair_protocol.proofs.Traces.Lists.{same_some}
-use Rattle.ft_node.specs.Calls.{Begins}
+use Rattle.ft_world.proofs.Words.{Agree, AreHosts, AreMessages, AreTerminals, AreWinners, Asking, AtBoot, Backup, Begins, Copying, Course, Guest, Host, IsDisk, IsHost, IsNode, IsOnlyBackup, IsStation, IsTerminal, Machine, Message, Node, Primary, Reads, Record, Role, Screen, Shows, Station, blank, booted_from, count_of, first_node, is_backup, machine_of, no_terminal, opening, record_at, same_some}
 use Rattle.ft_node.specs.declared.node.Node as code
-use Rattle.ft_node.specs.Roles.{count_of}
-use Rattle.ft_world.specs.Applies.{Shows}
 use Rattle.ft_world.specs.Beginning.{MayBegin, beginning, bytes_in}
-use Rattle.ft_node.specs.Seats.{IsNode}
-use Rattle.ft_world.specs.Shows.{Agree, AreHosts, AreMessages, AreTerminals, AreWinners, IsDisk, IsHost, IsOnlyBackup, IsStation, IsTerminal}
-use Rattle.ft_world.specs.Standing.{Course, machine_of}
-use Rattle.ft_world.specs.declared.host.Host.{Host}
 use Rattle.ft_world.specs.declared.host.Host.TheVariants as host
-use Rattle.ft_world.specs.declared.station.Station.{Station}
-use Rattle.ft_world.specs.declared.message.Message.{Message}
 use Rattle.ft_world.proofs.Agreeing.{agree-push}
 
 -- ---- the two nodes

@@ -2,14 +2,8 @@
 use Rattle.std.proofs.Common.{◌≡◌, ◌<◌, ◌+◌, ◌∷◌, ◌++◌, [], Bool, List, get_or, length, subst, sym, take, ℕ}
 use Rattle.std.specs.Prelude.{Result}
 use Rattle.std.proofs.lemmas.List.{take_more}
-use Rattle.guest_parts.specs.Guest.{Guest}
-use Rattle.guest_lockstep.specs.Machine.{Machine}
-use Rattle.i8080_words.specs.declared.refusal.Fault.{Fault}
-use Rattle.pair_events.specs.declared.event.Event.{Event}
-use Rattle.pair_events.specs.declared.reply.Reply.{Reply}
-use Rattle.shared_disk.specs.declared.store.Record.{Record}
-use Rattle.ft_world.specs.Chaining.{First, HasApplied, HaveApplied, Nothing}
-use Rattle.ft_world.specs.Running.{Running}
+use Rattle.ft_world.proofs.Words.{Event, Fault, Guest, HasApplied, HaveApplied, Machine, Record, Reply, Running}
+use Rattle.ft_world.specs.Chaining.{First, Nothing}
 
 module _ {B H D S : Type 0} (state : B → S) (copied : B → Guest) (M : Machine S) (records : D → List Record)
     (failures : D → ℕ) (writes : S → ℕ → Bool) (stale : B → ℕ → Bool) where

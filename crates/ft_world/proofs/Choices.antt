@@ -5,18 +5,11 @@ use Rattle.std.proofs.Common.{◌≡◌, ◌∙◌, ◌+◌, Bool, true, false, 
 use Rattle.std.specs.Prelude.{nat_lt, map, filter, ◌==◌}
 use Rattle.std.proofs.lemmas.Bool.{eqb-false, eqb-true, ltb-false, ltb-true}
 use Rattle.std.proofs.lemmas.List.{append-nil, append_assoc, map-append}
-use Rattle.disk_dcdd.specs.Address.{address_of, same_address}
-use Rattle.disk_dcdd.specs.declared.address.SectorAddress.{SectorAddress}
-use Rattle.disk_dcdd.specs.declared.sector.SectorWrite.{SectorWrite}
-use Rattle.shared_disk.specs.Arrivals.{IsGreatest, record_of, written_at}
-use Rattle.shared_disk.specs.Records.{boot_record}
-use Rattle.shared_disk.specs.declared.store.Record.{Record}
+use Rattle.ft_world.proofs.Words.{IsGreatest, Record, SectorAddress, SectorWrite, accepted-one, accepted_after, address_of, boot_record, latest, record_after, record_of, same_address, terminal, written_at}
 use Rattle.shared_disk.proofs.Greatest.{first_is_greatest, greater_comes, no_greater_comes}
 use Rattle.terminals.specs.Arrivals.{Arrival, IsAccepted}
 use Rattle.terminals.proofs.Accepted.{drops_others, nothing_accepted, takes_next}
 use Rattle.pair_protocol.specs.World as protocol
-use Rattle.pair_protocol.specs.World.{accepted_after, latest, record_after, terminal}
-use Rattle.pair_protocol.proofs.Promises.OneMore.{accepted-one}
 use Rattle.ft_world.specs.Choices.{DisksKeepTheGreatest, TerminalsAcceptTheLongest, arrivals_of, kept_of}
 
 -- ---- terminals

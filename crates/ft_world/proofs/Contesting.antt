@@ -1,32 +1,13 @@
 -- A node asks the arbiter. If the node itself does not refuse, the world's answer is the arbiter's: the first node to
 -- ask for a generation has won it, a winner that asks again changes nothing, and any other node has lost, and is
 -- halted.
-use Rattle.guest_parts.specs.Guest.{Guest}
+use Rattle.ft_world.proofs.Words.{Accepts, Applies, AreHosts, Asking, Course, Fault, Guest, Host, Joining, Leaves, Lost, Machine, NeedsMemory, Node, NotWhole, Record, Refuses, Row, Running, Shows, Spare, SuspectsOf, Unknown, Unless, Won, World, WrongRole, after_asking, ask_refusal, at_node, fault_if, first_of, halts, is_other, is_role, machine_of, refusal, same_some, set_get, suspect_refusal, winner_in, winner_of, with_node, with_winner}
 use Rattle.std.proofs.Common.{◌≡◌, [], ◌∷◌, ◌∙◌, ◌⊎◌, Bool, Err, List, None, Ok, Some, ap, eq-eqb, false, inl, inr, ne_eqb, not, refl, subst, sym, true, ℕ}
 use Rattle.std.specs.Prelude.{if◌then◌else◌, Option, slice_get, slice_set}
-use Rattle.arbiter_core.specs.Winners.{after_asking, winner_of}
-use Rattle.arbiter_core.specs.declared.arbiter.Asking.{Asking}
-use Rattle.arbiter_core.specs.declared.arbiter.Won.{Won}
-use Rattle.guest_lockstep.specs.Machine.{Machine}
-use Rattle.i8080_words.specs.declared.refusal.Fault.{Fault}
-use Rattle.i8080_words.specs.declared.refusal.Fault.TheVariants.{Lost, NotWhole, Unknown, WrongRole}
-use Rattle.shared_disk.specs.declared.store.Record.{Record}
 use Rattle.pair_protocol.specs.Reply as protocol
-use Rattle.pair_protocol.specs.Node.{Joining, Node, Spare, halts, is_role}
-use Rattle.pair_protocol.specs.Refusals.{ask_refusal, at_node, fault_if, first_of, is_other, refusal, suspect_refusal}
-use Rattle.pair_protocol.specs.Row.{Accepts, Leaves, Refuses, Row, NeedsMemory}
-use Rattle.pair_protocol.specs.World.{World, winner_in, with_node, with_winner}
-use Rattle.pair_protocol.proofs.Traces.Lists.{same_some}
-use Rattle.pair_protocol.proofs.OneNode.{set_get}
-use Rattle.ft_node.specs.Calls.{SuspectsOf, Unless}
-use Rattle.ft_world.specs.Applies.{Applies, Shows}
 use Rattle.ft_world.proofs.AtHosts.{Asked, AsksHost}
-use Rattle.ft_world.specs.Running.{Running}
-use Rattle.ft_world.specs.Shows.{AreHosts}
-use Rattle.ft_world.specs.Standing.{Course, machine_of}
 use Rattle.pair_events.specs.declared.event.Event.TheVariants as event
 use Rattle.pair_events.specs.declared.reply.Reply.TheVariants as reply
-use Rattle.ft_world.specs.declared.host.Host.{Host}
 use Rattle.ft_world.proofs.AtOneNode.{second_of}
 use Rattle.ft_world.proofs.AtNodes.{with_hosts, with_one_host}
 use Rattle.ft_world.proofs.Applying.{applies, unchanged}

@@ -3,17 +3,9 @@ use Rattle.std.proofs.Common.{◌≡◌, ◌∙◌, ◌≢◌, ℕ, Bool, Err, L
 use Rattle.std.specs.Option.{option_and_then}
 use Rattle.std.specs.Prelude.{OnOk, Result, slice_get}
 use Rattle.std.proofs.lemmas.Bool.{cases_eq}
-use Rattle.guest_lockstep.specs.Machine.{Machine}
+use Rattle.ft_world.proofs.Words.{AreFreshened, HasJoined, Host, JoinsHosts, LowestAreCopied, Machine, Opening, PagesChange, PagesKeep, PagesStay, Station, WithStation, alone_at, alone_board, alone_on, get_set, get_set_other}
 use Rattle.ft_node.specs.Pages.{PagesGoOn, SamePages}
-use Rattle.ft_node.specs.Seats.{AreFreshened, PagesStay, alone_board}
-use Rattle.ft_world.specs.Freshened.{LowestAreCopied, PagesChange, PagesKeep, alone_at, alone_on}
-use Rattle.ft_world.specs.Lending.{WithStation}
-use Rattle.ft_world.specs.Opening.{HasJoined, JoinsHosts}
-use Rattle.ft_world.specs.declared.host.Host.{Host}
 use Rattle.ft_world.specs.declared.host.Host.TheVariants as host
-use Rattle.ft_world.specs.declared.opening.Opening.{Opening}
-use Rattle.ft_world.specs.declared.station.Station.{Station}
-use Rattle.pair_protocol.proofs.Traces.Lists.{get_set, get_set_other}
 use Rattle.ft_world.proofs.AtNodes.{set_cases}
 
 same_pages : {B : Type 0} (stale : B → ℕ → Bool) (o : Option B) → PagesGoOn stale (SamePages stale) o o

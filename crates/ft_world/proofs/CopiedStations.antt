@@ -1,26 +1,14 @@
 -- A node begins the next generation with the copy of its machine, and another one is given the parts: their stations keep
 -- the inputs and the count by which they settle.
-use Rattle.pair_protocol.specs.Copying.{Copying}
+use Rattle.ft_world.proofs.Words.{Again, Alone, Call, Comes, Completes, Copying, Fault, GotPart, IsNode, IsOpening, IsStation, Joining, Machine, Node, Opening, Opens, Station, begun, count_in, first-passed, gets_part, list_of}
 use Rattle.std.proofs.Common.{◌≡◌, ◌∙◌, ◌∷◌, [], ℕ, List, None, Ok, Option, Result, Some, ap, refl, subst, sym}
 use Rattle.clone_state.specs.Parts.{PartMessage}
-use Rattle.guest_lockstep.specs.Machine.{Machine}
-use Rattle.i8080_words.specs.declared.refusal.Fault.{Fault}
-use Rattle.pair_protocol.specs.Effects.{GotPart, Again, Comes, Completes}
 use Rattle.pair_protocol.specs.Reply as event
-use Rattle.pair_protocol.specs.Node.{Alone, Joining, Node, begun, gets_part}
 use Rattle.pair_protocol.specs.Refusals as refusals
-use Rattle.pair_protocol.specs.Settled.{list_of, count_in}
-use Rattle.pair_protocol.proofs.Passed.{first-passed}
 use Rattle.ft_node.specs.Calls as calls
-use Rattle.ft_node.specs.Calls.{Call}
-use Rattle.ft_node.specs.Seats.{IsNode}
 use Rattle.ft_node.specs.declared.node.Node as code
 use Rattle.ft_node.specs.declared.ran.NextGeneration.{NextGeneration}
 use Rattle.ft_node.specs.declared.ran.PartCame.{PartCame}
-use Rattle.ft_world.specs.Opening.{IsOpening, Opens}
-use Rattle.ft_world.specs.Shows.{IsStation}
-use Rattle.ft_world.specs.declared.opening.Opening.{Opening}
-use Rattle.ft_world.specs.declared.station.Station.{Station}
 use Rattle.ft_world.proofs.Answering.{Retells, retold, unless}
 use Rattle.ft_world.proofs.AtOneNode.{call_done}
 use Rattle.ft_world.proofs.Keeping.{Kept, acting_role, same_count}

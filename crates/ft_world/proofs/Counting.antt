@@ -2,10 +2,7 @@
 use Rattle.std.proofs.Common.{◌≡◌, ◌<◌, ◌+◌, ◌∷◌, ◌++◌, ◌∙◌, [], List, ap, arith, get_or, length, sym, take, ℕ}
 use Rattle.std.specs.Prelude.{Result}
 use Rattle.std.proofs.lemmas.List.{length-take-le, take_more}
-use Rattle.i8080_words.specs.declared.refusal.Fault.{Fault}
-use Rattle.ft_world.specs.Applies.{failures_over, failures_told}
-use Rattle.pair_events.specs.declared.event.Event.{Event}
-use Rattle.pair_events.specs.declared.reply.Reply.{Reply}
+use Rattle.ft_world.proofs.Words.{Event, Fault, Reply, failures_over, failures_told}
 
 one_more : (events : List Event) (answers : List (Result Reply Fault)) (e : Event) (answer : Result Reply Fault) →
     length answers ≡ length events →

@@ -1,26 +1,12 @@
 -- The disk's answers arrive at a node: a write is done, or a sector was read. The message brings the same as in the
 -- world that is shown, so the event is refused alike, as the node refuses the input.
-use Rattle.guest_parts.specs.Guest.{Guest}
+use Rattle.ft_world.proofs.Words.{Agree, Applies, Course, Guest, IsMessage, Machine, Message, Node, Record, Running, SectorRead, Shows, Unknown, at_fetched, at_sector_read, at_write_done, machine_of, read_address, same_some, sector_of, written_of}
 use Rattle.std.proofs.Common.{◌≡◌, ◌∙◌, Err, List, None, Some, ap, refl, ℕ}
 use Rattle.std.specs.Option.{option_and_then}
 use Rattle.std.specs.Prelude.{Option, slice_get}
-use Rattle.guest_lockstep.specs.Machine.{Machine}
-use Rattle.i8080_words.specs.declared.refusal.Fault.TheVariants.{Unknown}
-use Rattle.shared_disk.specs.declared.disk.SectorRead.{SectorRead}
-use Rattle.shared_disk.specs.declared.store.Record.{Record}
-use Rattle.pair_protocol.specs.Node.{Node}
-use Rattle.pair_protocol.specs.Refusals.{at_fetched, at_sector_read, at_write_done}
 use Rattle.pair_protocol.specs.World as world
-use Rattle.pair_protocol.proofs.Traces.Lists.{same_some}
-use Rattle.ft_world.specs.Applies.{Applies, Shows}
-use Rattle.ft_world.specs.Messages.{sector_of, written_of}
 use Rattle.ft_world.specs.Offers.{Offers}
-use Rattle.ft_world.specs.Running.{Running}
-use Rattle.ft_world.specs.Shows.{Agree}
-use Rattle.ft_world.specs.Standing.{Course, machine_of}
-use Rattle.ft_world.specs.Words.{IsMessage, read_address}
 use Rattle.pair_events.specs.declared.event.Event.TheVariants as event
-use Rattle.ft_world.specs.declared.message.Message.{Message}
 use Rattle.ft_world.specs.declared.message.Message.TheVariants as message
 use Rattle.ft_world.specs.declared.offer.Offer.TheVariants as offer
 use Rattle.ft_world.proofs.Applying.{refuses}

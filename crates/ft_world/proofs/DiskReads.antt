@@ -1,47 +1,18 @@
 -- A sector is read at the track of the selected drive's head, by a node that serves. Its machine was run from boot, so
 -- it is a sector of the disk; what is read is what the writes that arrived have left there.
-use Rattle.guest_parts.specs.Guest.{Guest}
+use Rattle.ft_world.proofs.Words.{Accepts, Alone, Applies, AreMessages, Course, DeviceFails, Does, Event, Fault, GetsSector, Guest, IsDisk, IsRead, IsUnder, Machine, MayNeedMemory, Message, NeedsMemory, Never, Node, NotDue, OfNode, Primary, Record, Reply, Row, Running, SectorAddress, SectorRead, Serving, Shows, ShowsSome, Spare, Unknown, World, WrongRole, acts_as, at_node, fault_if, faults_in, first-passed, first_of, get_refusal, has_sector, is_disk, is_on_disk, is_role, machine_of, no_sector, node-passed, read_of, record_at, refusal, reply_of, same_some, sector_record, serves, serving, with_read}
 use Rattle.std.proofs.Common.{◌≡◌, ◌<◌, ◌+◌, ◌≤◌, [], ◌∷◌, ◌∙◌, Bool, Err, List, None, Ok, Some, ap, arith, cond, false, inl, inr, ltb-true, not, refl, subst, sym, true, ℕ}
 use Rattle.std.specs.Option.{option_map}
 use Rattle.std.specs.Prelude.{IsTrue, Option, Result, is_none, length, nat_le, nat_lt, slice_get}
 use Rattle.std.proofs.lemmas.Bool.{and_parts, le-leb, lt-leb}
-use Rattle.disk_dcdd.specs.Address.{is_on_disk}
-use Rattle.disk_dcdd.specs.declared.address.SectorAddress.{SectorAddress}
 use Rattle.disk_dcdd.specs.declared.drive.TheConstants.{TRACKS}
 use Rattle.disk_dcdd.specs.declared.controller.TheConstants.{DRIVES}
 use Rattle.disk_dcdd.specs.declared.sector.TheConstants.{SECTORS}
-use Rattle.guest_lockstep.specs.Machine.{Machine}
-use Rattle.i8080_words.specs.declared.refusal.Fault.{Fault}
-use Rattle.i8080_words.specs.declared.refusal.Fault.TheVariants.{NotDue, Unknown, WrongRole}
-use Rattle.shared_disk.specs.Arrivals.{read_of}
-use Rattle.disk_dcdd.specs.Address.{has_sector}
-use Rattle.shared_disk.specs.Records.{faults_in, record_at}
-use Rattle.shared_disk.specs.declared.disk.SectorRead.{SectorRead}
-use Rattle.shared_disk.specs.declared.store.Record.{Record}
-use Rattle.pair_protocol.specs.Change.{Serving}
 use Rattle.pair_protocol.specs.Reply as protocol
-use Rattle.pair_protocol.specs.Node.{Alone, Node, Primary, Spare, acts_as, is_role}
-use Rattle.pair_protocol.specs.Refusals.{at_node, fault_if, first_of, no_sector, get_refusal, refusal, serves}
-use Rattle.pair_protocol.specs.Row.{Accepts, DeviceFails, NeedsMemory, Row}
-use Rattle.pair_protocol.specs.Effects.{IsUnder}
-use Rattle.pair_protocol.specs.Rows.{Does, is_disk, MayNeedMemory, OfNode}
 use Rattle.pair_protocol.specs.World as sent
-use Rattle.pair_protocol.specs.World.{World, sector_record, with_read}
-use Rattle.pair_protocol.proofs.Traces.Lists.{same_some}
-use Rattle.pair_protocol.proofs.Passed.{first-passed, node-passed, serving}
-use Rattle.ft_world.specs.Applies.{Applies, Shows, ShowsSome}
-use Rattle.ft_node.specs.Calls.{Never}
 use Rattle.ft_world.proofs.AtHosts.{AsksNode}
-use Rattle.ft_world.specs.Devices.{GetsSector}
-use Rattle.ft_world.specs.Running.{Running}
-use Rattle.ft_world.specs.Shows.{AreMessages, IsDisk}
-use Rattle.ft_world.specs.Standing.{Course, machine_of}
-use Rattle.ft_world.specs.Words.{IsRead, reply_of}
-use Rattle.pair_events.specs.declared.event.Event.{Event}
 use Rattle.pair_events.specs.declared.event.Event.TheVariants as event
-use Rattle.ft_world.specs.declared.message.Message.{Message}
 use Rattle.ft_world.specs.declared.message.Message.TheVariants as message
-use Rattle.pair_events.specs.declared.reply.Reply.{Reply}
 use Rattle.ft_world.proofs.Applying.{applies, refuses, stands, stands_not, unchanged}
 use Rattle.ft_world.proofs.AtDisk.{not_put}
 use Rattle.ft_world.proofs.AtOneNode.{asks_refused, node_asked, node_asked_not}

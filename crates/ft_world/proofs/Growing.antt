@@ -1,18 +1,10 @@
 -- What is settled before rows of events is a prefix of what is settled after them, since rows are actions.
 use Rattle.std.proofs.Common.{List}
 use Rattle.std.specs.Prelude.{map}
-use Rattle.guest_lockstep.specs.Machine.{Machine}
-use Rattle.pair_protocol.specs.Change.{Changes, Reached, Stays}
-use Rattle.pair_protocol.specs.Copying.{Copying, IsCopying}
+use Rattle.ft_world.proofs.Words.{Changes, Copying, Event, First, IsCopying, Lawful, Machine, Nothing, Reached, Rows, World, changes-append, changes_grow, row_changes}
+use Rattle.pair_protocol.specs.Change.{Stays}
 use Rattle.pair_protocol.specs.Reply as protocol
 use Rattle.pair_protocol.specs.Grows.{Grows}
-use Rattle.pair_protocol.specs.Lawful.{Lawful}
-use Rattle.pair_protocol.specs.World.{World}
-use Rattle.pair_protocol.proofs.Passed.{changes-append}
-use Rattle.pair_protocol.proofs.Promises.Growth.{changes_grow}
-use Rattle.pair_protocol.proofs.RowActions.{row_changes}
-use Rattle.ft_world.specs.Applies.{First, Nothing, Rows}
-use Rattle.pair_events.specs.declared.event.Event.{Event}
 
 -- rows are actions
 rows_changes : {S : Type 0} (M : Machine S) (C : Copying S) (w new : World S) (events : List Event)

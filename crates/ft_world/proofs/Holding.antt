@@ -1,19 +1,10 @@
 -- A station holds the next entry of the log: the input of the entry is appended to its inputs, and it settles up to the
 -- count of the entry.
-use Rattle.pair_protocol.specs.Copying.{Copying}
+use Rattle.ft_world.proofs.Words.{Backup, Copying, Entry, IsNode, IsStation, Machine, Makes, MayHold, Node, Station, count_in, holds, inputs_of, inputs_of-append, last_count, list_of, timed_in, timed_of}
 use Rattle.std.proofs.Common.{◌≡◌, ◌∙◌, [], ◌∷◌, ◌++◌, append-nil, append_assoc, List, ℕ, ap, refl, subst, sym}
-use Rattle.guest_lockstep.specs.Machine.{Machine}
-use Rattle.log_entry.specs.Entries.{count_of, inputs_of, last_count, timed_in, timed_of}
-use Rattle.log_entry.specs.declared.entry.Entry.{Entry}
-use Rattle.pair_protocol.specs.Node.{Node, Backup, holds}
-use Rattle.pair_protocol.specs.Settled.{list_of, count_in}
-use Rattle.pair_protocol.proofs.Traces.Moves.{inputs_of-append}
-use Rattle.ft_node.specs.Calls.{Makes}
-use Rattle.ft_node.specs.Seats.{IsNode, MayHold}
+use Rattle.log_entry.specs.Entries.{count_of}
 use Rattle.ft_node.specs.declared.node.Node as code
 use Rattle.ft_node.specs.declared.node.Node.TheVariants as seat
-use Rattle.ft_world.specs.Shows.{IsStation}
-use Rattle.ft_world.specs.declared.station.Station.{Station}
 
 last_count-append : (c : ℕ) (es : List Entry) (e : Entry) → last_count c (es ++ e ∷ []) ≡ count_of e
 last_count-append c [] e = refl

@@ -1,20 +1,9 @@
 -- A spare host is added: it has generation 0 and no role, so it is neither of the highest generation nor its backup.
-use Rattle.guest_parts.specs.Guest.{Guest}
+use Rattle.ft_world.proofs.Words.{After, Course, Guest, HostComes, IsHost, IsOnlyBackup, Machine, Node, Record, Running, Shows, ShowsSome, Then, changes_grow, highest, is_backup, machine_of, same_some, spare, with_host}
 use Rattle.std.proofs.Common.{◌≡◌, [], ◌∷◌, ◌++◌, ◌∙◌, Err, List, Ok, Some, ap, false, inl, inr, refl, subst, suc, sym, true, zero, ℕ}
 use Rattle.std.specs.Prelude.{max, OnErr, OnOk, Result, slice_get, ◌⊎◌}
-use Rattle.guest_lockstep.specs.Machine.{Machine}
-use Rattle.shared_disk.specs.declared.store.Record.{Record}
-use Rattle.pair_protocol.specs.Change.{After, HostComes, Stays, Then}
+use Rattle.pair_protocol.specs.Change.{Stays}
 use Rattle.pair_protocol.specs.Grows.{Grows}
-use Rattle.pair_protocol.specs.Node.{Node, spare}
-use Rattle.pair_protocol.specs.Settled.{highest, is_backup}
-use Rattle.pair_protocol.specs.World.{with_host}
-use Rattle.pair_protocol.proofs.Promises.Growth.{changes_grow}
-use Rattle.pair_protocol.proofs.Traces.Lists.{same_some}
-use Rattle.ft_world.specs.Applies.{Shows, ShowsSome}
-use Rattle.ft_world.specs.Running.{Running}
-use Rattle.ft_world.specs.Shows.{IsHost, IsOnlyBackup}
-use Rattle.ft_world.specs.Standing.{Course, machine_of}
 use Rattle.ft_world.specs.declared.host.Host.TheVariants as host
 use Rattle.ft_world.proofs.Agreeing.{agree-push}
 

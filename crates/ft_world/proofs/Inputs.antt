@@ -1,22 +1,10 @@
 -- A station takes an input: the input is appended to its inputs, at the count of its machine.
-use Rattle.pair_protocol.specs.Copying.{Copying}
+use Rattle.ft_world.proofs.Words.{Alone, Backup, Call, Copying, Draining, Ever, Fault, Input, IsNode, IsStation, Joining, Machine, Makes, MayAccept, Node, OutOfMemory, Primary, Role, Serving, Spare, Station, Took, board_of, timed, took}
 use Rattle.std.proofs.Common.{◌≡◌, ℕ, ◌∙◌, [], ◌∷◌, ◌++◌, Some, None, Result, Ok, Err, ap, inl, inr, refl, subst, sym}
 use Rattle.std.specs.Result.{IsErrAnd}
-use Rattle.guest_lockstep.specs.Machine.{Machine}
-use Rattle.guest_lockstep.specs.declared.input.Input.{Input}
-use Rattle.guest_lockstep.specs.Reach.{timed}
 use Rattle.guest_lockstep.specs.Recorded.{Counts}
-use Rattle.i8080_words.specs.declared.refusal.Fault.{Fault}
-use Rattle.i8080_words.specs.declared.refusal.Fault.TheVariants.{OutOfMemory}
-use Rattle.pair_protocol.specs.Change.{Serving}
-use Rattle.pair_protocol.specs.Effects.{Took, took}
-use Rattle.pair_protocol.specs.Node.{Node, Role, Primary, Backup, Joining, Draining, Alone, Spare}
-use Rattle.ft_node.specs.Calls.{Call, Ever, Makes}
-use Rattle.ft_node.specs.Seats.{IsNode, MayAccept, board_of}
 use Rattle.ft_node.specs.declared.node.Node as code
 use Rattle.ft_node.specs.declared.node.Node.TheVariants as seat
-use Rattle.ft_world.specs.Shows.{IsStation}
-use Rattle.ft_world.specs.declared.station.Station.{Station}
 use Rattle.ft_world.proofs.Keeping.{machine_count, own_inputs}
 
 -- a node that has taken an input

@@ -1,21 +1,11 @@
 -- What moves of a node keep: its role, its generation, and the lists and the count that it began with. So what it
 -- settles changes only with its machine and its own inputs.
 use Rattle.std.proofs.Common.{◌≡◌, ◌∙◌, [], ◌∷◌, ◌++◌, ℕ, Bool, List, true, false, None, Option, Some, ap, inl, inr, refl, subst, sym}
-use Rattle.event_callbacks.specs.declared.operations.Operation.{Operation}
-use Rattle.guest_lockstep.specs.Machine.{Machine}
-use Rattle.guest_lockstep.specs.declared.input.Input.{Input}
+use Rattle.ft_world.proofs.Words.{Advances, Alone, AtEnd, AwaitsBytes, Backup, Drained, Draining, Ends, Entry, Fetched, Goes, Halted, Heard, Held, Input, Joining, Machine, NoMemory, NoTurns, Node, NoneLeft, OneInput, OneMark, OneRead, OneStep, Operation, Primary, Replays, Role, Serving, Short, Spare, Took, Waits, World, acts-in, after_drain, count_in, inputs_of, is_backup, last_count, list_of, passes_input, passes_mark, passes_read, plainly_steps, role_refusal, serves, serving, stepped, took}
 use Rattle.guest_lockstep.specs.declared.replay_end.ReplayEnd.{ReplayEnd}
 use Rattle.guest_lockstep.specs.declared.replay_end.ReplayEnd.TheVariants.{Turns, End, Wait, Memory}
-use Rattle.log_entry.specs.Entries.{inputs_of, last_count}
-use Rattle.log_entry.specs.declared.entry.Entry.{Entry}
-use Rattle.pair_protocol.specs.Change.{Serving}
 use Rattle.guest_lockstep.specs.declared.running.StopReason.{StopReason}
-use Rattle.pair_protocol.specs.Node.{Node, Role, Primary, Backup, Joining, Draining, Alone, Spare, plainly_steps, passes_mark, passes_input, passes_read}
-use Rattle.pair_protocol.specs.Refusals.{serves, role_refusal}
-use Rattle.pair_protocol.specs.Effects.{Advances, Replays, NoneLeft, Ends, Waits, Short, Gives, Goes, NoTurns, AtEnd, AwaitsBytes, NoMemory, OneStep, OneMark, OneInput, OneRead, Took, Held, Heard, Drained, Fetched, Halted, after_drain, stepped, took}
-use Rattle.pair_protocol.specs.Settled.{is_backup, list_of, count_in}
-use Rattle.pair_protocol.specs.World.{World}
-use Rattle.pair_protocol.proofs.Passed.{acts-in, serving}
+use Rattle.pair_protocol.specs.Effects.{Gives}
 
 -- a node that keeps its role, its generation, and the lists and the count that it began with
 pub record Kept {S : Type 0} (x y : Node S) : Type 0 where

@@ -2,15 +2,8 @@
 use Rattle.std.proofs.Common.{◌≡◌, ◌<◌, ◌≤◌, ◌∙◌, ◌∷◌, [], Err, IsOk, List, MutBor, None, Ok, Result, Some, ap, get_or, length, refl, suc, sym, zero, ℕ}
 use Rattle.std.proofs.lemmas.Option.{slice_get_past, slice_get_read}
 use Rattle.std.specs.Prelude.{IfErr, IfOk, OnErr, map, slice_get, slice_set}
-use Rattle.i8080_words.specs.declared.refusal.Fault.{Fault}
-use Rattle.i8080_words.specs.declared.refusal.Fault.TheVariants.{Unknown}
-use Rattle.pair_protocol.proofs.Traces.Lists.{same_some}
-use Rattle.pair_protocol.proofs.OneNode.{set_get}
-use Rattle.ft_world.specs.Lending.{HasNoNode, IsSpare, WithStation}
-use Rattle.ft_world.specs.Staying.{SpareHostsStay, spare_of}
-use Rattle.ft_world.specs.declared.host.Host.{Host}
+use Rattle.ft_world.proofs.Words.{Fault, HasNoNode, Host, IsSpare, SpareHostsStay, Station, Unknown, WithStation, same_some, set_get, spare_of}
 use Rattle.ft_world.specs.declared.host.Host.TheVariants as host
-use Rattle.ft_world.specs.declared.station.Station.{Station}
 
 spares_set : {B H : Type 0} (hosts : List (Host B H)) (n : ℕ) (here new : Host B H) → slice_get hosts n ≡ Some here
     → spare_of new ≡ spare_of here → SpareHostsStay hosts (slice_set hosts n new)

@@ -1,3 +1,4 @@
+pub mod Words
 pub mod Answering
 pub mod Keeping
 pub mod Stations

@@ -1,38 +1,15 @@
 -- An alone node begins the next generation with a spare host: the row. What refuses it is said of hosts and of nodes alike.
 -- An alone node is of the highest generation, so the new one is higher than all, and its only backup is the host.
-use Rattle.guest_parts.specs.Guest.{Guest}
+use Rattle.ft_world.proofs.Words.{Accepts, Agree, Alone, Applies, AreHosts, Backup, Call, Copying, Course, Draining, Ever, Fault, Guest, HasJoined, Host, IsHost, IsOnlyBackup, IsStation, Joining, JoinsHosts, Machine, Node, Opening, Opens, Primary, Record, Role, Running, Shows, Spare, Station, Unknown, WithStation, WrongRole, at_host, at_node, begin_pair_refusal, begun, count_in, fault_if, first_of, get_set, get_set_other, highest, host_refusal, is_backup, is_role, joiner, keys, list_of, machine_of, nodes_stand, pair_refusal, with_pair}
 use Rattle.std.proofs.Common.{◌≡◌, ◌∙◌, ◌≤◌, [], ◌∷◌, ℕ, suc, Err, List, None, Ok, Option, Some, ap, append-nil, arith, false, inl, inr, not, refl, subst, sym, true}
 use Rattle.std.proofs.Math.Nat.{le_antisymm}
 use Rattle.std.specs.Prelude.{if◌then◌else◌, length, slice_get, slice_set}
-use Rattle.guest_lockstep.specs.Machine.{Machine}
-use Rattle.guest_lockstep.specs.Reach.{keys}
 use Rattle.guest_lockstep.specs.declared.timed.Timed.{Timed}
-use Rattle.pair_protocol.specs.Copying.{Copying}
-use Rattle.i8080_words.specs.declared.refusal.Fault.{Fault}
-use Rattle.i8080_words.specs.declared.refusal.Fault.TheVariants.{Unknown, WrongRole}
-use Rattle.shared_disk.specs.declared.store.Record.{Record}
 use Rattle.pair_protocol.specs.Reply as protocol
-use Rattle.pair_protocol.specs.Node.{Alone, Backup, Draining, Joining, Node, Primary, Role, Spare, begun, is_role, joiner}
-use Rattle.pair_protocol.specs.Refusals.{at_host, at_node, begin_pair_refusal, fault_if, first_of, pair_refusal}
-use Rattle.pair_protocol.specs.Row.{Accepts}
-use Rattle.pair_protocol.specs.Settled.{highest, is_backup, list_of, count_in}
-use Rattle.pair_protocol.specs.World.{with_pair}
 use Rattle.pair_protocol.proofs.Promises.Faithful.{alone_is_highest}
-use Rattle.pair_protocol.proofs.Promises.NodeStands.{nodes_stand}
 use Rattle.pair_protocol.proofs.Promises.Settling.{highest_ge, highest_le}
-use Rattle.pair_protocol.proofs.Traces.Lists.{get_set, get_set_other}
 use Rattle.ft_node.specs.Calls as calls
-use Rattle.ft_node.specs.Calls.{Call, Ever}
-use Rattle.ft_world.specs.Applies.{Applies, Shows}
-use Rattle.ft_world.specs.Lending.{WithStation}
-use Rattle.ft_world.specs.Opening.{HasJoined, JoinsHosts, Opens, host_refusal}
-use Rattle.ft_world.specs.Running.{Running}
-use Rattle.ft_world.specs.Shows.{Agree, AreHosts, IsHost, IsOnlyBackup, IsStation}
-use Rattle.ft_world.specs.Standing.{Course, machine_of}
-use Rattle.ft_world.specs.declared.host.Host.{Host}
 use Rattle.ft_world.specs.declared.host.Host.TheVariants as host
-use Rattle.ft_world.specs.declared.opening.Opening.{Opening}
-use Rattle.ft_world.specs.declared.station.Station.{Station}
 use Rattle.pair_events.specs.declared.event.Event.TheVariants as event
 use Rattle.pair_events.specs.declared.reply.Reply.TheVariants as reply
 use Rattle.ft_world.proofs.Agreeing.{agree-other}

@@ -1,17 +1,7 @@
 -- An event that leaves the disk as it was, and that changes nothing if it is refused.
-use Rattle.guest_parts.specs.Guest.{Guest}
+use Rattle.ft_world.proofs.Words.{Event, Fault, Guest, Happens, HasApplied, Machine, PagesAfter, Record, Reply, Running, SparesAfter, Stays, TellsStale, failures_told}
 use Rattle.std.proofs.Common.{◌≡◌, ℕ, ◌+◌, Bool, Err, List, Ok, Result, ap, arith, ◌∙◌, sym}
 use Rattle.std.specs.Prelude.{IfErr, OnErr}
-use Rattle.guest_lockstep.specs.Machine.{Machine}
-use Rattle.i8080_words.specs.declared.refusal.Fault.{Fault}
-use Rattle.pair_events.specs.declared.event.Event.{Event}
-use Rattle.pair_events.specs.declared.reply.Reply.{Reply}
-use Rattle.shared_disk.specs.declared.store.Record.{Record}
-use Rattle.ft_world.specs.Applies.{Happens, failures_told}
-use Rattle.ft_world.specs.Chaining.{HasApplied}
-use Rattle.ft_world.specs.Freshened.{PagesAfter, TellsStale}
-use Rattle.ft_world.specs.Running.{Running}
-use Rattle.ft_world.specs.Staying.{SparesAfter, Stays}
 
 -- no failure is counted
 not_counted : {D : Type 0} (failures : D → ℕ) (old new : D) → new ≡ old → failures new ≡ failures old + 0

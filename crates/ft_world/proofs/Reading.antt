@@ -2,12 +2,8 @@
 use Rattle.std.proofs.Common.{◌≡◌, ◌≤◌, ◌∙◌, List, ap, inl, inr, subst, sym, ℕ}
 use Rattle.std.proofs.lemmas.Bool.Decides.{leb_tells}
 use Rattle.std.proofs.lemmas.List.{get_or_past}
-use Rattle.event_callbacks.specs.declared.devices.TheConstants.{PORTS}
-use Rattle.terminals.specs.Screen.{Screen, blank}
+use Rattle.ft_world.proofs.Words.{AreTerminals, PORTS, Screen, accepted_after, accepted_in, blank, no_terminal, screen_in, terminal_in}
 use Rattle.pair_protocol.specs.World as world
-use Rattle.pair_protocol.specs.World.{accepted_after, accepted_in, no_terminal, terminal_in}
-use Rattle.ft_world.specs.Devices.{screen_in}
-use Rattle.ft_world.specs.Shows.{AreTerminals}
 use Rattle.ft_world.proofs.AtTerminals.{screen_is}
 
 pub accepted_is : (screens : List Screen) (ts : List world.Terminal) (port : ℕ) → AreTerminals screens ts →

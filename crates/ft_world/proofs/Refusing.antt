@@ -1,45 +1,16 @@
 -- What a refused event changes, if anything: a node that lost is halted, and a disk that failed keeps its records and may
 -- have counted the failure.
-use Rattle.pair_protocol.specs.Copying.{Copying}
-use Rattle.guest_parts.specs.Guest.{Guest}
+use Rattle.ft_world.proofs.Words.{Asking, Copying, DeviceFault, DiskFails, Except, Fault, GetsSector, Guest, Host, IsAt, IsHost, IsNode, IsStation, IsUnder, Joining, Lost, Machine, Message, Never, Node, NodeHalts, NotWhole, OutOfMemory, PutsWrite, Record, Reply, Running, SectorAddress, SectorWrite, ShowsSome, Station, Stays, Suspects, SuspectsOf, Unless, WithStation, Won, WrongRole, address_of, fault_if, first_of, get_refusal, halts, is_role, machine_of, winner_of, write_of}
 use Rattle.std.proofs.Common.{◌≡◌, ◌∷◌, ◌<◌, ◌∙◌, ◌≢◌, [], Bool, Err, List, None, Ok, Option, Result, Some, ap, false, inl, inr, not, refl, subst, sym, true, ℕ}
 use Rattle.std.specs.Prelude.{IfErr, slice_get, slice_set, ◌⊎◌}
 use Rattle.std.specs.Option.{option_and_then}
 use Rattle.std.specs.Result.{IsErrAnd}
-use Rattle.arbiter_core.specs.Winners.{winner_of}
-use Rattle.arbiter_core.specs.declared.arbiter.Asking.{Asking}
-use Rattle.arbiter_core.specs.declared.arbiter.Won.{Won}
-use Rattle.disk_dcdd.specs.Address.{address_of}
-use Rattle.disk_dcdd.specs.declared.address.SectorAddress.{SectorAddress}
-use Rattle.disk_dcdd.specs.declared.sector.SectorWrite.{SectorWrite}
 use Rattle.disk_dcdd.specs.declared.sector.TheConstants.{SECTORS}
-use Rattle.guest_lockstep.specs.Machine.{Machine}
-use Rattle.i8080_words.specs.declared.refusal.Fault.{Fault}
-use Rattle.i8080_words.specs.declared.refusal.Fault.TheVariants.{DeviceFault, Lost, NotWhole, OutOfMemory, WrongRole}
-use Rattle.shared_disk.specs.Records.{IsAt}
-use Rattle.shared_disk.specs.declared.store.Record.{Record}
-use Rattle.pair_protocol.specs.Node.{Joining, Node, halts, is_role}
-use Rattle.pair_protocol.specs.Refusals.{fault_if, first_of, get_refusal}
-use Rattle.ft_node.specs.Calls.{SuspectsOf, Suspects, Never, Unless}
 use Rattle.ft_node.specs.declared.halted.Halted.{Halted}
 use Rattle.ft_node.specs.declared.node.Node as code
 use Rattle.ft_node.specs.declared.node.Node.TheVariants as node
 use Rattle.pair_events.specs.declared.event.Event.TheVariants as event
-use Rattle.pair_events.specs.declared.reply.Reply.{Reply}
-use Rattle.ft_world.specs.Applies.{ShowsSome}
-use Rattle.ft_world.specs.Devices.{GetsSector, PutsWrite}
-use Rattle.pair_protocol.specs.Effects.{IsUnder}
-use Rattle.ft_world.specs.Lending.{WithStation}
-use Rattle.ft_world.specs.Messages.{write_of}
-use Rattle.ft_world.specs.Running.{Running}
-use Rattle.ft_node.specs.Seats.{IsNode}
-use Rattle.ft_world.specs.Shows.{IsHost, IsStation}
-use Rattle.ft_world.specs.Standing.{machine_of}
-use Rattle.ft_world.specs.Staying.{DiskFails, Except, NodeHalts, Stays}
-use Rattle.ft_world.specs.declared.host.Host.{Host}
 use Rattle.ft_world.specs.declared.host.Host.TheVariants as host
-use Rattle.ft_world.specs.declared.message.Message.{Message}
-use Rattle.ft_world.specs.declared.station.Station.{Station}
 use Rattle.ft_world.proofs.Agreeing.{agree-other}
 use Rattle.ft_world.proofs.AtDisk.{brings_write, not_put}
 use Rattle.ft_world.proofs.AtHosts.{AsksNode}

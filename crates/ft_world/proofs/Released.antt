@@ -2,24 +2,12 @@
 -- that was released goes to a sector of the disk.
 use Rattle.std.proofs.Common.{◌≡◌, [], ◌∷◌, ◌++◌, List, None, Some, inl, inr, refl, subst, sym, ℕ}
 use Rattle.std.specs.Prelude.{IsTrue, slice_get}
-use Rattle.disk_dcdd.specs.Address.{address_of}
-use Rattle.disk_dcdd.specs.declared.sector.SectorWrite.{SectorWrite}
+use Rattle.ft_world.proofs.Words.{Among, Copying, Do, IsMachine, Machine, Move, Operation, Reached, Reaches, Released, Runs, SectorWrite, Take, World, address_of, among-get, has_sector, operations, runs-append}
 use Rattle.event_callbacks.specs.Operations.{id_of}
-use Rattle.event_callbacks.specs.declared.operations.Operation.{Operation}
 use Rattle.event_callbacks.specs.declared.operations.Operation.TheVariants.{Write}
-use Rattle.guest_lockstep.specs.Machine.{Do, Machine, Move, Runs, Take}
-use Rattle.guest_lockstep.specs.Reach.{operations}
-use Rattle.disk_dcdd.specs.Address.{has_sector}
-use Rattle.pair_protocol.specs.Change.{Reached}
-use Rattle.pair_protocol.specs.Copying.{Copying}
-use Rattle.pair_protocol.specs.Lawful.{Among, Reaches}
-use Rattle.pair_protocol.specs.World.{Released, World}
-use Rattle.pair_protocol.proofs.Traces.Lists.{among-get}
-use Rattle.pair_protocol.proofs.Traces.Moves.{runs-append}
 use Rattle.pair_protocol.proofs.Promises.Outputs.{trace_runs}
 use Rattle.pair_protocol.proofs.Promises.Faithful.{reached}
 use Rattle.guest_lockstep.specs.Outstanding.{ComesAndGoes}
-use Rattle.ft_world.specs.Standing.{IsMachine}
 
 -- an operation was outstanding after some moves from boot
 pub record WasOutstanding {S : Type 0} (M : Machine S) (o : Operation) : Type 0 where

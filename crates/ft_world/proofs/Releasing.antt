@@ -1,41 +1,16 @@
 -- A node releases an operation to its device, and a terminal is told how many of its keys a node has covered. Each is
 -- refused if there is no such port, and then as the node refuses it. Neither changes a node: a release sends one more
 -- message, and a terminal keeps the greatest number that it was told, here and in the world.
-use Rattle.guest_parts.specs.Guest.{Guest}
+use Rattle.ft_world.proofs.Words.{Accepts, Applies, AreTerminals, Course, Fault, Guest, HasCovered, HasOutstanding, IsMessage, IsTerminal, Machine, Message, Never, Node, Operation, PORTS, Record, Releases, Reply, Running, Screen, Shows, Unknown, World, after_telling, answered, at_node, fault_if, first_of, keys_covered-booted, machine_of, no_device, no_port, no_such, operation_of, release_refusal, same_some, screen_in, terminal_in, told_refusal, with_told}
 use Rattle.std.proofs.Common.{◌≡◌, ◌<◌, ◌≤◌, [], ◌∷◌, ◌∙◌, Err, List, None, Ok, Some, ap, refl, subst, sym, ℕ}
 use Rattle.std.specs.Prelude.{Option, Result, length, max, nat_le, slice_get, slice_set}
-use Rattle.disk_dcdd.specs.Completion.{answered}
-use Rattle.event_callbacks.specs.declared.devices.TheConstants.{PORTS}
 use Rattle.event_callbacks.specs.declared.operations.OpId.{OpId}
 use Rattle.event_callbacks.specs.declared.operations.OpId.TheVariants as id
-use Rattle.event_callbacks.specs.declared.operations.Operation.{Operation}
 use Rattle.event_callbacks.specs.declared.operations.Operation.TheVariants as operation
-use Rattle.guest_lockstep.specs.Machine.{Machine}
-use Rattle.i8080_words.specs.declared.refusal.Fault.{Fault}
-use Rattle.i8080_words.specs.declared.refusal.Fault.TheVariants.{Unknown}
-use Rattle.shared_disk.specs.declared.store.Record.{Record}
-use Rattle.terminals.specs.Screen.{Screen, after_telling}
-use Rattle.pair_protocol.proofs.Booted.{keys_covered-booted}
-use Rattle.pair_protocol.specs.Effects.{HasCovered, HasOutstanding}
-use Rattle.pair_protocol.specs.Node.{Node}
-use Rattle.pair_protocol.specs.Refusals.{at_node, fault_if, first_of, no_such, no_port, release_refusal, told_refusal}
-use Rattle.pair_protocol.specs.Row.{Accepts}
 use Rattle.pair_protocol.specs.World as world
-use Rattle.pair_protocol.specs.World.{World, terminal_in, with_told}
-use Rattle.pair_protocol.proofs.Traces.Lists.{same_some}
-use Rattle.ft_world.specs.Applies.{Applies, Shows}
-use Rattle.ft_node.specs.Calls.{Never}
 use Rattle.ft_world.proofs.AtHosts.{AsksNode}
-use Rattle.ft_world.specs.Devices.{no_device, screen_in}
-use Rattle.ft_world.specs.Messages.{Releases, operation_of}
-use Rattle.ft_world.specs.Running.{Running}
-use Rattle.ft_world.specs.Shows.{AreTerminals, IsTerminal}
-use Rattle.ft_world.specs.Standing.{Course, machine_of}
-use Rattle.ft_world.specs.Words.{IsMessage}
 use Rattle.pair_events.specs.declared.event.Event.TheVariants as event
-use Rattle.pair_events.specs.declared.reply.Reply.{Reply}
 use Rattle.pair_events.specs.declared.reply.Reply.TheVariants as reply
-use Rattle.ft_world.specs.declared.message.Message.{Message}
 use Rattle.ft_world.specs.declared.message.Message.TheVariants as message
 use Rattle.ft_world.proofs.Applying.{applies, needs_memory, refuses}
 use Rattle.ft_world.proofs.AtOneNode.{asks_refused, elsewhere_of, first_stands, node_asked, second_of}

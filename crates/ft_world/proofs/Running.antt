@@ -1,25 +1,13 @@
 -- Events happen one after another: one more row after other rows makes rows again, by which what is settled grows, and
 -- the world after them is shown and faithful, as that row says. So a loop over events keeps the run of those that have
 -- happened.
-use Rattle.guest_parts.specs.Guest.{Guest}
+use Rattle.ft_world.proofs.Words.{Applies, Copying, Course, Event, Fault, First, Guest, Happens, Machine, Nothing, Record, Reply, Row, Rows, Running, Shows, ShowsSome, World, always_faithful, answer_of, machine_of}
 use Rattle.std.proofs.Common.{◌≡◌, ◌<◌, ◌+◌, ◌∷◌, ◌++◌, ◌∙◌, [], Err, List, Ok, ap, get_or, length, refl, subst, sym}
 use Rattle.std.proofs.Common.{take, ℕ}
 use Rattle.std.specs.Prelude.{IfOk, OnErr, Result, map}
 use Rattle.std.proofs.lemmas.List.{length-append, map-append, take_more}
-use Rattle.guest_lockstep.specs.Machine.{Machine}
-use Rattle.i8080_words.specs.declared.refusal.Fault.{Fault}
-use Rattle.shared_disk.specs.declared.store.Record.{Record}
-use Rattle.pair_protocol.specs.Copying.{Copying}
 use Rattle.pair_protocol.specs.Reply as protocol
-use Rattle.pair_protocol.specs.Row.{Row}
-use Rattle.pair_protocol.specs.World.{World}
-use Rattle.pair_protocol.proofs.Promises.Runs.{always_faithful}
-use Rattle.ft_world.specs.Applies.{Applies, First, Happens, Nothing, Rows, Runs, Shows, ShowsSome}
-use Rattle.ft_world.specs.Running.{Running}
-use Rattle.ft_world.specs.Standing.{Course, machine_of}
-use Rattle.ft_world.specs.Words.{answer_of}
-use Rattle.pair_events.specs.declared.event.Event.{Event}
-use Rattle.pair_events.specs.declared.reply.Reply.{Reply}
+use Rattle.ft_world.specs.Applies.{Runs}
 use Rattle.ft_world.proofs.Growing.{rows_grow}
 
 -- one more row at the end

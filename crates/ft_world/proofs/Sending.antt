@@ -1,38 +1,19 @@
 -- A message is sent: one more is appended, here and in the world that is shown. What a node is asked for is refused as
 -- its part says, or is what the node has.
-use Rattle.guest_parts.specs.Guest.{Guest}
+use Rattle.ft_world.proofs.Words.{Accepts, Applies, AreMessages, Course, Does, Event, Ever, Fault, Guest, IsMessage, IsSpelled, Machine, MayNeedMemory, Message, Node, Reads, Record, Reply, Running, Says, SendsEntry, Shows, ShowsParts, acknowledge_refusal, machine_of, refusal, replay_told, reply_of, reported_by, send_refusal, told_by, with_message}
 use Rattle.std.proofs.Common.{◌≡◌, ◌+◌, [], ◌∷◌, ◌++◌, ◌∙◌, Err, List, None, Ok, ap, length, refl, subst, sym, ℕ}
 use Rattle.std.specs.Prelude.{Result, unwrap_or}
 use Rattle.std.specs.Global.{Vec}
 use Rattle.std.proofs.lemmas.List.{length-append}
-use Rattle.guest_lockstep.specs.Machine.{Machine}
-use Rattle.guest_lockstep.specs.declared.reads.Reads.{Reads}
 use Rattle.guest_lockstep.specs.declared.reads.Reads.TheVariants.{Logged, Shared}
-use Rattle.i8080_words.specs.declared.refusal.Fault.{Fault}
-use Rattle.shared_disk.specs.declared.store.Record.{Record}
 use Rattle.log_channel.specs.declared.packet.Packet.TheVariants as packet
 use Rattle.log_channel.proofs.PacketLaws.{is_only}
 use Rattle.pair_protocol.specs.Reply as protocol
-use Rattle.pair_protocol.specs.Node.{Node, replay_told, told_by}
-use Rattle.pair_protocol.specs.Refusals.{acknowledge_refusal, refusal, send_refusal}
-use Rattle.pair_protocol.specs.Row.{Accepts}
-use Rattle.pair_protocol.specs.Rows.{Does, MayNeedMemory}
 use Rattle.pair_protocol.specs.World as sent
-use Rattle.pair_protocol.specs.World.{with_message}
-use Rattle.ft_node.specs.Calls.{Ever, IsSpelled, SendsEntry, reported_by}
-use Rattle.ft_world.specs.Applies.{Applies, Shows, ShowsParts}
 use Rattle.ft_world.proofs.AtHosts.{AsksNode}
 use Rattle.ft_world.proofs.AtOneNode.{asks_refused, node_asked}
-use Rattle.ft_world.specs.Messages.{Says}
-use Rattle.ft_world.specs.Running.{Running}
-use Rattle.ft_world.specs.Shows.{AreMessages}
-use Rattle.ft_world.specs.Standing.{Course, machine_of}
-use Rattle.ft_world.specs.Words.{IsMessage, reply_of}
-use Rattle.pair_events.specs.declared.event.Event.{Event}
 use Rattle.pair_events.specs.declared.event.Event.TheVariants as event
-use Rattle.ft_world.specs.declared.message.Message.{Message}
 use Rattle.ft_world.specs.declared.message.Message.TheVariants as message
-use Rattle.pair_events.specs.declared.reply.Reply.{Reply}
 use Rattle.ft_world.proofs.Agreeing.{agree-push}
 use Rattle.ft_world.proofs.Applying.{applies, needs_memory}
 

@@ -1,24 +1,10 @@
 -- The node that settles is the winner of the highest generation, or its backup if nobody has won; its host has the list
 -- and the count.
-use Rattle.pair_protocol.specs.Copying.{Copying}
-use Rattle.guest_parts.specs.Guest.{Guest}
+use Rattle.ft_world.proofs.Words.{Agree, Alone, Backup, Copying, Course, Draining, Guest, Host, IsHost, Joining, Machine, Node, Primary, Record, Role, Running, Settled, Settles, Shows, Spare, Station, always_faithful, count_in, list_of, machine_of, winner_in, winner_of}
 use Rattle.std.proofs.Common.{◌≡◌, ◌∙◌, List, None, Some, ap, inl, inr, refl, subst, sym, ℕ}
 use Rattle.std.specs.Prelude.{Option, slice_get, unwrap_or}
-use Rattle.arbiter_core.specs.Winners.{winner_of}
-use Rattle.guest_lockstep.specs.Machine.{Machine}
 use Rattle.guest_lockstep.specs.declared.timed.Timed.{Timed}
-use Rattle.shared_disk.specs.declared.store.Record.{Record}
-use Rattle.pair_protocol.specs.Node.{Alone, Backup, Draining, Joining, Node, Primary, Role, Spare}
-use Rattle.pair_protocol.specs.Settled.{Settled, Settles, count_in, list_of}
-use Rattle.pair_protocol.specs.World.{winner_in}
-use Rattle.pair_protocol.proofs.Promises.Runs.{always_faithful}
-use Rattle.ft_world.specs.Applies.{Shows}
-use Rattle.ft_world.specs.Running.{Running}
-use Rattle.ft_world.specs.Shows.{Agree, IsHost}
-use Rattle.ft_world.specs.Standing.{Course, machine_of}
-use Rattle.ft_world.specs.declared.host.Host.{Host}
 use Rattle.ft_world.specs.declared.host.Host.TheVariants as host
-use Rattle.ft_world.specs.declared.station.Station.{Station}
 
 count_same : {S : Type 0} (M : Machine S) (c : Course S) (x : Node S) (role : Role) →
     count_in (machine_of M c) x role ≡ count_in M x role

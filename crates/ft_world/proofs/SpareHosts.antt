@@ -4,21 +4,9 @@ use Rattle.std.proofs.lemmas.List.{length-map, length-set}
 use Rattle.std.specs.List.{insert, remove}
 use Rattle.std.specs.Option.{option_map}
 use Rattle.std.specs.Prelude.{length, map, slice_get, slice_set}
-use Rattle.i8080_words.specs.declared.refusal.Fault.{Fault}
-use Rattle.i8080_words.specs.declared.refusal.Fault.TheVariants.{Unknown, WrongRole}
-use Rattle.disk_dcdd.specs.Completion.{answered}
-use Rattle.guest_lockstep.specs.Machine.{Machine}
-use Rattle.ft_world.specs.Lending.{WithStation}
-use Rattle.ft_world.specs.Opening.{HasJoined, HasSpare, JoinsHosts, host_refusal}
-use Rattle.ft_world.specs.declared.opening.Opening.{Opening}
-use Rattle.pair_protocol.proofs.Traces.Lists.{get_set_other}
-use Rattle.ft_world.specs.Staying.{SpareHostsStay, SparesAfter, SparesLeft, spare_of}
-use Rattle.pair_events.specs.declared.event.Event.{Event}
+use Rattle.ft_world.proofs.Words.{Event, Fault, HasJoined, HasSpare, Host, JoinsHosts, Machine, Opening, Reply, SpareHostsStay, SparesAfter, SparesLeft, Station, Unknown, WithStation, WrongRole, answered, get_set_other, host_refusal, spare_of}
 use Rattle.pair_events.specs.declared.event.Event.TheVariants as event
-use Rattle.pair_events.specs.declared.reply.Reply.{Reply}
-use Rattle.ft_world.specs.declared.host.Host.{Host}
 use Rattle.ft_world.specs.declared.host.Host.TheVariants as host
-use Rattle.ft_world.specs.declared.station.Station.{Station}
 use Rattle.ft_world.proofs.AtNodes.{set_cases}
 
 -- a place that has something is within the list

@@ -1,27 +1,11 @@
 -- What the calls of the hosts require: a primary's machine was run from boot, so few of its operations are outstanding,
 -- wherever it goes. A machine that begins elsewhere runs alike.
-use Rattle.guest_parts.specs.Guest.{Guest}
+use Rattle.ft_world.proofs.Words.{AreOfOutstanding, Copying, Course, Do, Guest, IsCopying, IsHost, IsMachine, IsNode, Lawful, Machine, MayRun, Move, Node, Reached, Reaches, Record, Running, Runs, Serving, Shows, ShowsSome, Station, Take, World, machine_of, nodes_stand, runs-append}
 use Rattle.std.proofs.Common.{◌≡◌, ◌++◌, [], ◌∷◌, List, Some, inl, subst, ℕ}
 use Rattle.std.specs.Prelude.{slice_get}
-use Rattle.guest_lockstep.specs.Machine.{Do, Machine, Move, Runs, Take}
-use Rattle.shared_disk.specs.declared.store.Record.{Record}
-use Rattle.pair_protocol.specs.Change.{Reached, Serving}
-use Rattle.pair_protocol.specs.Copying.{Copying, IsCopying}
-use Rattle.pair_protocol.specs.Lawful.{Lawful, Reaches}
-use Rattle.pair_protocol.specs.Node.{Node}
-use Rattle.pair_protocol.specs.World.{World}
-use Rattle.pair_protocol.proofs.Traces.Moves.{runs-append}
 use Rattle.guest_lockstep.specs.Outstanding.{IsFrugal}
-use Rattle.ft_node.specs.Roles.{AreOfOutstanding}
-use Rattle.ft_node.specs.Seats.{IsNode, MayRun}
 use Rattle.ft_node.specs.declared.node.Node as code
 use Rattle.ft_node.specs.declared.node.Node.TheVariants as seat
-use Rattle.pair_protocol.proofs.Promises.NodeStands.{nodes_stand}
-use Rattle.ft_world.specs.Applies.{Shows, ShowsSome}
-use Rattle.ft_world.specs.Running.{Running}
-use Rattle.ft_world.specs.Shows.{IsHost}
-use Rattle.ft_world.specs.Standing.{Course, IsMachine, machine_of}
-use Rattle.ft_world.specs.declared.station.Station.{Station}
 use Rattle.ft_world.specs.declared.host.Host.TheVariants as host
 use Rattle.ft_world.proofs.Agreeing.{agree-other}
 

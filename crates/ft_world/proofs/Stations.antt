@@ -1,33 +1,18 @@
 -- A station's node moves, and its inputs and its count follow.
-use Rattle.pair_protocol.specs.Copying.{Copying}
+use Rattle.ft_world.proofs.Words.{Alone, Asking, Backup, Copying, Draining, Fault, Fetched, Halted, Heard, IsNode, IsStation, Joining, Machine, NeedsMoves, Node, Primary, Role, SectorAddress, Serving, Spare, Station, Won, after_drain, count_in, count_of, drained_count, halts, list_of, step-serves, winner_of, wins, won_role}
 use Rattle.std.proofs.Common.{◌≡◌, ◌∙◌, ℕ, List, Err, None, Ok, Option, Result, Some, ap, refl, subst, sym}
 use Rattle.std.specs.Prelude.{unwrap_or, ◌<◌}
 use Rattle.std.specs.Result.{IsErrAnd}
-use Rattle.arbiter_core.specs.Winners.{winner_of}
-use Rattle.arbiter_core.specs.declared.arbiter.Asking.{Asking}
-use Rattle.arbiter_core.specs.declared.arbiter.Won.{Won}
-use Rattle.disk_dcdd.specs.declared.address.SectorAddress.{SectorAddress}
-use Rattle.guest_lockstep.specs.Machine.{Machine}
 use Rattle.guest_lockstep.specs.declared.replay_end.ReplayEnd.{ReplayEnd}
 use Rattle.guest_lockstep.specs.declared.replay_end.ReplayEnd.TheVariants.{Turns, End, Wait, Memory}
-use Rattle.i8080_words.specs.declared.refusal.Fault.{Fault}
 use Rattle.log_channel.specs.declared.packet.Packet.{Packet}
 use Rattle.log_channel.specs.declared.packet.Packet.TheVariants.{Log, Ack}
 use Rattle.replayer.specs.declared.replayer.Replayed.{Replayed}
-use Rattle.pair_protocol.specs.Change.{Serving}
-use Rattle.pair_protocol.specs.Node.{Node, Role, Primary, Backup, Joining, Draining, Alone, Spare, halts, wins, won_role}
 use Rattle.pair_protocol.specs.Refusals as refusals
-use Rattle.pair_protocol.specs.Effects.{Fetched, Halted, Heard, NeedsMoves, after_drain}
-use Rattle.pair_protocol.specs.Settled.{list_of, count_in}
-use Rattle.pair_protocol.proofs.RowActions.{step-serves}
 use Rattle.ft_node.specs.Calls as calls
 use Rattle.ft_node.specs.declared.node.Node as code
 use Rattle.ft_node.specs.declared.ran.Drained.{Drained}
 use Rattle.ft_node.specs.declared.ran.Ran.{Ran}
-use Rattle.ft_node.specs.Roles.{count_of}
-use Rattle.ft_node.specs.Seats.{IsNode}
-use Rattle.ft_world.specs.Shows.{IsStation, drained_count}
-use Rattle.ft_world.specs.declared.station.Station.{Station}
 use Rattle.ft_world.proofs.Answering.{Retells, asked, given, handed_on, retold, unless}
 use Rattle.ft_world.proofs.Keeping.{Kept, kept_here, advances_keep, replays_keep, fetched_kept, heard_kept, halted_kept, same_list, same_count, serving_role, machine_count, acting_role, held_count, held_inputs}
 

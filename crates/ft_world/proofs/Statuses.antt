@@ -1,18 +1,10 @@
 -- What a station shows of its node is what the node of the world has at that number.
-use Rattle.pair_protocol.specs.Copying.{Copying}
+use Rattle.ft_world.proofs.Words.{AreHosts, Copying, Host, IsHost, IsNode, IsRole, IsStatusAt, Machine, Node, Station, count_of, same_some}
 use Rattle.std.proofs.Common.{◌≡◌, Err, IfOk, List, Ok, Result, Some, refl, subst, sym, ℕ}
 use Rattle.std.specs.Prelude.{slice_get}
 use Rattle.std.specs.Result.{result_ok}
-use Rattle.guest_lockstep.specs.Machine.{Machine}
-use Rattle.pair_protocol.specs.Node.{Node}
-use Rattle.pair_protocol.proofs.Traces.Lists.{same_some}
-use Rattle.ft_node.specs.Seats.{IsNode, IsRole}
-use Rattle.ft_node.specs.Roles.{count_of}
-use Rattle.ft_world.specs.Shows.{AreHosts, IsHost, IsStatusAt}
-use Rattle.ft_world.specs.declared.host.Host.{Host}
 use Rattle.ft_world.specs.declared.host.Host.TheVariants as host
 use Rattle.ft_world.specs.declared.hosts.NodeStatus.{NodeStatus}
-use Rattle.ft_world.specs.declared.station.Station.{Station}
 use Rattle.ft_world.proofs.Agreeing.{agree-other}
 
 -- what holds of the value that a call gives holds of the one that was found

@@ -1,22 +1,12 @@
 -- A whole node that asks has won, since nothing refuses it.
-use Rattle.guest_parts.specs.Guest.{Guest}
+use Rattle.ft_world.proofs.Words.{Event, Fault, Guest, Happens, Machine, OutOfMemory, Record, Reply, Running, answer_of, machine_of, reply_of}
 use Rattle.std.proofs.Common.{◌≡◌, Err, List, Ok, inl, inr, refl}
 use Rattle.std.specs.Prelude.{Result, ◌⊎◌}
-use Rattle.guest_lockstep.specs.Machine.{Machine}
-use Rattle.i8080_words.specs.declared.refusal.Fault.{Fault}
-use Rattle.i8080_words.specs.declared.refusal.Fault.TheVariants.{OutOfMemory}
-use Rattle.shared_disk.specs.declared.store.Record.{Record}
 use Rattle.pair_protocol.specs.Reply as protocol
 use Rattle.pair_protocol.proofs.Survival.{wins}
-use Rattle.pair_events.specs.declared.event.Event.{Event}
 use Rattle.pair_events.specs.declared.event.Event.TheVariants as event
-use Rattle.pair_events.specs.declared.reply.Reply.{Reply}
 use Rattle.pair_events.specs.declared.reply.Reply.TheVariants as reply
-use Rattle.ft_world.specs.Applies.{Happens}
-use Rattle.ft_world.specs.Running.{Running}
-use Rattle.ft_world.specs.Standing.{machine_of}
 use Rattle.ft_world.specs.Surviving.{HasWonOrLacksMemory, Survives}
-use Rattle.ft_world.specs.Words.{answer_of, reply_of}
 
 -- one reply alone says that a node has won
 won_alone : (r : Reply) → reply_of r ≡ protocol.Won → r ≡ reply.Won

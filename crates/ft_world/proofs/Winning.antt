@@ -3,21 +3,9 @@
 use Rattle.std.proofs.Common.{◌≡◌, [], ◌∷◌, ◌++◌, ◌∙◌, Bool, List, None, Some, ap, cond, eq-eqb, eqb-true, false, find, inl, inr, is_some, ne_eqb, refl, subst, sym, true, ℕ}
 use Rattle.std.specs.Prelude.{if◌then◌else◌, Option, slice_get, slice_set, ◌==◌}
 use Rattle.std.specs.Option.{option_map}
-use Rattle.arbiter_core.specs.Winners.{after_asking, winner_of}
-use Rattle.arbiter_core.specs.declared.arbiter.Asking.{Asking}
+use Rattle.ft_world.proofs.Words.{Alone, AreHosts, AreWinners, Asking, Backup, Course, Draining, Host, IsOnlyBackup, Joining, Machine, Node, Primary, Record, Role, Running, ShowsParts, Spare, Winner, after_asking, bool_cases, is_backup, winner_in, winner_of, wins, with_winner, won_role}
 use Rattle.arbiter_core.proofs.FirstAskers.{first_askers_win}
-use Rattle.guest_lockstep.specs.Machine.{Machine}
-use Rattle.shared_disk.specs.declared.store.Record.{Record}
-use Rattle.pair_protocol.specs.Node.{Alone, Backup, Draining, Joining, Node, Primary, Role, Spare, won_role, wins}
-use Rattle.pair_protocol.specs.Settled.{is_backup}
-use Rattle.pair_protocol.specs.World.{Winner, winner_in, with_winner}
 use Rattle.pair_protocol.proofs.Keeps.Arbiter.{winner-other, winner-push}
-use Rattle.pair_protocol.proofs.Traces.Lists.{bool_cases}
-use Rattle.ft_world.specs.Applies.{ShowsParts}
-use Rattle.ft_world.specs.Running.{Running}
-use Rattle.ft_world.specs.Shows.{AreHosts, AreWinners, IsOnlyBackup}
-use Rattle.ft_world.specs.Standing.{Course}
-use Rattle.ft_world.specs.declared.host.Host.{Host}
 use Rattle.ft_world.proofs.AtNodes.{highest_set, set_cases}
 
 asking_other : (askings : List Asking) (g n k : ℕ) → (k ≡ g → ⊥) →

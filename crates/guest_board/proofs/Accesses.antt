@@ -6,24 +6,12 @@ use Rattle.std.specs.List.{list_any}
 use Rattle.std.specs.Option.{option_map_or}
 use Rattle.std.proofs.lemmas.Bool.Decides.{nat_tests}
 use Rattle.std.proofs.lemmas.List.Folds.{list_any-append}
-use Rattle.i8080_words.specs.Effects.{Access, after_accesses}
+use Rattle.guest_board.proofs.Words.{Access, AreAwaited, GREATEST_NUMBER, IsThere, Operations, PORTS, Place, SectorWrite, Wired, after_access, after_accesses, after_byte, after_disk_data, after_out, after_serial_data, device_at, devices_after_in, id_of, is_outstanding, operation_at, place_of, port_of, with_disk, with_given, with_port, write_given}
 use Rattle.i8080_words.specs.Effects.Access.{Write, Input, Output}
 use Rattle.serial_2sio.specs.Port as serial
 use Rattle.disk_dcdd.specs.Drive as drives
-use Rattle.disk_dcdd.specs.Completion.{is_outstanding}
-use Rattle.disk_dcdd.specs.Sector.{place_of}
-use Rattle.i8080_words.specs.declared.limits.TheConstants.{GREATEST_NUMBER}
-use Rattle.disk_dcdd.specs.declared.sector.Place.{Place}
-use Rattle.disk_dcdd.specs.declared.sector.SectorWrite.{SectorWrite}
-use Rattle.event_callbacks.specs.declared.devices.TheConstants.{PORTS}
-use Rattle.event_callbacks.specs.Completions.{port_of}
-use Rattle.event_callbacks.specs.Operations.{Operations, operation_at, id_of}
 use Rattle.guest_board.specs.declared.ports.Device.{Device}
 use Rattle.guest_board.specs.declared.ports.Device.TheVariants.{SerialControl, SerialData, DiskSelect, DiskControl, DiskData, SenseSwitches, Nothing}
-use Rattle.guest_board.specs.Ports.{Wired, after_access, after_out, after_serial_data, after_byte, after_disk_data, write_given, devices_after_in, device_at, with_port, with_disk}
-use Rattle.guest_board.specs.Wiring.{IsThere}
-use Rattle.guest_board.specs.Guest.{with_given}
-use Rattle.guest_parts.specs.Board.{AreAwaited}
 use Rattle.guest_board.proofs.Awaited.{IsAlike, awaited-port, awaited-disk, awaited-sent, awaited-issued, byte_is_new, write_is_new}
 use Rattle.guest_board.proofs.Commands.{selects, shows, reads, commands, keeps, issues_next}
 

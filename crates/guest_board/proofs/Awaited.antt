@@ -11,20 +11,10 @@ use Rattle.std.proofs.lemmas.List.Folds.{list_any-append}
 use Rattle.std.proofs.lemmas.Map.Views.{any-filter_same}
 use Rattle.serial_2sio.specs.Port as serial
 use Rattle.disk_dcdd.specs.Drive as drives
-use Rattle.disk_dcdd.specs.Completion.{is_outstanding, after_written}
-use Rattle.disk_dcdd.specs.Sector.{place_of}
-use Rattle.disk_dcdd.specs.declared.sector.Place.{Place}
-use Rattle.disk_dcdd.specs.declared.sector.SectorWrite.{SectorWrite}
-use Rattle.event_callbacks.specs.declared.devices.Devices.{Devices}
-use Rattle.event_callbacks.specs.declared.devices.TheConstants.{PORTS}
+use Rattle.guest_board.proofs.Words.{AreAwaited, Devices, IsHeld, Operation, Operations, PORTS, Place, SectorWrite, after_written, at_boot, id_of, is_on_its_way, is_outstanding, operation_at, place_of, port_of, with_disk, with_operation, with_port, without_operation}
 use Rattle.event_callbacks.specs.declared.operations.OpId.TheVariants as id
-use Rattle.event_callbacks.specs.declared.operations.Operation.{Operation}
 use Rattle.event_callbacks.specs.declared.operations.Operation.TheVariants as operation
-use Rattle.event_callbacks.specs.Completions.{port_of, at_boot}
-use Rattle.event_callbacks.specs.Operations.{Operations, operation_at, with_operation, without_operation, id_of}
 use Rattle.event_callbacks.proofs.OperationMap.{operation_at-empty, operation_at-with, operation_at-with_other, operation_at-without, operation_at-without_other}
-use Rattle.guest_board.specs.Ports.{with_port, with_disk}
-use Rattle.guest_parts.specs.Board.{AreAwaited, IsHeld, is_on_its_way}
 use Rattle.guest_parts.proofs.Names.{no_operation, other_port, other_byte, other_write, no_write, no_byte, named-with, named-without}
 use Rattle.guest_board.proofs.OnTheirWay.{none_on_its_way, newest_is_new, newest, but_the_newest, oldest_leaves, but_the_oldest}
 

@@ -3,13 +3,10 @@ use Rattle.std.proofs.Common.{◌≡◌, ℕ, zero, suc, ◌*◌, ◌^◌, ◌<�
 use Rattle.std.specs.Prelude.{slice_index}
 use Rattle.std.proofs.lemmas.List.{length-replicate}
 use Rattle.disk_dcdd.specs.declared.address.TheConstants.{DRIVE_SECTORS}
-use Rattle.event_callbacks.specs.Completions.{at_boot}
-use Rattle.event_callbacks.specs.Operations.{nothing_outstanding}
+use Rattle.guest_board.proofs.Words.{Guest, IsBoard, at_boot, nothing_outstanding}
 use Rattle.guest_memory.specs.Pages.{zeros}
 use Rattle.guest_memory.proofs.NewMemory.{only_zeros}
 use Rattle.guest_memory.specs.declared.memory.TheConstants.{PAGES}
-use Rattle.guest_parts.specs.Guest.{Guest}
-use Rattle.guest_parts.specs.Board.{IsBoard}
 use Rattle.guest_board.proofs.Awaited.{awaited-boot}
 
 length-zeros : (n : ℕ) → length (zeros n) ≡ n

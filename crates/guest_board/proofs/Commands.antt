@@ -4,9 +4,8 @@ use Rattle.std.proofs.Common.{◌≡◌, ℕ, ◌+◌, Bool, true, false, cond, 
 use Rattle.std.specs.Prelude.{option_and_then}
 use Rattle.std.specs.Option.{option_map_or}
 use Rattle.disk_dcdd.specs.Drive as drives
-use Rattle.disk_dcdd.specs.Sector.{may_fill, with_byte_filled}
+use Rattle.guest_board.proofs.Words.{SectorWrite, may_fill, with_byte_filled}
 use Rattle.disk_dcdd.specs.declared.sector.CurrentSector.{CurrentSector}
-use Rattle.disk_dcdd.specs.declared.sector.SectorWrite.{SectorWrite}
 use Rattle.guest_board.proofs.Awaited.{IsAlike}
 
 pub itself : (d : drives.Drives) → IsAlike d d

@@ -1,18 +1,7 @@
 -- What a board's calls do to its guest is what the calls of a machine in lockstep do to it.
 use Rattle.std.proofs.Common.{◌≡◌, ◌≢◌, true, false, cond, ◌&&◌, ◌||◌, Option, Some, None, is_none, option_map, Result, Ok, Err, IfOk, refl, ap, subst, ◌∙◌, ⊎_elim}
-use Rattle.i8080_words.specs.Steps.{heard, unless_heard, idle, ran}
-use Rattle.i8080_words.specs.declared.registers.Stepped.{Stepped}
+use Rattle.guest_board.proofs.Words.{Executes, Fault, Guest, Idle, IsAnswer, OpId, Operation, OutOfMemory, Spent, Stepped, Steps, StepsUnless, answer_by, by_name, exec_answer, guest_after, heard, idle, is_idle, is_spent, line_of, memory_byte, name_by, named, next, port_byte, ran, some_altair, step_from, step_of, unless_heard, wired, wired_after}
 use Rattle.i8080_words.specs.declared.registers.Stepped.TheVariants as kinds
-use Rattle.i8080_words.specs.declared.refusal.Fault.{Fault}
-use Rattle.i8080_words.specs.declared.refusal.Fault.TheVariants.{OutOfMemory, Spent, Idle}
-use Rattle.event_callbacks.specs.declared.operations.OpId.{OpId}
-use Rattle.event_callbacks.specs.declared.operations.Operation.{Operation}
-use Rattle.guest_board.specs.Ports.{memory_byte, port_byte}
-use Rattle.guest_parts.specs.Guest.{Guest}
-use Rattle.guest_board.specs.Guest.{step_of, wired, wired_after, line_of, is_idle, is_spent, step_from, next}
-use Rattle.guest_board.specs.Stepping.{IsAnswer, exec_answer, answer_by, by_name, name_by, guest_after}
-use Rattle.guest_lockstep.specs.Lockstep.{Executes, Steps, StepsUnless, named}
-use Rattle.guest_board.specs.Inputs.{some_altair}
 use Rattle.guest_board.specs.declared.executed.Step.{Step}
 
 -- a guest that does not idle executes a step

@@ -7,24 +7,13 @@ use Rattle.std.proofs.lemmas.Bool.Decides.{eqb_tells, nat_tests}
 use Rattle.std.proofs.lemmas.Grind.{common_steps}
 use Rattle.std.proofs.lemmas.List.{length-set}
 use Rattle.serial_2sio.specs.Port as serial
-use Rattle.i8080_words.specs.declared.refusal.Fault.TheVariants.{NotDue}
+use Rattle.guest_board.proofs.Words.{AreAwaited, AreCompleted, AreInRange, Devices, GREATEST_NUMBER, Guest, IsBoard, NotDue, Operation, Operations, Outstanding, PORTS, Place, SectorWrite, after_complete, after_rx, done_of, due_byte, id_of, is_due, is_on_its_way, oldest_byte, operation_at, port_of, with_completed, without_operation}
 use Rattle.disk_dcdd.specs.Drive as drives
 use Rattle.disk_dcdd.specs.Completion as completion
 use Rattle.disk_dcdd.specs.Address.{address_of, index_of}
-use Rattle.i8080_words.specs.declared.limits.TheConstants.{GREATEST_NUMBER}
-use Rattle.disk_dcdd.specs.declared.sector.Place.{Place}
-use Rattle.disk_dcdd.specs.declared.sector.SectorWrite.{SectorWrite}
-use Rattle.event_callbacks.specs.declared.devices.TheConstants.{PORTS}
-use Rattle.event_callbacks.specs.declared.devices.Devices.{Devices}
 use Rattle.event_callbacks.specs.declared.devices.Done.TheVariants as done
 use Rattle.event_callbacks.specs.declared.operations.OpId.TheVariants as id
-use Rattle.event_callbacks.specs.declared.operations.Operation.{Operation}
 use Rattle.event_callbacks.specs.declared.operations.Operation.TheVariants as operation
-use Rattle.event_callbacks.specs.Completions.{port_of, is_due, done_of}
-use Rattle.event_callbacks.specs.Operations.{Operations, Outstanding, after_complete, operation_at, without_operation, id_of}
-use Rattle.guest_parts.specs.Guest.{Guest}
-use Rattle.guest_board.specs.Guest.{after_rx, due_byte, oldest_byte, with_completed}
-use Rattle.guest_parts.specs.Board.{AreAwaited, AreInRange, AreCompleted, IsBoard, is_on_its_way}
 use Rattle.guest_board.proofs.OnTheirWay.{oldest}
 use Rattle.guest_board.proofs.Awaited.{awaited-port, awaited-disk, awaited-accepted, awaited-written, none_past, any_gone}
 use Rattle.guest_board.proofs.Accesses.{in_range-set}

@@ -5,16 +5,9 @@ use Rattle.std.specs.Prelude.{is_some}
 use Rattle.std.specs.List.{list_any}
 use Rattle.std.proofs.lemmas.Bool.Decides.{nat_tests}
 use Rattle.std.proofs.lemmas.List.Elements.{All-tail}
-use Rattle.disk_dcdd.specs.Completion.{answered}
+use Rattle.guest_board.proofs.Words.{AreAwaited, Devices, Fault, GREATEST_NUMBER, Operations, Place, answered, operation_at, unless_due}
 use Rattle.disk_dcdd.specs.Controller.{IsDrives, IsIssued}
-use Rattle.i8080_words.specs.declared.limits.TheConstants.{GREATEST_NUMBER}
-use Rattle.disk_dcdd.specs.declared.sector.Place.{Place}
-use Rattle.event_callbacks.specs.Operations.{Operations, operation_at}
-use Rattle.event_callbacks.specs.declared.devices.Devices.{Devices}
 use Rattle.event_callbacks.specs.declared.operations.OpId.TheVariants as id
-use Rattle.i8080_words.specs.declared.refusal.Fault.{Fault}
-use Rattle.guest_parts.specs.Board.{AreAwaited}
-use Rattle.guest_board.specs.Inputs.{unless_due}
 
 number_of_place : (places : List Place) (attached issued number : ℕ) → All (IsIssued attached issued) places
     → list_any (λ place. place.number == number) places ≡ true → (0 < number) × (number ≤ issued)

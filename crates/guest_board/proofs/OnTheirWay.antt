@@ -2,7 +2,7 @@
 -- accepted was the oldest.
 use Rattle.std.proofs.Common.{◌≡◌, ◌≢◌, ℕ, ◌+◌, ◌-◌, ◌≤◌, true, false, arith}
 use Rattle.std.proofs.lemmas.Bool.Decides.{nat_tests}
-use Rattle.guest_parts.specs.Board.{is_on_its_way}
+use Rattle.guest_board.proofs.Words.{is_on_its_way}
 
 pub none_on_its_way : (number : ℕ) → is_on_its_way 0 0 number ≡ false
 none_on_its_way number = grind (arith, nat_tests)

@@ -2,15 +2,7 @@
 -- number and no room is used: that holds after a step that gives nothing, and after an input.
 use Rattle.std.proofs.Common.{◌≡◌, ◌+◌, ◌≤◌, ℕ, true, false, cond, List, None, Some, refl, sym, ap, ◌∙◌, arith, is_some}
 use Rattle.std.specs.Prelude.{IfSome, IfNone}
-use Rattle.i8080_words.specs.declared.registers.Processor.{Processor}
-use Rattle.i8080_words.specs.declared.registers.Stepped.{Stepped}
-use Rattle.event_callbacks.specs.declared.operations.OpId.{OpId}
-use Rattle.event_callbacks.specs.Operations.{Outstanding, after_complete, operation_at, without_operation}
-use Rattle.guest_board.specs.Ports.{Wired}
-use Rattle.guest_board.specs.Wiring.{Versioned}
-use Rattle.guest_parts.specs.Guest.{Guest}
-use Rattle.guest_board.specs.Guest.{wired, wired_after}
-use Rattle.guest_parts.specs.Board.{IsBoard}
+use Rattle.guest_board.proofs.Words.{Guest, IsBoard, OpId, Outstanding, Processor, Stepped, Versioned, Wired, after_complete, operation_at, wired, wired_after, without_operation}
 use Rattle.guest_board.specs.Board.{IsReadyUntil}
 use Rattle.guest_board.proofs.Accesses.{IsNumberedAs}
 use Rattle.guest_board.proofs.Steps.{IsStep, wired_fits}

@@ -1,6 +1,5 @@
 use Rattle.std.proofs.Common.{◌≡◌, ◌++◌, take}
-use Rattle.clone_state.specs.Codec.{spell_each}
-use Rattle.clone_state.specs.Codec.{number}
+use Rattle.clone_state.proofs.Words.{number, spell_each}
 use Rattle.clone_state.proofs.spelling.write_numbers.Given as goal
 
 abbrev pub invariant-loop-number : goal.invariant-loop-number

@@ -1,6 +1,5 @@
 use Rattle.std.proofs.Common.{◌≡◌, ◌++◌, take}
-use Rattle.clone_state.specs.Codec.{spell_each}
-use Rattle.clone_state.specs.FirstPart.{write}
+use Rattle.clone_state.proofs.Words.{spell_each, write}
 use Rattle.clone_state.proofs.spelling.write_writes.Given as goal
 
 abbrev pub invariant-loop-write : goal.invariant-loop-write

@@ -1,5 +1,5 @@
 use Rattle.std.proofs.Common.{◌≡◌, take}
-use Rattle.clone_state.specs.Slots.{numbers_in}
+use Rattle.clone_state.proofs.Words.{numbers_in}
 use Rattle.clone_state.proofs.assembly.building.completed_of.Given as goal
 
 abbrev pub invariant-loop-slot : goal.invariant-loop-slot

@@ -1,5 +1,5 @@
 use Rattle.std.proofs.Common.{◌≡◌, take}
-use Rattle.clone_state.specs.Slots.{bytes_in}
+use Rattle.clone_state.proofs.Words.{bytes_in}
 use Rattle.clone_state.proofs.assembly.building.memory_of.Given as goal
 
 abbrev pub invariant-loop-slot : goal.invariant-loop-slot

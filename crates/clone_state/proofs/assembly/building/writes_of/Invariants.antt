@@ -1,5 +1,5 @@
 use Rattle.std.proofs.Common.{◌≡◌, take}
-use Rattle.clone_state.specs.Reading.{writes_in}
+use Rattle.clone_state.proofs.Words.{writes_in}
 use Rattle.clone_state.proofs.assembly.building.writes_of.Given as goal
 
 abbrev pub invariant-loop-one : goal.invariant-loop-one

@@ -1,8 +1,6 @@
 use Rattle.std.proofs.Common.{◌≡◌, ◌-◌}
 use Rattle.arrayvec.specs.ArrayVec.{array_vec_len}
-use Rattle.clone_state.specs.Codec.{read_each}
-use Rattle.clone_state.specs.FirstPart.{write}
-use Rattle.clone_state.specs.Reading.{writes_in}
+use Rattle.clone_state.proofs.Words.{read_each, write, writes_in}
 use Rattle.clone_state.proofs.Collecting.{collected}
 use Rattle.clone_state.proofs.reading.controller.each_write_at.Given as goal
 

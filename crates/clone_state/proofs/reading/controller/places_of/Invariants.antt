@@ -1,7 +1,6 @@
 use Rattle.std.proofs.Common.{◌≡◌, map, take}
 use Rattle.arrayvec.specs.ArrayVec.{array_vec_len}
-use Rattle.disk_dcdd.specs.Sector.{place_of}
-use Rattle.clone_state.specs.Reading.{writes_in}
+use Rattle.clone_state.proofs.Words.{place_of, writes_in}
 use Rattle.clone_state.proofs.reading.controller.places_of.Given as goal
 
 abbrev pub invariant-loop-outstanding : goal.invariant-loop-outstanding

@@ -1,6 +1,5 @@
 use Rattle.std.proofs.Common.{◌≡◌, ◌-◌, length, take}
-use Rattle.clone_state.specs.Codec.{number}
-use Rattle.clone_state.specs.Parts.{table}
+use Rattle.clone_state.proofs.Words.{number, table}
 use Rattle.clone_state.proofs.Collecting.{collected}
 use Rattle.clone_state.proofs.reading.table.table_of.Given as goal
 

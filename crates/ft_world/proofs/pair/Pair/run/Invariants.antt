@@ -1,11 +1,9 @@
 -- The events so far have happened, each with its answer, and there is room for the answers to those that are left.
 use Rattle.std.proofs.Common.{◌≡◌, ◌+◌, ◌≤◌, length, take}
 use Rattle.std.specs.Prelude.{vec_capacity, vec_len}
-use Rattle.ft_world.specs.Applies.{Runs, Shows, ShowsSome, failures_over}
-use Rattle.ft_world.specs.Chaining.{HaveApplied}
+use Rattle.ft_world.proofs.Words.{Course, HaveApplied, Shows, ShowsSome, SparesLeft, failures_over}
+use Rattle.ft_world.specs.Applies.{Runs}
 use Rattle.ft_world.specs.Pairs.{running_of}
-use Rattle.ft_world.specs.Standing.{Course}
-use Rattle.ft_world.specs.Staying.{SparesLeft}
 use Rattle.ft_world.proofs.pair.Pair.run.Given as goal
 
 abbrev pub invariant-loop-event : goal.invariant-loop-event
