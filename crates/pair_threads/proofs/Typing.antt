@@ -48,13 +48,6 @@ typed_key typed all old new key hears is = record { same = hears.same; more = fo
 pub notes_same : (p : PortInputs) → Notes p p
 notes_same p = record { heard = typed_same (typed_with p); taken = refl; accepted = refl }
 
-notes_on : (p q r : PortInputs) → Notes p q → Notes q r → Notes p r
-notes_on p q r a b = record {
-  heard = typed_on (typed_with p) (typed_with q) (typed_with r) a.heard b.heard;
-  taken = b.taken ∙ a.taken;
-  accepted = b.accepted ∙ a.accepted;
-}
-
 pub listened_same : {B : Type 0} (w : PrimaryWorker B) → HasListened w w
 listened_same w = record {
   port0 = notes_same w.port0;
@@ -67,20 +60,6 @@ listened_same w = record {
   tracks = (refl, refl);
   turn = (refl, refl, refl);
   pace = (refl, refl);
-}
-
-pub listened_on : {B : Type 0} (v w x : PrimaryWorker B) → HasListened v w → HasListened w x → HasListened v x
-listened_on v w x a b = record {
-  port0 = notes_on v.port0 w.port0 x.port0 a.port0 b.port0;
-  port1 = notes_on v.port1 w.port1 x.port1 a.port1 b.port1;
-  work = (b.work.0 ∙ a.work.0, b.work.1 ∙ a.work.1, b.work.2 ∙ a.work.2, b.work.3 ∙ a.work.3);
-  seen = (b.seen.0 ∙ a.seen.0, b.seen.1 ∙ a.seen.1, b.seen.2 ∙ a.seen.2);
-  log = (b.log.0 ∙ a.log.0, b.log.1 ∙ a.log.1, b.log.2 ∙ a.log.2);
-  emitted = (b.emitted.0 ∙ a.emitted.0, b.emitted.1 ∙ a.emitted.1);
-  disk = (b.disk.0 ∙ a.disk.0, b.disk.1 ∙ a.disk.1, b.disk.2 ∙ a.disk.2);
-  tracks = (b.tracks.0 ∙ a.tracks.0, b.tracks.1 ∙ a.tracks.1);
-  turn = (b.turn.0 ∙ a.turn.0, b.turn.1 ∙ a.turn.1, b.turn.2 ∙ a.turn.2);
-  pace = (b.pace.0 ∙ a.pace.0, b.pace.1 ∙ a.pace.1);
 }
 
 -- what a port began with was typed before, and comes from the keyboard of the lines

@@ -29,7 +29,7 @@ use Rattle.pair_rule.specs.Seats.{Empties, Fills, Seat}
 use Rattle.pair_rule.specs.Shown.{IsAcknowledged}
 use Rattle.pair_threads.specs.Asking.{HasAsked}
 use Rattle.pair_threads.specs.Leading.{AreAnswers, IdlesIf, IsLeading, Leads, Says, by_port, with_waiting}
-use Rattle.pair_threads.specs.Primary.{CallsKept, MayAsk, WorkerKeeps, WorkerLeads, Works, keys_taken}
+use Rattle.pair_threads.specs.Primary.{CallsKept, MayAsk, WorkerKeeps, WorkerLeads, Works, keys_by, keys_taken, told_by}
 use Rattle.pair_threads.specs.Typing.{HasHeard, HasListened, IsTyped, Notes, typed_with}
 use Rattle.pair_threads.specs.declared.port_inputs.PortInputs.{PortInputs}
 use Rattle.pair_threads.proofs.Typing.{calls_more, typed_on}
@@ -157,11 +157,8 @@ module _ {B S : Type 0} (state : B → S) (M : Machine S) (boot : S) (view : Pri
     subst (λ l. Says (with_waiting l guest.waiting) taken accepted) (sym list) leads.2,
   )
 
-  pub counts_at0 : (n : ℕ) → IsLeading state M boot (record view { counted0 = n }) taken accepted guest
-  counts_at0 n = same_leads (record view { counted0 = n }) refl refl refl refl
-
-  pub counts_at1 : (n : ℕ) → IsLeading state M boot (record view { counted1 = n }) taken accepted guest
-  counts_at1 n = same_leads (record view { counted1 = n }) refl refl refl refl
+  pub counts_at : (n m : ℕ) → IsLeading state M boot (record view { counted0 = n; counted1 = m }) taken accepted guest
+  counts_at n m = same_leads (record view { counted0 = n; counted1 = m }) refl refl refl refl
 
   pub asks_disk : (n : ℕ) → IsLeading state M boot (record view { asked = n }) taken accepted guest
   asks_disk n = same_leads (record view { asked = n }) refl refl refl refl
@@ -177,8 +174,7 @@ WorksAt {B} {S} state M old seat =
     (seat.table ≡ old.seat.table) × (seat.core.known.primary.winner ≡ old.seat.core.known.primary.winner)
     × (old.plan ≡ old.plan) × (typed_with old.port0 ≡ typed_with old.port0) × (typed_with old.port1 ≡ typed_with old.port1)
     × ((boot : S) → WorkerLeads state M boot old → IsLeading state M boot seat.core.known.primary
-    (by_port (keys_taken old.port0) (keys_taken old.port1) []) (by_port old.port0.accepted old.port1.accepted 0)
-    old.guest)
+    (keys_by old) (told_by old) old.guest)
     × ((boot : S) → WorkerLeads state M boot old → WorkerKeeps M boot old → CallsKept M boot old.port0.typed.items old.port1.typed.items seat.core.known.primary.calls)
 
 module _ {B S : Type 0} (state : B → S) (M : Machine S) (old : PrimaryWorker B) (seat : Seat) (sight : PrimaryView) where
@@ -197,10 +193,8 @@ module _ {B S : Type 0} (state : B → S) (M : Machine S) (old : PrimaryWorker B
     refl,
     refl,
     refl,
-    λ boot leads. subst (λ v. IsLeading state M boot v (by_port (keys_taken old.port0) (keys_taken old.port1) [])
-        (by_port old.port0.accepted old.port1.accepted 0) old.guest) (sym view)
-        (turn boot (by_port (keys_taken old.port0) (keys_taken old.port1) [])
-        (by_port old.port0.accepted old.port1.accepted 0) leads),
+    λ boot leads. subst (λ v. IsLeading state M boot v (keys_by old) (told_by old) old.guest) (sym view)
+        (turn boot (keys_by old) (told_by old) leads),
     λ boot leads kept. subst (λ (v : PrimaryView). CallsKept M boot old.port0.typed.items old.port1.typed.items v.calls)
         (sym view) (keeps boot leads kept),
   )
@@ -241,8 +235,7 @@ module _ {B S : Type 0} (state : B → S) (M : Machine S) (counts : Counts M) (o
             (state old.guest.board) old.port0.typed.items old.port1.typed.items e
             (leads_there M boot sectors boot (view.list ++ e ∷ []) old.guest.given.items view (state old.guest.board) leads)
             old.port0.taken old.port1.taken old.port0.accepted old.port1.accepted
-            (subst (λ l. Says l (by_port (keys_taken old.port0) (keys_taken old.port1) [])
-            (by_port old.port0.accepted old.port1.accepted 0)) all leading.2)
+            (subst (λ l. Says l (keys_by old) (told_by old)) all leading.2)
             (let a = old.accepted.0 in let b = old.saw_counted.0 in omega (arith, a, b))
             (let a = old.accepted.1 in let b = old.saw_counted.1 in omega (arith, a, b)),
         kept zero_at sectors,
@@ -258,8 +251,7 @@ module _ {B S : Type 0} (state : B → S) (M : Machine S) (counts : Counts M) (o
   pub appends : (seat.table ≡ old.seat.table) × (seat.core.known.primary.winner ≡ old.seat.core.known.primary.winner)
       × (old.plan ≡ old.plan) × (typed_with old.port0 ≡ typed_with old.port0) × (typed_with old.port1 ≡ typed_with old.port1)
       × ((boot : S) → WorkerLeads state M boot old → IsLeading state M boot seat.core.known.primary
-      (by_port (keys_taken old.port0) (keys_taken old.port1) []) (by_port old.port0.accepted old.port1.accepted 0)
-      after)
+      (keys_by old) (told_by old) after)
       × ((boot : S) → WorkerLeads state M boot old → WorkerKeeps M boot old
       → CallsKept M boot old.port0.typed.items old.port1.typed.items seat.core.known.primary.calls)
   appends = (
@@ -270,11 +262,10 @@ module _ {B S : Type 0} (state : B → S) (M : Machine S) (counts : Counts M) (o
     refl,
     λ boot leads.
         let view = old.seat.core.known.primary in
-        let taken = by_port (keys_taken old.port0) (keys_taken old.port1) [] in
-        let accepted = by_port old.port0.accepted old.port1.accepted 0 in
         let now = subst (λ w. Leads M boot (with_waiting view.list w) old.guest.given.items view (state old.guest.board)
-        × IdlesIf M old.guest.idle (state old.guest.board) × Says (with_waiting view.list w) taken accepted) waits leads in
-        subst (λ (c : Core). IsLeading state M boot c.known.primary taken accepted after) (sym is)
+        × IdlesIf M old.guest.idle (state old.guest.board) × Says (with_waiting view.list w) (keys_by old) (told_by old)) waits
+        leads in
+        subst (λ (c : Core). IsLeading state M boot c.known.primary (keys_by old) (told_by old) after) (sym is)
         (there boot view now.0, now.1, now.2),
     λ boot leads kept. subst
         (λ (c : Core). CallsKept M boot old.port0.typed.items old.port1.typed.items c.known.primary.calls) (sym is)
@@ -293,9 +284,20 @@ module _ {B S : Type 0} (state : B → S) (M : Machine S) (counts : Counts M) (o
         answered = l.answered;
       }
 
--- a worker that asks what it may works on
+-- a worker that sees what is counted at a port, or that asks what it may, works on
 module _ {B S : Type 0} (state : B → S) (M : Machine S) (counts : Counts M) (laws : ComesAndGoes M)
     (old : PrimaryWorker B) (seat : Seat) (table : seat.table ≡ old.seat.table) where
+  counts_as : (n m : ℕ) → seat.core.known.primary ≡ record old.seat.core.known.primary { counted0 = n; counted1 = m }
+      → WorksAt state M old seat
+  counts_as n m is = works_on state M old seat (record old.seat.core.known.primary { counted0 = n; counted1 = m }) table is
+      refl (λ boot taken accepted leads. counts_at state M boot old.seat.core.known.primary taken accepted old.guest leads
+      counts laws n m) (λ boot leads kept. kept)
+
+  pub counts_on : (port n : ℕ) → seat.core ≡ with_known (knowledge.saw_count port n) old.seat.core
+      → WorksAt state M old seat
+  counts_on zero n is = counts_as n old.seat.core.known.primary.counted1 (ap (λ (c : Core). c.known.primary) is)
+  counts_on (suc port) n is = counts_as old.seat.core.known.primary.counted0 n (ap (λ (c : Core). c.known.primary) is)
+
   pub asks : (request : DiskRequest) → MayAsk state M old request
       → Fills Requests (Request request) old.seat.core seat.core
       → WorksAt state M old seat
@@ -389,11 +391,9 @@ module _ {B S : Type 0} (state : B → S) (M : Machine S) (counts : Counts M) (l
     (old : PrimaryWorker B) (seat : Seat) (n : ℕ) (boot : S)
     (is : seat.core.known.primary ≡ record old.seat.core.known.primary { winner = n }) where
   pub leads_alone : WorkerLeads state M boot old → IsLeading state M boot seat.core.known.primary
-      (by_port (keys_taken old.port0) (keys_taken old.port1) []) (by_port old.port0.accepted old.port1.accepted 0) old.guest
-  leads_alone leads = subst (λ v. IsLeading state M boot v (by_port (keys_taken old.port0) (keys_taken old.port1) [])
-      (by_port old.port0.accepted old.port1.accepted 0) old.guest) (sym is)
-      (asks_alone state M boot old.seat.core.known.primary (by_port (keys_taken old.port0) (keys_taken old.port1) [])
-      (by_port old.port0.accepted old.port1.accepted 0) old.guest leads counts laws n)
+      (keys_by old) (told_by old) old.guest
+  leads_alone leads = subst (λ v. IsLeading state M boot v (keys_by old) (told_by old) old.guest) (sym is)
+      (asks_alone state M boot old.seat.core.known.primary (keys_by old) (told_by old) old.guest leads counts laws n)
 
   pub keeps_alone : WorkerKeeps M boot old
       → CallsKept M boot old.port0.typed.items old.port1.typed.items seat.core.known.primary.calls

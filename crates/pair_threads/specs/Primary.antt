@@ -34,11 +34,16 @@ use Rattle.pair_threads.specs.Typing.{HasListened, typed_with}
 abbrev pub keys_taken : PortInputs → List ℕ
 keys_taken p = take p.taken p.typed.items
 
+-- the keys and the acceptances that its guest took, by port
+abbrev pub keys_by : {B : Type 0} → PrimaryWorker B → ℕ → List ℕ
+keys_by w = by_port (keys_taken w.port0) (keys_taken w.port1) []
+
+abbrev pub told_by : {B : Type 0} → PrimaryWorker B → ℕ → ℕ
+told_by w = by_port w.port0.accepted w.port1.accepted 0
+
 -- its guest has made the run of its seat's list and of the entry that waits, and took in it what its ports say was taken
 abbrev pub WorkerLeads : {B S : Type 0} → (B → S) → Machine S → S → PrimaryWorker B → Type 0
-WorkerLeads state M boot w =
-    IsLeading state M boot w.seat.core.known.primary (by_port (keys_taken w.port0) (keys_taken w.port1) [])
-    (by_port w.port0.accepted w.port1.accepted 0) w.guest
+WorkerLeads state M boot w = IsLeading state M boot w.seat.core.known.primary (keys_by w) (told_by w) w.guest
 
 -- all calls of a seat kept their promises, for the machine that boots there with any sectors
 abbrev pub CallsKept : {S : Type 0} → Machine S → S → List ℕ → List ℕ → List PrimaryCall → Type 0

@@ -19,6 +19,7 @@ ghost use Rattle.pair_threads.specs.Turns.{RunsFor};
 use super::{KEY_STEPS, PrimaryWorker};
 use crate::lag::{Lead, is_too_far};
 use crate::plan::first_kept;
+use crate::port_inputs::PortInputs;
 use crate::signals::Signals;
 use guest_lockstep::{Lockstep, Reads};
 use i8080_words::{Fault, R};
@@ -236,51 +237,32 @@ impl<B: Lockstep> PrimaryWorker<B> {
     }
 
     // Takes the next key of a port.
+    #[tactic(auto, using(crate::proofs::Naming::none_waits))]
     fn next_key(&mut self, port: u8) -> bool
         requires free { self.old.guest.waiting ≡ None }
         requires port { port < PORTS }
         ensures works { Works B.state B.machine self.old self.new }
         ensures taken { HasTakenKeys port self.old self.new (cond result 1 0) }
     {
+        let Some(byte) = self.inputs(port).next() else {
+            return false;
+        };
+        if !self.guest.key(port, byte) {
+            return false;
+        }
         if port == 0 {
-            self.take_key0()
+            self.port0.taken += 1;
         } else {
-            self.take_key1()
+            self.port1.taken += 1;
         }
-    }
-
-    // Takes the next key of port 0.
-    #[tactic(auto, using(crate::proofs::Naming::none_waits))]
-    fn take_key0(&mut self) -> bool
-        requires free { self.old.guest.waiting ≡ None }
-        ensures works { Works B.state B.machine self.old self.new }
-        ensures taken { HasTakenKeys 0 self.old self.new (cond result 1 0) }
-    {
-        let Some(byte) = self.port0.next() else {
-            return false;
-        };
-        if !self.guest.key(0, byte) {
-            return false;
-        }
-        self.port0.taken += 1;
         true
     }
 
-    // Takes the next key of port 1.
-    #[tactic(auto, using(crate::proofs::Naming::none_waits))]
-    fn take_key1(&mut self) -> bool
-        requires free { self.old.guest.waiting ≡ None }
-        ensures works { Works B.state B.machine self.old self.new }
-        ensures taken { HasTakenKeys 1 self.old self.new (cond result 1 0) }
+    // What its guest has taken of what arrived at a port.
+    fn inputs(&self, port: u8) -> &PortInputs
+        ensures { result.now ≡ (if port == 0 then self.now.port0 else self.now.port1) }
     {
-        let Some(byte) = self.port1.next() else {
-            return false;
-        };
-        if !self.guest.key(1, byte) {
-            return false;
-        }
-        self.port1.taken += 1;
-        true
+        if port == 0 { &self.port0 } else { &self.port1 }
     }
 
     // Gives the next byte of a port to its terminal, if all is acknowledged. Returns whether it was given for the first time.
@@ -362,37 +344,15 @@ impl<B: Lockstep> PrimaryWorker<B> {
         if self.guest.board.due_byte(port).is_none() {
             return false;
         }
+        let before = self.counted(port);
+        let counted = self.seat.counted(fabric, port);
+        let has_changed = counted != before;
         if port == 0 {
-            self.count0(fabric)
+            self.counted0 = counted;
         } else {
-            self.count1(fabric)
+            self.counted1 = counted;
         }
-    }
-
-    // Sees how many bytes of port 0 are accepted.
-    fn count0(&mut self, fabric: &Fabric) -> bool
-        requires table { self.old.seat.table ≡ fabric.now }
-        requires before { self.old.seat.core.known.primary.winner ≡ 0 }
-        ensures works { Works B.state B.machine self.old self.new }
-        ensures other { at_other 0 self.new ≡ at_other 0 self.old }
-        ensures changed { IsTrue result ↔ (self.new.counted0 ≢ self.old.counted0) }
-    {
-        let before = self.counted0;
-        self.counted0 = self.seat.counted(fabric, 0);
-        self.counted0 != before
-    }
-
-    // Sees how many bytes of port 1 are accepted.
-    fn count1(&mut self, fabric: &Fabric) -> bool
-        requires table { self.old.seat.table ≡ fabric.now }
-        requires before { self.old.seat.core.known.primary.winner ≡ 0 }
-        ensures works { Works B.state B.machine self.old self.new }
-        ensures other { at_other 1 self.new ≡ at_other 1 self.old }
-        ensures changed { IsTrue result ↔ (self.new.counted1 ≢ self.old.counted1) }
-    {
-        let before = self.counted1;
-        self.counted1 = self.seat.counted(fabric, 1);
-        self.counted1 != before
+        has_changed
     }
 
     // Takes the acceptance of the oldest byte of a port, if it was accepted. While more bytes may be given, it waits: its
@@ -410,11 +370,7 @@ impl<B: Lockstep> PrimaryWorker<B> {
         if self.may_emit(port) {
             return false;
         }
-        if port == 0 {
-            self.accept0()
-        } else {
-            self.accept1()
-        }
+        self.take_acceptance(port)
     }
 
     // Whether a byte of a port may be given.
@@ -425,43 +381,28 @@ impl<B: Lockstep> PrimaryWorker<B> {
         self.is_covered() && self.due_byte(port).is_some()
     }
 
-    // Takes an acceptance at port 0, if its terminal has accepted more bytes than the guest was told.
+    // Takes an acceptance at a port, if its terminal has accepted more bytes than the guest was told.
     #[tactic(auto, using(crate::proofs::Naming::none_waits))]
-    fn accept0(&mut self) -> bool
+    fn take_acceptance(&mut self, port: u8) -> bool
+        requires port { port < PORTS }
         requires free { self.old.guest.waiting ≡ None }
         ensures works { Works B.state B.machine self.old self.new }
-        ensures taken { result ≡ (nat_lt self.old.port0.accepted self.old.counted0
-            && is_some (B.machine.due_byte (B.state self.old.guest.board) 0)) }
-        ensures told { self.new.port0.accepted ≡ self.old.port0.accepted + cond result 1 0 }
-        ensures other { at_other 0 self.new ≡ at_other 0 self.old }
+        ensures taken { result ≡ (nat_lt (accepted_of port self.old) (counted_of port self.old)
+            && is_some (B.machine.due_byte (B.state self.old.guest.board) port)) }
+        ensures told { accepted_of port self.new ≡ accepted_of port self.old + cond result 1 0 }
+        ensures other { at_other port self.new ≡ at_other port self.old }
     {
-        if self.port0.accepted >= self.counted0 {
+        if self.inputs(port).accepted >= self.counted(port) {
             return false;
         }
-        if !self.guest.sent(0) {
+        if !self.guest.sent(port) {
             return false;
         }
-        self.port0.accepted += 1;
-        true
-    }
-
-    // Takes an acceptance at port 1, if its terminal has accepted more bytes than the guest was told.
-    #[tactic(auto, using(crate::proofs::Naming::none_waits))]
-    fn accept1(&mut self) -> bool
-        requires free { self.old.guest.waiting ≡ None }
-        ensures works { Works B.state B.machine self.old self.new }
-        ensures taken { result ≡ (nat_lt self.old.port1.accepted self.old.counted1
-            && is_some (B.machine.due_byte (B.state self.old.guest.board) 1)) }
-        ensures told { self.new.port1.accepted ≡ self.old.port1.accepted + cond result 1 0 }
-        ensures other { at_other 1 self.new ≡ at_other 1 self.old }
-    {
-        if self.port1.accepted >= self.counted1 {
-            return false;
+        if port == 0 {
+            self.port0.accepted += 1;
+        } else {
+            self.port1.accepted += 1;
         }
-        if !self.guest.sent(1) {
-            return false;
-        }
-        self.port1.accepted += 1;
         true
     }
 

@@ -169,37 +169,17 @@ impl<B: Lockstep> PrimaryWorker<B> {
     }
 
     // Notes the keys that have come, before the guest may take one.
-    #[tactic(auto, using(crate::proofs::Typing::listened_same, crate::proofs::Typing::listened_on))]
+    #[tactic(auto, using(crate::proofs::Typing::listened_same, crate::proofs::Typing::notes_same))]
     fn listen(&mut self) -> R<()>
         ensures listens { OnOk result (HasListened self.old self.new) }
         ensures seat { self.new.seat ≡ self.old.seat }
         ensures refused { IfErr result IsEnding }
     {
         if self.chore == Chore::Key {
-            self.listen0()?;
-            self.listen1()?;
+            self.port0.listen()?;
+            self.port1.listen()?;
         }
         Ok(())
-    }
-
-    // Notes the next key that has come at port 0.
-    #[tactic(auto, using(crate::proofs::Typing::notes_same))]
-    fn listen0(&mut self) -> R<()>
-        ensures listens { OnOk result (HasListened self.old self.new) }
-        ensures seat { self.new.seat ≡ self.old.seat }
-        ensures refused { IfErr result IsEnding }
-    {
-        self.port0.listen()
-    }
-
-    // Notes the next key that has come at port 1.
-    #[tactic(auto, using(crate::proofs::Typing::notes_same))]
-    fn listen1(&mut self) -> R<()>
-        ensures listens { OnOk result (HasListened self.old self.new) }
-        ensures seat { self.new.seat ≡ self.old.seat }
-        ensures refused { IfErr result IsEnding }
-    {
-        self.port1.listen()
     }
 
     // Notes the keys that have come, and does the next chore.
