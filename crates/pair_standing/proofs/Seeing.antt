@@ -4,6 +4,7 @@ use Rattle.std.proofs.Common.{◌≡◌, ℕ, Some, sym, subst}
 use Rattle.std.specs.Prelude.{slice_get}
 use Rattle.guest_lockstep.specs.Machine.{Machine}
 use Rattle.pair_lines.specs.declared.screen.Screen.{Screen}
+use Rattle.pair_rule.specs.Law.{typed_at}
 use Rattle.pair_standing.specs.Alone.{GoesAlone, MovesAlone, Seen, Shows, TakesKey, Types, seen, typed_of}
 use Rattle.pair_standing.specs.Finishing.{GoesOn, Held}
 use Rattle.pair_standing.specs.declared.typing.Typing.{Typing}
@@ -48,27 +49,16 @@ module _ {S : Type 0} (N : Machine S) where
       shows = shows_same is0 is1;
     }
 
-    pub goes_by_key0 : (byte : ℕ) → TakesKey N 0 byte old new
-        → slice_get port0.typed.items (N.keys old.state 0) ≡ Some byte → new.screen0 ≡ old.screen0
-        → new.screen1 ≡ old.screen1 → GoesAlone N (seen port0 port1 screen old) (seen port0 port1 screen new)
-    goes_by_key0 byte takes next is0 is1 =
-        let takes_it = takes port0.typed.items port1.typed.items next in record {
-          runs = takes_it;
-          types0 = types_none port0.keyboard port0.typed.items;
-          types1 = types_none port1.keyboard port1.typed.items;
-          shows = shows_same is0 is1;
-        }
-
-    pub goes_by_key1 : (byte : ℕ) → TakesKey N 1 byte old new
-        → slice_get port1.typed.items (N.keys old.state 1) ≡ Some byte → new.screen0 ≡ old.screen0
-        → new.screen1 ≡ old.screen1 → GoesAlone N (seen port0 port1 screen old) (seen port0 port1 screen new)
-    goes_by_key1 byte takes next is0 is1 =
-        let takes_it = takes port0.typed.items port1.typed.items next in record {
-          runs = takes_it;
-          types0 = types_none port0.keyboard port0.typed.items;
-          types1 = types_none port1.keyboard port1.typed.items;
-          shows = shows_same is0 is1;
-        }
+    pub goes_by_key : (port byte : ℕ) → TakesKey N port byte old new
+        → slice_get (typed_at port port0.typed.items port1.typed.items) (N.keys old.state port) ≡ Some byte
+        → new.screen0 ≡ old.screen0 → new.screen1 ≡ old.screen1
+        → GoesAlone N (seen port0 port1 screen old) (seen port0 port1 screen new)
+    goes_by_key port byte takes next is0 is1 = record {
+      runs = takes port0.typed.items port1.typed.items next;
+      types0 = types_none port0.keyboard port0.typed.items;
+      types1 = types_none port1.keyboard port1.typed.items;
+      shows = shows_same is0 is1;
+    }
 
     pub goes_by_taking : (after : Screen) → GoesOn N old new
         → Shows screen after old.screen0 old.screen1 new.screen0 new.screen1

@@ -1,5 +1,7 @@
 //! The turns of a guest that runs alone.
-ghost use Rattle.std.specs.Prelude.{◌≡◌, ◌≤◌, true, vec_len, IfErr, OnOk};
+ghost use Rattle.std.specs.Prelude.{◌≡◌, ◌<◌, ◌≤◌, true, vec_len, IfErr, OnOk};
+ghost use Rattle.event_callbacks.specs.declared.devices.TheConstants.{PORTS};
+ghost use Rattle.pair_rule.specs.Law.{typed_at};
 ghost use Rattle.pair_standing.specs.Alone.{GoesAlone, seen};
 ghost use Rattle.pair_standing.specs.Finishing.{held};
 ghost use Rattle.pair_threads.specs.Ending.{IsEnding, NoSectorIsDue};
@@ -51,28 +53,18 @@ impl<B: Lockstep + Drop, D: SectorStore> Alone<B, D> {
         Ok(())
     }
 
-    // Takes the next key of port 0, if one was typed. Returns whether it did.
-    #[tactic(auto, using(crate::proofs::Seeing::goes_none))]
-    fn take_key0(&mut self) -> R<bool>
-        ensures goes { OnOk result (GoesAlone B.machine (seen self.old.port0 self.old.port1 self.old.screen (held
-            self.old.winner.list.items self.old.winner.accepted0.items self.old.winner.accepted1.items
-            (D.records self.old.winner.disk) (B.state self.old.winner.board)))
-            (seen self.new.port0 self.new.port1 self.new.screen (held
-            self.new.winner.list.items self.new.winner.accepted0.items self.new.winner.accepted1.items
-            (D.records self.new.winner.disk) (B.state self.new.winner.board)))) }
-        ensures refused { IfErr result IsEnding }
+    // What is typed at a port.
+    fn typing(&self, port: u8) -> &Typing
+        requires { port < PORTS }
+        ensures { result.now.typed.items ≡ typed_at port self.now.port0.typed.items self.now.port1.typed.items }
     {
-        let taken = self.winner.board.keys(0);
-        let Some(byte) = self.port0.key(taken) else {
-            return Ok(false);
-        };
-        self.winner.key(0, byte)?;
-        Ok(true)
+        if port == 0 { &self.port0 } else { &self.port1 }
     }
 
-    // Takes the next key of port 1, if one was typed. Returns whether it did.
+    // Takes the next key of a port, if one was typed. Returns whether it did.
     #[tactic(auto, using(crate::proofs::Seeing::goes_none))]
-    fn take_key1(&mut self) -> R<bool>
+    fn take_key(&mut self, port: u8) -> R<bool>
+        requires { port < PORTS }
         ensures goes { OnOk result (GoesAlone B.machine (seen self.old.port0 self.old.port1 self.old.screen (held
             self.old.winner.list.items self.old.winner.accepted0.items self.old.winner.accepted1.items
             (D.records self.old.winner.disk) (B.state self.old.winner.board)))
@@ -81,11 +73,11 @@ impl<B: Lockstep + Drop, D: SectorStore> Alone<B, D> {
             (D.records self.new.winner.disk) (B.state self.new.winner.board)))) }
         ensures refused { IfErr result IsEnding }
     {
-        let taken = self.winner.board.keys(1);
-        let Some(byte) = self.port1.key(taken) else {
+        let taken = self.winner.board.keys(port);
+        let Some(byte) = self.typing(port).key(taken) else {
             return Ok(false);
         };
-        self.winner.key(1, byte)?;
+        self.winner.key(port, byte)?;
         Ok(true)
     }
 
@@ -104,8 +96,8 @@ impl<B: Lockstep + Drop, D: SectorStore> Alone<B, D> {
         if !self.idle && count < self.key_count {
             return Ok(());
         }
-        let first = self.take_key0()?;
-        let second = self.take_key1()?;
+        let first = self.take_key(0)?;
+        let second = self.take_key(1)?;
         self.key_count = next_key_count(first, second, count, self.key_count);
         Ok(())
     }
