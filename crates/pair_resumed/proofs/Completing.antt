@@ -120,12 +120,8 @@ module _ {S : Type 0} (M : Machine S) (may : Runnable M) (dues : DueIsGiven M) (
       | inr (inl same) ↦ subst (λ x. Among x (operations moves)) (sym same) issued
       | inr (inr none) ↦ absurd none
     ];
-    bytes0 = f.bytes0;
-    bytes1 = f.bytes1;
-    counted0 = f.counted0;
-    counted1 = f.counted1;
-    hand0 = f.hand0;
-    hand1 = f.hand1;
+    port0 = f.port0;
+    port1 = f.port1;
     under_way = one_answer k.primary.asked k.disk.takes k.disk.given k.primary.answers (answer.Written w.number)
         f.under_way.taken f.under_way.answered f.under_way.came answered refl refl refl refl;
     put_done = put_done;

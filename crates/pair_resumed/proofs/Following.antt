@@ -14,13 +14,16 @@ use Rattle.guest_lockstep.specs.declared.timed.Timed.{Timed}
 use Rattle.log_entry.specs.Entries.{entries}
 use Rattle.log_entry.specs.declared.entry.Entry.{Entry}
 use Rattle.pair_protocol.specs.Lawful.{Among, IsDone}
+use Rattle.pair_protocol.specs.World.{accepted_after}
 use Rattle.pair_protocol.proofs.Traces.Lists.{among-left, among-right, among-split, map-append}
 use Rattle.pair_protocol.proofs.Traces.Moves.{entries-append, inputs-append, operations-append, output-append}
 use Rattle.pair_rule.specs.declared.payload.DiskAnswer.{DiskAnswer}
+use Rattle.pair_rule.specs.declared.view.Arrived.{Arrived}
 use Rattle.pair_rule.specs.declared.view.Knowledge.{Knowledge}
 use Rattle.pair_rule.specs.Knowledge.{AllAre, HasWrite}
 use Rattle.pair_rule.specs.Rules.{CountsAs}
-use Rattle.pair_rule.specs.Threads.{ThreadRun, bytes_accepted}
+use Rattle.pair_rule.specs.Shown.{arrival_of}
+use Rattle.pair_rule.specs.Threads.{ThreadRun}
 use Rattle.pair_threads.specs.Ending.{NoneUnderWay}
 use Rattle.pair_threads.specs.Leading.{AreAnswers, IsAnswer}
 use Rattle.pair_threads.specs.Stores.{IsFirst}
@@ -96,21 +99,29 @@ module _ {S : Type 0} (M : Machine S) where
 
 -- ---- what follows a run
 
+-- a port at which this was given: all of it is accepted and counted, and no byte in the hand is still to be
+pub record PortFollows (counted : ℕ) (hand : Option Operation) (arrivals : List Arrived) (out : List ℕ) : Type 0 where
+  pub bytes : accepted_after 0 (map arrival_of arrivals) ≡ out
+  pub many : counted ≡ length out
+  pub in_hand : CountsAs arrivals None hand
+
+abbrev pub AtPort0 : Knowledge → List ℕ → Type 0
+AtPort0 k = PortFollows k.primary.counted0 k.terminal.hand0 k.terminal.arrivals0
+
+abbrev pub AtPort1 : Knowledge → List ℕ → Type 0
+AtPort1 k = PortFollows k.primary.counted1 k.terminal.hand1 k.terminal.arrivals1
+
 -- what is known follows moves: steps of the threads led to it; both lists are the entries, held and seen; what was released
--- was given, each byte that was given is accepted and counted, and none in a hand is still to be; what was put is what is
--- done; and nothing is under way between primary and disk
+-- was given, and each byte that was given is accepted; what was put is what is done; and nothing is under way between primary
+-- and disk
 pub record Follows {S : Type 0} (M : Machine S) (typed0 typed1 : List ℕ) (g : ℕ) (moves : List Move) (k : Knowledge) :
     Type 0 where
   pub run : ThreadRun M typed0 typed1 k
   pub number : k.generation ≡ g
   pub at : IsAt (entries Logged 0 moves) k
   pub given : (o : Operation) → Among o k.primary.released → Among o (operations moves)
-  pub bytes0 : bytes_accepted 0 k ≡ output 0 moves
-  pub bytes1 : bytes_accepted 1 k ≡ output 1 moves
-  pub counted0 : k.primary.counted0 ≡ length (output 0 moves)
-  pub counted1 : k.primary.counted1 ≡ length (output 1 moves)
-  pub hand0 : CountsAs k.terminal.arrivals0 None k.terminal.hand0
-  pub hand1 : CountsAs k.terminal.arrivals1 None k.terminal.hand1
+  pub port0 : AtPort0 k (output 0 moves)
+  pub port1 : AtPort1 k (output 1 moves)
   pub under_way : NoneUnderWay k
   pub put_done : (w : SectorWrite) → Among w k.disk.puts → Among (Write w) (operations moves) × IsDone w.number moves
   pub done_put : (n : ℕ) → IsDone n moves → HasWrite k.disk.puts n
@@ -147,12 +158,8 @@ module _ {S : Type 0} (M : Machine S) (typed0 typed1 : List ℕ) (g : ℕ) (move
     at = subst (λ es. IsAt es k)
         (sym (entries-append Logged 0 moves (Do None ∷ []) ∙ append-nil (entries Logged 0 moves))) f.at;
     given = λ o at. subst (Among o) same_given (f.given o at);
-    bytes0 = f.bytes0 ∙ same 0;
-    bytes1 = f.bytes1 ∙ same 1;
-    counted0 = f.counted0 ∙ ap length (same 0);
-    counted1 = f.counted1 ∙ ap length (same 1);
-    hand0 = f.hand0;
-    hand1 = f.hand1;
+    port0 = subst (AtPort0 k) (same 0) f.port0;
+    port1 = subst (AtPort1 k) (same 1) f.port1;
     under_way = f.under_way;
     put_done = λ w i. let d = f.put_done w i in (
       subst (Among (Write w)) same_given d.0,

@@ -1,6 +1,6 @@
 -- A step that gives an operation: its mark is held and seen; a byte is released, accepted and counted. A write waits for its
 -- completion.
-use Rattle.std.proofs.Common.{◌≡◌, ℕ, zero, suc, false, ◌+◌, ◌<◌, ◌≤◌, true, List, [], ◌∷◌, ◌++◌, length, Some, refl, sym, ap, ◌∙◌, subst, arith, append-nil, length-append, inr, inl, map, eq-eqb, cond}
+use Rattle.std.proofs.Common.{◌≡◌, ℕ, zero, suc, ◌+◌, ◌<◌, ◌≤◌, List, [], ◌∷◌, ◌++◌, length, Option, Some, refl, sym, ap, ◌∙◌, subst, arith, append-nil, length-append, inr, inl, map, eq-eqb, cond}
 use Rattle.disk_dcdd.specs.declared.sector.SectorWrite.{SectorWrite}
 use Rattle.event_callbacks.specs.declared.operations.Operation.{Operation}
 use Rattle.event_callbacks.specs.declared.operations.Operation.TheVariants.{Byte, Write}
@@ -13,6 +13,7 @@ use Rattle.log_entry.specs.declared.entry.Entry.{Entry}
 use Rattle.log_entry.specs.declared.entry.Entry.TheVariants.{Mark}
 use Rattle.pair_protocol.specs.Lawful.{Among, IsDone, top}
 use Rattle.pair_protocol.specs.World.{accepted_after}
+use Rattle.pair_protocol.proofs.Promises.OneMore.{accepted-one}
 use Rattle.pair_protocol.proofs.Traces.Lists.{among-left, among-right, among-split}
 use Rattle.pair_protocol.proofs.Traces.Moves.{entries-append, operations-append, output-append, steps-append}
 use Rattle.pair_protocol.proofs.Traces.Recorded.{recorded-append, recorded-runs}
@@ -21,19 +22,20 @@ use Rattle.pair_rule.specs.declared.payload.Payload.TheVariants.{Out}
 use Rattle.pair_rule.specs.declared.payload.PortByte.{PortByte}
 use Rattle.pair_rule.specs.declared.view.Arrived.{Arrived}
 use Rattle.pair_rule.specs.declared.view.Knowledge.{Knowledge}
-use Rattle.pair_rule.specs.Knowledge.{HasWrite, accepted_at, after_empty, after_fill, byte_arrived, saw_count}
+use Rattle.pair_rule.specs.declared.view.TerminalView.{TerminalView}
+use Rattle.pair_rule.specs.Knowledge.{HasWrite, accepted_at, after_empty, after_fill, arrives, byte_arrived, saw_count, with_release}
 use Rattle.pair_rule.specs.Knowledge as rule
 use Rattle.pair_rule.specs.Law.{HasLonger, HasPort, Runnable}
 use Rattle.pair_rule.specs.Shown.{arrival_of}
 use Rattle.pair_rule.specs.Steps.{Counts, Empties, Fills, MayRelease, SeesCount}
-use Rattle.pair_rule.specs.Threads.{Goes, ThreadRun, bytes_accepted}
+use Rattle.pair_rule.specs.Threads.{Goes, ThreadRun}
 use Rattle.pair_rule.proofs.HandsAgain.{counts_once}
+use Rattle.pair_rule.proofs.ShownNodes.{map_more}
 use Rattle.pair_threads.specs.Leading.{AreAnswers}
 use Rattle.pair_threads.specs.Screens.{next_byte}
 use Rattle.pair_threads.proofs.OneMoment.{as_many}
-use Rattle.pair_threads.proofs.Screens.{counted}
 use Rattle.pair_resumed.proofs.Logging.{IsAt, log_at, log_runs, logged, may_release}
-use Rattle.pair_resumed.proofs.Following.{Follows, answers_end, done_before, done_longer, still_none}
+use Rattle.pair_resumed.proofs.Following.{AtPort0, AtPort1, Follows, PortFollows, answers_end, done_before, done_longer, still_none}
 
 short : (n all most : ℕ) → all ≡ n + 1 → all ≤ most → n < most
 short n all most is le = omega (arith, is, le)
@@ -51,6 +53,22 @@ next_is bytes out b same number =
     ap (λ l. l ++ next_byte (length l) b) same
     ∙ ap (λ t. out ++ cond t (b.byte ∷ []) []) (eq-eqb b.number (length out + 1) number)
 
+-- so a port has all that was given there
+given_on : (port number byte counted : ℕ) (hand : Option Operation) (arrivals : List Arrived) (out after : List ℕ)
+    → PortFollows counted hand arrivals out → number ≡ length out + 1 → out ++ byte ∷ [] ≡ after
+    → PortFollows (rule.accepted_after 0 (arrives (Some (Byte port number byte)) arrivals)) (Some (Byte port number byte))
+    (arrives (Some (Byte port number byte)) arrivals) after
+given_on port number byte counted hand arrivals out after given is then =
+    let a : Arrived = record { number = number; byte = byte } in
+    let bytes : accepted_after 0 (map arrival_of (arrivals ++ a ∷ [])) ≡ after =
+    ap (accepted_after 0) (map_more arrival_of arrivals a) ∙ accepted-one (map arrival_of arrivals) (arrival_of a)
+    ∙ next_is (accepted_after 0 (map arrival_of arrivals)) out (record { number = number; byte = byte }) given.bytes is
+    ∙ then in record {
+      bytes = bytes;
+      many = many (arrivals ++ a ∷ []) ∙ ap length bytes;
+      in_hand = counts_once arrivals (Some (Byte port number byte));
+    }
+
 module _ (k : Knowledge) (number byte : ℕ) where
   abbrev hand0 : Knowledge
   hand0 = after_empty Bytes0 (Out (Byte 0 number byte)) (after_fill Bytes0 (Out (Byte 0 number byte)) k)
@@ -63,18 +81,6 @@ module _ (k : Knowledge) (number byte : ℕ) where
 
   abbrev pub sent1 : Knowledge
   sent1 = saw_count 1 (accepted_at 1 (byte_arrived 1 hand1)) (byte_arrived 1 hand1)
-
-  sent0_bytes : (out : List ℕ) → bytes_accepted 0 k ≡ out → number ≡ length out + 1
-      → bytes_accepted 0 sent0 ≡ out ++ byte ∷ []
-  sent0_bytes out same is =
-      counted false (record { number = number; byte = byte }) hand0 refl
-      ∙ next_is (bytes_accepted 0 k) out (record { number = number; byte = byte }) same is
-
-  sent1_bytes : (out : List ℕ) → bytes_accepted 1 k ≡ out → number ≡ length out + 1
-      → bytes_accepted 1 sent1 ≡ out ++ byte ∷ []
-  sent1_bytes out same is =
-      counted true (record { number = number; byte = byte }) hand1 refl
-      ∙ next_is (bytes_accepted 1 k) out (record { number = number; byte = byte }) same is
 
   module _ {S : Type 0} (M : Machine S) (typed0 typed1 : List ℕ) (waits : k.primary.winner ≡ 0)
       (run : ThreadRun M typed0 typed1 k) where
@@ -181,12 +187,8 @@ module _ {S : Type 0} (M : Machine S) (may : Runnable M) (typed0 typed1 : List �
     number = f.number;
     at = at (Write w) step few;
     given = λ v i. issued (Write w) step few v (f.given v i);
-    bytes0 = f.bytes0 ∙ same_output (Write w) step few 0 refl;
-    bytes1 = f.bytes1 ∙ same_output (Write w) step few 1 refl;
-    counted0 = f.counted0 ∙ ap length (same_output (Write w) step few 0 refl);
-    counted1 = f.counted1 ∙ ap length (same_output (Write w) step few 1 refl);
-    hand0 = f.hand0;
-    hand1 = f.hand1;
+    port0 = subst (AtPort0 k) (same_output (Write w) step few 0 refl) f.port0;
+    port1 = subst (AtPort1 k) (same_output (Write w) step few 1 refl) f.port1;
     under_way = still_none (mark (Write w) step few) k f.under_way;
     put_done = put_on (Write w) step few;
     done_put = put_still (Write w) step few;
@@ -194,21 +196,28 @@ module _ {S : Type 0} (M : Machine S) (may : Runnable M) (typed0 typed1 : List �
     firsts = f.firsts;
   }
 
-  module _ (number byte : ℕ) where
-    gives_byte0 : (step : M.step s ≡ Some (t, Some (Byte 0 number byte)))
-        (few : length (entries Logged 0 (moves ++ Do (Some (Byte 0 number byte)) ∷ [])) ≤ top)
-        → Follows M typed0 typed1 g (after (Byte 0 number byte) step few)
-        (sent0 (known (Byte 0 number byte) step few) number byte)
-    gives_byte0 step few =
-        let a = at (Byte 0 number byte) step few in
-        let l = known (Byte 0 number byte) step few in
-        let bytes : bytes_accepted 0 (sent0 (known (Byte 0 number byte) step few) number byte)
-        ≡ output 0 (after (Byte 0 number byte) step few) =
-        sent0_bytes l number byte (output 0 moves) f.bytes0
-        (may.lawful.numbered moves t 0 number byte (runs (Byte 0 number byte) step few))
-        ∙ sym (output-append 0 moves (Do (Some (Byte 0 number byte)) ∷ [])) in record {
-          run = sent0_runs l number byte M typed0 typed1 a.primary_waits (marks (Byte 0 number byte) step few)
-              (releases (Byte 0 number byte) step few);
+  module _ (port number byte : ℕ) (step : M.step s ≡ Some (t, Some (Byte port number byte)))
+      (few : length (entries Logged 0 (moves ++ Do (Some (Byte port number byte)) ∷ [])) ≤ top) where
+    abbrev o : Operation
+    o = Byte port number byte
+
+    abbrev l : Knowledge
+    l = known o step few
+
+    -- when it is given away, with this at the two ports
+    abbrev gone : ℕ → ℕ → TerminalView → Knowledge
+    gone counted0 counted1 terminal = record l {
+      primary = record (with_release o l.primary) { counted0 = counted0; counted1 = counted1 };
+      terminal = terminal;
+    }
+
+    gives_byte : (counted0 counted1 : ℕ) (x : TerminalView) → ThreadRun M typed0 typed1 (gone counted0 counted1 x)
+        → AtPort0 (gone counted0 counted1 x) (output 0 (after o step few))
+        → AtPort1 (gone counted0 counted1 x) (output 1 (after o step few))
+        → Follows M typed0 typed1 g (after o step few) (gone counted0 counted1 x)
+    gives_byte counted0 counted1 x run port0 port1 =
+        let a = at o step few in record {
+          run = run;
           number = f.number;
           at = record {
             primary = a.primary;
@@ -220,65 +229,42 @@ module _ {S : Type 0} (M : Machine S) (may : Runnable M) (typed0 typed1 : List �
             found = a.found;
             backup_waits = a.backup_waits;
           };
-          given = given_now (Byte 0 number byte) step few;
-          bytes0 = bytes;
-          bytes1 = f.bytes1 ∙ same_output (Byte 0 number byte) step few 1 refl;
-          counted0 = many (sent0 (known (Byte 0 number byte) step few) number byte).terminal.arrivals0 ∙ ap length bytes;
-          counted1 = f.counted1 ∙ ap length (same_output (Byte 0 number byte) step few 1 refl);
-          hand0 = counts_once k.terminal.arrivals0 (Some (Byte 0 number byte));
-          hand1 = f.hand1;
+          given = given_now o step few;
+          port0 = port0;
+          port1 = port1;
           under_way = record { taken = f.under_way.taken; answered = f.under_way.answered; came = f.under_way.came };
-          put_done = put_on (Byte 0 number byte) step few;
-          done_put = put_still (Byte 0 number byte) step few;
-          answered = answered_on (Byte 0 number byte) step few;
+          put_done = put_on o step few;
+          done_put = put_still o step few;
+          answered = answered_on o step few;
           firsts = f.firsts;
         }
 
-    gives_byte1 : (step : M.step s ≡ Some (t, Some (Byte 1 number byte)))
-        (few : length (entries Logged 0 (moves ++ Do (Some (Byte 1 number byte)) ∷ [])) ≤ top)
-        → Follows M typed0 typed1 g (after (Byte 1 number byte) step few)
-        (sent1 (known (Byte 1 number byte) step few) number byte)
-    gives_byte1 step few =
-        let a = at (Byte 1 number byte) step few in
-        let l = known (Byte 1 number byte) step few in
-        let bytes : bytes_accepted 1 (sent1 (known (Byte 1 number byte) step few) number byte)
-        ≡ output 1 (after (Byte 1 number byte) step few) =
-        sent1_bytes l number byte (output 1 moves) f.bytes1
-        (may.lawful.numbered moves t 1 number byte (runs (Byte 1 number byte) step few))
-        ∙ sym (output-append 1 moves (Do (Some (Byte 1 number byte)) ∷ [])) in record {
-          run = sent1_runs l number byte M typed0 typed1 a.primary_waits (marks (Byte 1 number byte) step few)
-              (releases (Byte 1 number byte) step few);
-          number = f.number;
-          at = record {
-            primary = a.primary;
-            backup = a.backup;
-            seen = a.seen;
-            held = a.held;
-            primary_waits = a.primary_waits;
-            wanted = a.wanted;
-            found = a.found;
-            backup_waits = a.backup_waits;
-          };
-          given = given_now (Byte 1 number byte) step few;
-          bytes0 = f.bytes0 ∙ same_output (Byte 1 number byte) step few 0 refl;
-          bytes1 = bytes;
-          counted0 = f.counted0 ∙ ap length (same_output (Byte 1 number byte) step few 0 refl);
-          counted1 = many (sent1 (known (Byte 1 number byte) step few) number byte).terminal.arrivals1 ∙ ap length bytes;
-          hand0 = f.hand0;
-          hand1 = counts_once k.terminal.arrivals1 (Some (Byte 1 number byte));
-          under_way = record { taken = f.under_way.taken; answered = f.under_way.answered; came = f.under_way.came };
-          put_done = put_on (Byte 1 number byte) step few;
-          done_put = put_still (Byte 1 number byte) step few;
-          answered = answered_on (Byte 1 number byte) step few;
-          firsts = f.firsts;
-        }
+    number_is : number ≡ length (output port moves) + 1
+    number_is = may.lawful.numbered moves t port number byte (runs o step few)
+
+    more_output : output port moves ++ output port (Do (Some o) ∷ []) ≡ output port (after o step few)
+    more_output = sym (output-append port moves (Do (Some o) ∷ []))
 
   pub follows_gives : (o : Operation) → M.step s ≡ Some (t, Some o)
       → length (entries Logged 0 (moves ++ Do (Some o) ∷ [])) ≤ top → HasPort o
       → (new : Knowledge) × Follows M typed0 typed1 g (moves ++ Do (Some o) ∷ []) new
   follows_gives (Write w) step few port = (known (Write w) step few, gives_write w step few)
-  follows_gives (Byte zero number byte) step few port =
-      (sent0 (known (Byte 0 number byte) step few) number byte, gives_byte0 number byte step few)
-  follows_gives (Byte (suc zero) number byte) step few port =
-      (sent1 (known (Byte 1 number byte) step few) number byte, gives_byte1 number byte step few)
+  follows_gives (Byte zero number byte) step few port = let k' = l 0 number byte step few in (
+    sent0 k' number byte,
+    gives_byte 0 number byte step few _ _ _
+        (sent0_runs k' number byte M typed0 typed1 (at (Byte 0 number byte) step few).primary_waits
+        (marks (Byte 0 number byte) step few) (releases (Byte 0 number byte) step few))
+        (given_on 0 number byte _ _ _ (output 0 moves) _ f.port0 (number_is 0 number byte step few)
+        (more_output 0 number byte step few))
+        (subst (AtPort1 k) (same_output (Byte 0 number byte) step few 1 refl) f.port1),
+  )
+  follows_gives (Byte (suc zero) number byte) step few port = let k' = l 1 number byte step few in (
+    sent1 k' number byte,
+    gives_byte 1 number byte step few _ _ _
+        (sent1_runs k' number byte M typed0 typed1 (at (Byte 1 number byte) step few).primary_waits
+        (marks (Byte 1 number byte) step few) (releases (Byte 1 number byte) step few))
+        (subst (AtPort0 k) (same_output (Byte 1 number byte) step few 0 refl) f.port0)
+        (given_on 1 number byte _ _ _ (output 1 moves) _ f.port1 (number_is 1 number byte step few)
+        (more_output 1 number byte step few)),
+  )
   follows_gives (Byte (suc (suc p)) number byte) step few port = absurd (omega (arith, port))

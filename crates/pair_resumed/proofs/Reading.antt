@@ -136,12 +136,8 @@ module _ {S : Type 0} (M : Machine S) (may : Runnable M) (dues : DueIsGiven M) (
       backup_waits = f.at.backup_waits;
     };
     given = f.given;
-    bytes0 = f.bytes0;
-    bytes1 = f.bytes1;
-    counted0 = f.counted0;
-    counted1 = f.counted1;
-    hand0 = f.hand0;
-    hand1 = f.hand1;
+    port0 = f.port0;
+    port1 = f.port1;
     under_way = one_answer k.primary.asked k.disk.takes k.disk.given k.primary.answers (answer.Read r)
         f.under_way.taken f.under_way.answered f.under_way.came answered refl refl refl refl;
     put_done = still_done M may dues typed0 typed1 g moves s t k made f (input.Sector drive sector number bytes);

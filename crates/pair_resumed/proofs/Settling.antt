@@ -60,12 +60,8 @@ nothing_yet M typed0 typed1 g = record {
   number = refl;
   at = record { primary = refl; backup = refl; seen = refl; held = refl; wanted = refl; found = refl; primary_waits = refl; backup_waits = refl };
   given = λ o i. absurd i;
-  bytes0 = refl;
-  bytes1 = refl;
-  counted0 = refl;
-  counted1 = refl;
-  hand0 = refl;
-  hand1 = refl;
+  port0 = record { bytes = refl; many = refl; in_hand = refl };
+  port1 = record { bytes = refl; many = refl; in_hand = refl };
   under_way = record { taken = refl; answered = refl; came = refl };
   put_done = λ w i. absurd i;
   done_put = λ n d. absurd d;
@@ -202,13 +198,13 @@ module _ {S : Type 0} (M : Machine S) (may : Runnable M) (dues : DueIsGiven M) (
     }
       where
         screens : (port : ℕ) → port < 2 → bytes_accepted port k ≡ output port all
-        screens zero two = f.bytes0
-        screens (suc zero) two = f.bytes1
+        screens zero two = f.port0.bytes
+        screens (suc zero) two = f.port1.bytes
         screens (suc (suc port)) two = absurd (omega (arith, two))
 
         counted : (port : ℕ) → port < 2 → counted_at port k ≡ length (output port all)
-        counted zero two = f.counted0
-        counted (suc zero) two = f.counted1
+        counted zero two = f.port0.many
+        counted (suc zero) two = f.port1.many
         counted (suc (suc port)) two = absurd (omega (arith, two))
 
     starts : PlainRun k → Stands k
@@ -224,10 +220,10 @@ module _ {S : Type 0} (M : Machine S) (may : Runnable M) (dues : DueIsGiven M) (
       held = sym f.at.held;
       primary_waits = sym f.at.primary_waits;
       backup_waits = sym f.at.backup_waits;
-      arrived0 = sym (many k.terminal.arrivals0 ∙ ap length f.bytes0);
-      arrived1 = sym (many k.terminal.arrivals1 ∙ ap length f.bytes1);
-      hand0 = f.hand0;
-      hand1 = f.hand1;
+      arrived0 = sym (many k.terminal.arrivals0 ∙ ap length f.port0.bytes);
+      arrived1 = sym (many k.terminal.arrivals1 ∙ ap length f.port1.bytes);
+      hand0 = f.port0.in_hand;
+      hand1 = f.port1.in_hand;
       taken = no_more k.disk.takes k.primary.asked f.under_way.taken;
       came = no_more (length k.primary.answers) (length k.disk.given) f.under_way.came;
       few = below_top (length (entries Logged 0 all)) settled.few;
@@ -256,8 +252,8 @@ module _ {S : Type 0} (M : Machine S) (may : Runnable M) (dues : DueIsGiven M) (
             omega (arith, a, e, l, is, le)
 
         accepted : (port : ℕ) → acceptances port (inputs_of (entries Logged 0 all)) ≡ accepted_of all port
-        accepted zero = as_many 0 k.primary.counted0 f.counted0 told.accepted0
-        accepted (suc zero) = as_many 1 k.primary.counted1 f.counted1 told.accepted1
+        accepted zero = as_many 0 k.primary.counted0 f.port0.many told.accepted0
+        accepted (suc zero) = as_many 1 k.primary.counted1 f.port1.many told.accepted1
         accepted (suc (suc port)) = ap (acceptances (suc (suc port))) (inputs_of-entries Logged 0 all)
             ∙ none_accepted M (suc (suc port)) 0 (omega arith) M.boot last all settled.recorded
 

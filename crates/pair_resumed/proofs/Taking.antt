@@ -23,14 +23,13 @@ use Rattle.pair_rule.specs.declared.view.Knowledge.{Knowledge}
 use Rattle.pair_rule.specs.Kinds.{counted_at}
 use Rattle.pair_rule.specs.Knowledge.{AllAre, HasWrite}
 use Rattle.pair_rule.specs.Law.{HasLonger, IsTold, Runnable, typed_at}
-use Rattle.pair_rule.specs.Rules.{CountsAs}
-use Rattle.pair_rule.specs.Threads.{ThreadRun, bytes_accepted}
+use Rattle.pair_rule.specs.Threads.{ThreadRun}
 use Rattle.pair_threads.specs.Ending.{NoneUnderWay}
 use Rattle.pair_threads.specs.Leading.{AreAnswers, IsAnswer}
 use Rattle.pair_threads.specs.Stores.{IsFirst}
 use Rattle.pair_resumed.specs.Settled.{DueIsGiven}
 use Rattle.pair_resumed.proofs.Logging.{IsAt, log_at, log_runs, logged}
-use Rattle.pair_resumed.proofs.Following.{Follows, answers_end, done_by, done_longer, still_none}
+use Rattle.pair_resumed.proofs.Following.{AtPort0, AtPort1, Follows, answers_end, done_by, done_longer, still_none}
 
 short : (n all most : ℕ) → all ≡ n + 1 → all ≤ most → n < most
 short n all most is le = omega (arith, is, le)
@@ -64,12 +63,8 @@ pub record Heard {S : Type 0} (M : Machine S) (typed0 typed1 : List ℕ) (g : �
   pub number : k.generation ≡ g
   pub at : IsAt (entries Logged 0 moves) k
   pub given : (o : Operation) → Among o k.primary.released → Among o (operations moves)
-  pub bytes0 : bytes_accepted 0 k ≡ output 0 moves
-  pub bytes1 : bytes_accepted 1 k ≡ output 1 moves
-  pub counted0 : k.primary.counted0 ≡ length (output 0 moves)
-  pub counted1 : k.primary.counted1 ≡ length (output 1 moves)
-  pub hand0 : CountsAs k.terminal.arrivals0 None k.terminal.hand0
-  pub hand1 : CountsAs k.terminal.arrivals1 None k.terminal.hand1
+  pub port0 : AtPort0 k (output 0 moves)
+  pub port1 : AtPort1 k (output 1 moves)
   pub under_way : NoneUnderWay k
   pub put_done : (w : SectorWrite) → Among w k.disk.puts
       → Among (Write w) (operations moves) × IsDone w.number (moves ++ Take i ∷ [])
@@ -129,12 +124,8 @@ module _ {S : Type 0} (M : Machine S) (may : Runnable M) (typed0 typed1 : List �
     at = subst (λ es. IsAt es (logged entry k)) (sym are)
         (log_at M typed0 typed1 k (entries Logged 0 moves) h.at entry);
     given = λ o at. subst (Among o) same_given (h.given o at);
-    bytes0 = h.bytes0 ∙ same_output 0;
-    bytes1 = h.bytes1 ∙ same_output 1;
-    counted0 = h.counted0 ∙ ap length (same_output 0);
-    counted1 = h.counted1 ∙ ap length (same_output 1);
-    hand0 = h.hand0;
-    hand1 = h.hand1;
+    port0 = subst (AtPort0 k) (same_output 0) h.port0;
+    port1 = subst (AtPort1 k) (same_output 1) h.port1;
     under_way = still_none entry k h.under_way;
     put_done = λ w p. let d = h.put_done w p in (subst (Among (Write w)) same_given d.0, d.1);
     done_put = h.done_put;
@@ -155,8 +146,8 @@ module _ {S : Type 0} (M : Machine S) (may : Runnable M) (dues : DueIsGiven M) (
   issued w p = (f.put_done w p).0
 
   counted_is : (port : ℕ) → port < 2 → counted_at port k ≡ length (output port moves)
-  counted_is zero two = f.counted0
-  counted_is (suc zero) two = f.counted1
+  counted_is zero two = f.port0.many
+  counted_is (suc zero) two = f.port1.many
   counted_is (suc (suc port)) two = absurd (omega (arith, two))
 
   -- nothing more is done with an input that is no completion
@@ -179,12 +170,8 @@ module _ {S : Type 0} (M : Machine S) (may : Runnable M) (dues : DueIsGiven M) (
     number = f.number;
     at = f.at;
     given = f.given;
-    bytes0 = f.bytes0;
-    bytes1 = f.bytes1;
-    counted0 = f.counted0;
-    counted1 = f.counted1;
-    hand0 = f.hand0;
-    hand1 = f.hand1;
+    port0 = f.port0;
+    port1 = f.port1;
     under_way = f.under_way;
     put_done = still_done i;
     done_put = none_done i never;
