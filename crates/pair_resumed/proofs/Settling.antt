@@ -252,8 +252,8 @@ module _ {S : Type 0} (M : Machine S) (may : Runnable M) (dues : DueIsGiven M) (
             omega (arith, a, e, l, is, le)
 
         accepted : (port : ℕ) → acceptances port (inputs_of (entries Logged 0 all)) ≡ accepted_of all port
-        accepted zero = as_many 0 k.primary.counted0 f.port0.many told.accepted0
-        accepted (suc zero) = as_many 1 k.primary.counted1 f.port1.many told.accepted1
+        accepted zero = as_many 0 k.primary.counted0 f.port0.many told.port0.accepted
+        accepted (suc zero) = as_many 1 k.primary.counted1 f.port1.many told.port1.accepted
         accepted (suc (suc port)) = ap (acceptances (suc (suc port))) (inputs_of-entries Logged 0 all)
             ∙ none_accepted M (suc (suc port)) 0 (omega arith) M.boot last all settled.recorded
 

@@ -40,7 +40,7 @@ pub accepted_marked : {S : Type 0} (M : Machine S) (typed0 typed1 : List ℕ) (k
     PrimaryIsTold typed0 typed1 k.primary → (z : Shows M typed0 typed1 k w) → (port number : ℕ) → port < 2 → 0 < number →
     number ≤ acceptances port (inputs_of k.primary.list) → ByteIsAcknowledged z.moves k.primary.seen port number
 accepted_marked M typed0 typed1 k w st told z zero number two some le =
-    let few = told.accepted0 in
+    let few = told.port0.accepted in
     let counted = st.port0.accepted in
     let there = arrived_at 0 k.terminal.arrivals0 number _ st.port0.arrived some (omega (arith, le, few, counted)) in
     record {
@@ -49,7 +49,7 @@ accepted_marked M typed0 typed1 k w st told z zero number two some le =
           (z.covered (Byte 0 there.0.number there.0.byte) there.1);
     }
 accepted_marked M typed0 typed1 k w st told z (suc zero) number two some le =
-    let few = told.accepted1 in
+    let few = told.port1.accepted in
     let counted = st.port1.accepted in
     let there = arrived_at 0 k.terminal.arrivals1 number _ st.port1.arrived some (omega (arith, le, few, counted)) in
     record {

@@ -14,7 +14,7 @@ use Rattle.pair_rule.specs.declared.payload.DiskAnswer.TheVariants as answer
 use Rattle.pair_rule.specs.declared.view.Knowledge.{Knowledge}
 use Rattle.pair_rule.specs.Kinds.{counted_at}
 use Rattle.pair_rule.specs.Law.{typed_at, IsTold, SilentStep, ThreadStep, Appends, Holds, Sees, Takes, Completes, PrimaryWins, PrimaryLoses, BackupWins, BackupLoses, Releases, Arrives, Puts, Keeps, CountsNone, Carries, SeesCount, TakesByte0, TakesByte1, TakesRequest, HasAnswer, AsksRead, AnswersRead, Wants, TakesLookup, AnswersLookup, Misses}
-use Rattle.pair_rule.specs.Threads.{IsAnswered, ListIsTold, PrimaryIsTold}
+use Rattle.pair_rule.specs.Threads.{IsAnswered, ListIsTold, PortIsTold, PrimaryIsTold}
 use Rattle.pair_rule.proofs.Filled.{among_more}
 use Rattle.pair_rule.proofs.ShownNodes.{among_either}
 
@@ -68,64 +68,62 @@ module _ (list : List Entry) where
       go true same = told (let e : q ≡ port = grind arith in e)
       go false other = same_accepted q (Sent count port) n (ap (λ b. (if b then 1 else 0) + 0) other) is
 
+  -- an entry without both leaves what is told of the port
+  same_port : (q : ℕ) (e : Entry) (typed : List ℕ) (n : ℕ) → keys q (inputs_of (e ∷ [])) ≡ []
+      → acceptances q (inputs_of (e ∷ [])) ≡ 0 → PortIsTold q typed n list → PortIsTold q typed n (list ++ e ∷ [])
+  same_port q e typed n no_key none is = record {
+    keys_first = same_keys q e typed no_key is.keys_first;
+    accepted = same_accepted q e n none is.accepted;
+  }
+
 module _ {S : Type 0} (M : Machine S) (typed0 typed1 : List ℕ) (k : Knowledge) (t : PrimaryIsTold typed0 typed1 k.primary) where
   abbrev list : List Entry
   list = k.primary.list
-
-  abbrev Longer : Entry → Type 0
-  Longer e = ListIsTold typed0 typed1 (list ++ e ∷ []) k.primary.answers k.primary.counted0 k.primary.counted1
 
   -- of the longer list: each entry is answered
   all_answered : (e x : Entry) → IsAnswered k.primary.answers e → Among x (list ++ e ∷ []) → IsAnswered k.primary.answers x
   all_answered e x is at = ⊎_elim (λ (old : Among x list). t.answered x old)
       (λ (same : x ≡ e). subst (IsAnswered k.primary.answers) (sym same) is) (among_either x e list at)
 
-  told_more : (s : S) (e : Entry) → IsTold M typed0 typed1 k s e → Longer e
-  told_more s (Mark count) told = record {
-    keys0 = same_keys list 0 (Mark count) typed0 refl t.keys0;
-    keys1 = same_keys list 1 (Mark count) typed1 refl t.keys1;
-    accepted0 = same_accepted list 0 (Mark count) k.primary.counted0 refl t.accepted0;
-    accepted1 = same_accepted list 1 (Mark count) k.primary.counted1 refl t.accepted1;
-    answered = λ x at. all_answered (Mark count) x tt at;
-  }
-  told_more s (Rx count port byte) told = let e : Entry = Rx count port byte in record {
-    keys0 = next_keys list 0 count port byte typed0
+  is_answered : (s : S) (e : Entry) → IsTold M typed0 typed1 k s e → IsAnswered k.primary.answers e
+  is_answered s (Mark count) told = tt
+  is_answered s (Rx count port byte) told = tt
+  is_answered s (Sent count port) told = tt
+  is_answered s (Written count number) told = told
+  is_answered s (Sector count drive sector number bytes) (r, came, place, same, alike) = (r, came, same, alike)
+  is_answered s (Read count drive sector number) told = absurd told
+
+  -- at each port
+  abbrev ToldAt : ℕ → List Entry → Type 0
+  ToldAt q = PortIsTold q (typed_at q typed0 typed1) (counted_at q k)
+
+  told_at : (q : ℕ) (s : S) (e : Entry) → IsTold M typed0 typed1 k s e → ToldAt q list → ToldAt q (list ++ e ∷ [])
+  told_at q s (Mark count) told is = same_port list q (Mark count) (typed_at q typed0 typed1) (counted_at q k) refl refl is
+  told_at q s (Rx count port byte) told is = record {
+    keys_first = next_keys list q count port byte (typed_at q typed0 typed1)
         (λ same. subst (λ p. IsPrefix (keys p (inputs_of (list ++ Rx count port byte ∷ []))) (typed_at p typed0 typed1))
-        (sym same) told) t.keys0;
-    keys1 = next_keys list 1 count port byte typed1
-        (λ same. subst (λ p. IsPrefix (keys p (inputs_of (list ++ Rx count port byte ∷ []))) (typed_at p typed0 typed1))
-        (sym same) told) t.keys1;
-    accepted0 = same_accepted list 0 e k.primary.counted0 refl t.accepted0;
-    accepted1 = same_accepted list 1 e k.primary.counted1 refl t.accepted1;
-    answered = λ x at. all_answered e x tt at;
+        (sym same) told) is.keys_first;
+    accepted = same_accepted list q (Rx count port byte) (counted_at q k) refl is.accepted;
   }
-  told_more s (Sent count port) told = let e : Entry = Sent count port in record {
-    keys0 = same_keys list 0 e typed0 refl t.keys0;
-    keys1 = same_keys list 1 e typed1 refl t.keys1;
-    accepted0 = next_accepted list 0 count port k.primary.counted0
+  told_at q s (Sent count port) told is = record {
+    keys_first = same_keys list q (Sent count port) (typed_at q typed0 typed1) refl is.keys_first;
+    accepted = next_accepted list q count port (counted_at q k)
         (λ same. subst (λ p. acceptances p (inputs_of (list ++ Sent count port ∷ [])) ≤ counted_at p k) (sym same) told)
-        t.accepted0;
-    accepted1 = next_accepted list 1 count port k.primary.counted1
-        (λ same. subst (λ p. acceptances p (inputs_of (list ++ Sent count port ∷ [])) ≤ counted_at p k) (sym same) told)
-        t.accepted1;
-    answered = λ x at. all_answered e x tt at;
+        is.accepted;
   }
-  told_more s (Written count number) told = let e : Entry = Written count number in record {
-    keys0 = same_keys list 0 e typed0 refl t.keys0;
-    keys1 = same_keys list 1 e typed1 refl t.keys1;
-    accepted0 = same_accepted list 0 e k.primary.counted0 refl t.accepted0;
-    accepted1 = same_accepted list 1 e k.primary.counted1 refl t.accepted1;
-    answered = λ x at. all_answered e x told at;
+  told_at q s (Written count number) told is =
+      same_port list q (Written count number) (typed_at q typed0 typed1) (counted_at q k) refl refl is
+  told_at q s (Sector count drive sector number bytes) told is =
+      same_port list q (Sector count drive sector number bytes) (typed_at q typed0 typed1) (counted_at q k) refl refl is
+  told_at q s (Read count drive sector number) told is = absurd told
+
+  told_more : (s : S) (e : Entry) → IsTold M typed0 typed1 k s e
+      → ListIsTold typed0 typed1 (list ++ e ∷ []) k.primary.answers k.primary.counted0 k.primary.counted1
+  told_more s e told = record {
+    port0 = told_at 0 s e told t.port0;
+    port1 = told_at 1 s e told t.port1;
+    answered = λ x at. all_answered e x (is_answered s e told) at;
   }
-  told_more s (Sector count drive sector number bytes) (r, came, place, same, alike) = let e : Entry =
-      Sector count drive sector number bytes in record {
-        keys0 = same_keys list 0 e typed0 refl t.keys0;
-        keys1 = same_keys list 1 e typed1 refl t.keys1;
-        accepted0 = same_accepted list 0 e k.primary.counted0 refl t.accepted0;
-        accepted1 = same_accepted list 1 e k.primary.counted1 refl t.accepted1;
-        answered = λ x at. all_answered e x (r, came, same, alike) at;
-      }
-  told_more s (Read count drive sector number) told = absurd told
 
   -- a step that is events, and one that is none
   pub thread_told : (new : Knowledge) → ThreadStep M typed0 typed1 k new → PrimaryIsTold typed0 typed1 new.primary
@@ -149,27 +147,21 @@ module _ {S : Type 0} (M : Machine S) (typed0 typed1 : List ℕ) (k : Knowledge)
   silent_told new (CountsNone (suc port) none) = t
   silent_told new (Carries p) = t
   silent_told new (SeesCount zero n more) = record {
-    keys0 = t.keys0;
-    keys1 = t.keys1;
-    accepted0 = (let a = t.accepted0 in omega (arith, a, more));
-    accepted1 = t.accepted1;
+    port0 = record { keys_first = t.port0.keys_first; accepted = (let a = t.port0.accepted in omega (arith, a, more)) };
+    port1 = t.port1;
     answered = t.answered;
   }
   silent_told new (SeesCount (suc port) n more) = record {
-    keys0 = t.keys0;
-    keys1 = t.keys1;
-    accepted0 = t.accepted0;
-    accepted1 = (let a = t.accepted1 in omega (arith, a, more));
+    port0 = t.port0;
+    port1 = record { keys_first = t.port1.keys_first; accepted = (let a = t.port1.accepted in omega (arith, a, more)) };
     answered = t.answered;
   }
   silent_told new (TakesByte0 o) = t
   silent_told new (TakesByte1 o) = t
   silent_told new (TakesRequest r) = t
   silent_told new (HasAnswer a) = record {
-    keys0 = t.keys0;
-    keys1 = t.keys1;
-    accepted0 = t.accepted0;
-    accepted1 = t.accepted1;
+    port0 = t.port0;
+    port1 = t.port1;
     answered = λ e at. still_answered k.primary.answers a e (t.answered e at);
   }
   silent_told new (AsksRead a) = t
@@ -182,9 +174,7 @@ module _ {S : Type 0} (M : Machine S) (typed0 typed1 : List ℕ) (k : Knowledge)
 -- an empty list was told nothing
 pub nothing_told : (typed0 typed1 : List ℕ) → ListIsTold typed0 typed1 [] [] 0 0
 nothing_told typed0 typed1 = record {
-  keys0 = (typed0, refl);
-  keys1 = (typed1, refl);
-  accepted0 = le_refl 0;
-  accepted1 = le_refl 0;
+  port0 = record { keys_first = (typed0, refl); accepted = le_refl 0 };
+  port1 = record { keys_first = (typed1, refl); accepted = le_refl 0 };
   answered = λ e at. absurd at;
 }

@@ -11,6 +11,7 @@ use Rattle.pair_rule.specs.declared.payload.Payload.{Payload}
 use Rattle.pair_rule.specs.declared.payload.Payload.TheVariants.{Log, Out, Request, Answer, Lookup, Sector}
 use Rattle.pair_rule.specs.declared.view.Arrived.{Arrived}
 use Rattle.pair_rule.specs.declared.view.Knowledge.{Knowledge}
+use Rattle.pair_rule.specs.declared.view.TerminalView.{TerminalView}
 use Rattle.pair_rule.specs.Knowledge.{accepted_after, accepted_at, arrives, last_or, winner_of, Fits, PortStands, Stands, appended, saw, held, winner_after, primary_asked, backup_asked, byte_arrived, saw_count}
 use Rattle.pair_rule.proofs.Filled.{among_more, if_map, entry_more, next_more}
 use Rattle.pair_rule.proofs.ListsThatGrow.{longer_prefix, last_below, rising_more, last_more, last_among, fewer_arrived, all_arrived, decide_primary, decide_backup}
@@ -140,46 +141,21 @@ module _ (k : Knowledge) (s : Stands k) where
     d.1,
   )
 
+  -- the two ports change, and nothing else
+  ports_stay : (counted0 counted1 : ℕ) (x : TerminalView) → PortStands 0 k.primary.released counted0 x.hand0 x.arrivals0
+      → PortStands 1 k.primary.released counted1 x.hand1 x.arrivals1
+      → Stays (λ k. record k { primary = record k.primary { counted0 = counted0; counted1 = counted1 }; terminal = x })
+  ports_stay counted0 counted1 x port0 port1 =
+      (record { log = s.log; decided = s.decided; port0 = port0; port1 = port1; disk = s.disk }, λ b x f. f)
+
   pub came_stays : (port : ℕ) → Stays (byte_arrived port)
-  came_stays zero = (
-    record {
-      log = s.log;
-      decided = s.decided;
-      port0 = port_arrives 0 k.primary.counted0 k.primary.released k.terminal.hand0 k.terminal.arrivals0 s.port0;
-      port1 = s.port1;
-      disk = s.disk;
-    },
-    λ b x f. f,
-  )
-  came_stays (suc p) = (
-    record {
-      log = s.log;
-      decided = s.decided;
-      port0 = s.port0;
-      port1 = port_arrives 1 k.primary.counted1 k.primary.released k.terminal.hand1 k.terminal.arrivals1 s.port1;
-      disk = s.disk;
-    },
-    λ b x f. f,
-  )
+  came_stays zero = ports_stay k.primary.counted0 k.primary.counted1 (byte_arrived 0 k).terminal
+      (port_arrives 0 k.primary.counted0 k.primary.released k.terminal.hand0 k.terminal.arrivals0 s.port0) s.port1
+  came_stays (suc p) = ports_stay k.primary.counted0 k.primary.counted1 (byte_arrived 1 k).terminal s.port0
+      (port_arrives 1 k.primary.counted1 k.primary.released k.terminal.hand1 k.terminal.arrivals1 s.port1)
 
   pub count_stays : (port : ℕ) → Stays (saw_count port (accepted_at port k))
-  count_stays zero = (
-    record {
-      log = s.log;
-      decided = s.decided;
-      port0 = port_seen 0 k.primary.counted0 k.primary.released k.terminal.hand0 k.terminal.arrivals0 s.port0;
-      port1 = s.port1;
-      disk = s.disk;
-    },
-    λ b x f. f,
-  )
-  count_stays (suc p) = (
-    record {
-      log = s.log;
-      decided = s.decided;
-      port0 = s.port0;
-      port1 = port_seen 1 k.primary.counted1 k.primary.released k.terminal.hand1 k.terminal.arrivals1 s.port1;
-      disk = s.disk;
-    },
-    λ b x f. f,
-  )
+  count_stays zero = ports_stay (accepted_at 0 k) k.primary.counted1 k.terminal
+      (port_seen 0 k.primary.counted0 k.primary.released k.terminal.hand0 k.terminal.arrivals0 s.port0) s.port1
+  count_stays (suc p) = ports_stay k.primary.counted0 (accepted_at 1 k) k.terminal s.port0
+      (port_seen 1 k.primary.counted1 k.primary.released k.terminal.hand1 k.terminal.arrivals1 s.port1)

@@ -104,14 +104,16 @@ IsAnswered answers (Rx count port byte) = Unit {0}
 IsAnswered answers (Sent count port) = Unit {0}
 IsAnswered answers (Read count drive sector number) = ⊥
 
--- of a primary's list: its keys are the first of those typed, no more bytes are accepted in it than were seen counted, and
--- the disk answered what it has of the disk
+-- of a port in a primary's list: its keys are the first of those typed, and no more bytes are accepted than were seen counted
+pub record PortIsTold (port : ℕ) (typed : List ℕ) (counted : ℕ) (list : List Entry) : Type 0 where
+  pub keys_first : IsPrefix (keys port (inputs_of list)) typed
+  pub accepted : acceptances port (inputs_of list) ≤ counted
+
+-- of the list: so it is at both ports, and the disk answered what it has of the disk
 pub record ListIsTold (typed0 typed1 : List ℕ) (list : List Entry) (answers : List DiskAnswer)
     (counted0 counted1 : ℕ) : Type 0 where
-  pub keys0 : IsPrefix (keys 0 (inputs_of list)) typed0
-  pub keys1 : IsPrefix (keys 1 (inputs_of list)) typed1
-  pub accepted0 : acceptances 0 (inputs_of list) ≤ counted0
-  pub accepted1 : acceptances 1 (inputs_of list) ≤ counted1
+  pub port0 : PortIsTold 0 typed0 counted0 list
+  pub port1 : PortIsTold 1 typed1 counted1 list
   pub answered : (e : Entry) → Among e list → IsAnswered answers e
 
 abbrev pub PrimaryIsTold : List ℕ → List ℕ → PrimaryView → Type 0
