@@ -2,16 +2,12 @@
 -- boots and what its sectors hold does not matter to how it counts, and how operations come and go.
 use Rattle.std.proofs.Common.{◌≡◌, ℕ, Bool, true, false, ◌==◌, ◌&&◌, List, refl, ap, arith, Option, Some, None}
 use Rattle.std.specs.Option.{option_map_or}
-use Rattle.disk_dcdd.specs.declared.address.SectorAddress.{SectorAddress}
+use Rattle.pair_resumed.proofs.Words.{Counts, Lawful, Machine, ReadsSelected, Runnable, SectorAddress}
 use Rattle.guest_board.specs.Guest.{altair}
 use Rattle.guest_board.specs.Inputs.{some_altair}
 use Rattle.guest_board.specs.declared.setup.Setup.{Setup}
-use Rattle.guest_lockstep.specs.Machine.{Machine}
 use Rattle.guest_lockstep.specs.Outstanding.{ComesAndGoes}
-use Rattle.guest_lockstep.specs.Recorded.{Counts}
 use Rattle.pair_protocol.specs.Copying.{IsCopying, no_copies}
-use Rattle.pair_protocol.specs.Lawful.{Lawful}
-use Rattle.pair_rule.specs.Law.{ReadsSelected, Runnable}
 
 and_first : (a b : Bool) → (a && b) ≡ true → a ≡ true
 and_first true b e = refl

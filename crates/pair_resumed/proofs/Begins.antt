@@ -1,18 +1,10 @@
 -- The workers of a generation may begin where a run was settled.
 use Rattle.std.proofs.Common.{◌≡◌, [], false, refl, sym, ap, subst, ◌∙◌}
-use Rattle.guest_lockstep.specs.Machine.{booted_from}
-use Rattle.guest_lockstep.specs.declared.reads.Reads.TheVariants.{Logged}
+use Rattle.pair_resumed.proofs.Words.{AllAre, CallKept, Has, IsFirst, Leads, Logged, Says, SettledRunsMayBegin, accepted_of, all_map, booted_from, entries, keys_of, last_count}
 use Rattle.guest_lockstep.proofs.Booted.{Recorded-booted}
-use Rattle.log_entry.specs.Entries.{entries, last_count}
 use Rattle.pair_rule.specs.declared.payload.DiskAnswer.TheVariants as answer
-use Rattle.pair_rule.specs.Knowledge.{AllAre}
-use Rattle.pair_rule.specs.Threads.{CallKept}
-use Rattle.pair_rule.proofs.Filled.{all_map}
-use Rattle.pair_threads.specs.Leading.{Leads, Says}
 use Rattle.pair_threads.specs.Repeating.{Repeats}
-use Rattle.pair_threads.specs.Stores.{Has, IsFirst}
 use Rattle.pair_threads.proofs.Views.{leads_there}
-use Rattle.pair_resumed.specs.Settled.{SettledRunsMayBegin, accepted_of, keys_of}
 use Rattle.pair_resumed.proofs.KeptRuns.{kept_there}
 
 pub may_begin : {S : Type 0} → SettledRunsMayBegin S

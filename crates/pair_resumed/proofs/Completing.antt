@@ -1,30 +1,10 @@
 -- The completion of a write: the disk is asked for it, puts it, and answers.
 use Rattle.std.proofs.Common.{◌≡◌, ℕ, ◌+◌, ◌≤◌, inl, inr, List, [], ◌∷◌, ◌++◌, length, Some, refl, sym, ap, ◌∙◌, subst}
-use Rattle.disk_dcdd.specs.declared.sector.SectorWrite.{SectorWrite}
+use Rattle.pair_resumed.proofs.Words.{Accepts, Among, Answer, Answers, DueIsGiven, Empties, Fills, Goes, HasWrite, IsDone, IsFirst, Knowledge, Logged, Machine, Move, Operation, Recorded, Request, Requests, Runnable, Runs, SectorWrite, Take, ThreadRun, Write, after_empty, after_fill, all_more, among-left, among-right, among-split, entries, entry_of, operations, recorded-runs, steps, top}
 use Rattle.event_callbacks.specs.declared.operations.OpId.TheVariants as id
-use Rattle.event_callbacks.specs.declared.operations.Operation.{Operation}
-use Rattle.event_callbacks.specs.declared.operations.Operation.TheVariants.{Write}
-use Rattle.guest_lockstep.specs.Machine.{Machine, Move, Take, Runs}
-use Rattle.guest_lockstep.specs.Recorded.{Accepts, Recorded}
 use Rattle.guest_lockstep.specs.declared.input.Input.TheVariants as input
-use Rattle.guest_lockstep.specs.declared.reads.Reads.TheVariants.{Logged}
-use Rattle.guest_lockstep.specs.Reach.{operations, steps}
-use Rattle.log_entry.specs.Entries.{entries, entry_of}
-use Rattle.pair_protocol.specs.Lawful.{Among, IsDone, top}
-use Rattle.pair_protocol.proofs.Traces.Lists.{among-left, among-right, among-split}
-use Rattle.pair_protocol.proofs.Traces.Recorded.{recorded-runs}
-use Rattle.pair_rule.specs.declared.mailbox.Mailbox.TheVariants.{Answers, Requests}
 use Rattle.pair_rule.specs.declared.payload.DiskAnswer.TheVariants as answer
 use Rattle.pair_rule.specs.declared.payload.DiskRequest.TheVariants as ask
-use Rattle.pair_rule.specs.declared.payload.Payload.TheVariants.{Answer, Request}
-use Rattle.pair_rule.specs.declared.view.Knowledge.{Knowledge}
-use Rattle.pair_rule.specs.Knowledge.{HasWrite, after_empty, after_fill}
-use Rattle.pair_rule.specs.Law.{Runnable}
-use Rattle.pair_rule.specs.Steps.{Empties, Fills}
-use Rattle.pair_rule.specs.Threads.{Goes, ThreadRun}
-use Rattle.pair_rule.proofs.Filled.{all_more}
-use Rattle.pair_threads.specs.Stores.{IsFirst}
-use Rattle.pair_resumed.specs.Settled.{DueIsGiven}
 use Rattle.pair_resumed.proofs.Logging.{logged, may_release}
 use Rattle.pair_resumed.proofs.Following.{Follows, answers_more, done_by, done_now, one_answer}
 use Rattle.pair_resumed.proofs.Taking.{Heard, a_write, is_out, still_done, takes_follow}

@@ -1,32 +1,14 @@
 -- What is known follows a run, move after move: each operation is released, accepted or asked for as soon as it is given.
 use Rattle.std.proofs.Common.{◌≡◌, ℕ, ◌+◌, ◌⊎◌, inl, inr, List, [], ◌∷◌, ◌++◌, length, map, Some, None, Option, refl, sym, ap, ◌∙◌, subst, arith, append-nil, length-append}
-use Rattle.disk_dcdd.specs.declared.sector.SectorWrite.{SectorWrite}
-use Rattle.event_callbacks.specs.declared.operations.Operation.{Operation}
-use Rattle.event_callbacks.specs.declared.operations.Operation.TheVariants.{Write}
-use Rattle.guest_lockstep.specs.Machine.{Machine, Move, Do, Take, Runs}
+use Rattle.pair_resumed.proofs.Words.{AllAre, Among, AreAnswers, Do, Entry, HasWrite, IsAnswer, IsDone, IsFirst, Knowledge, Logged, Machine, Move, NoneUnderWay, Operation, Runs, SectorWrite, Take, ThreadRun, Write, accepted_after, among-left, among-right, among-split, arrival_of, bare, entries, entries-append, inputs, inputs-append, map-append, operations, operations-append, output, output-append, steps}
 use Rattle.guest_lockstep.specs.declared.input.Input.{Input}
 use Rattle.guest_lockstep.specs.declared.input.Input.TheVariants as input
-use Rattle.guest_lockstep.specs.declared.reads.Reads.TheVariants.{Logged}
-use Rattle.guest_lockstep.specs.Reach.{bare, inputs, operations, output, steps}
 use Rattle.guest_lockstep.specs.declared.timed.Bare.{Bare}
 use Rattle.guest_lockstep.specs.declared.timed.Bare.TheVariants.{Written}
 use Rattle.guest_lockstep.specs.declared.timed.Timed.{Timed}
-use Rattle.log_entry.specs.Entries.{entries}
-use Rattle.log_entry.specs.declared.entry.Entry.{Entry}
-use Rattle.pair_protocol.specs.Lawful.{Among, IsDone}
-use Rattle.pair_protocol.specs.World.{accepted_after}
-use Rattle.pair_protocol.proofs.Traces.Lists.{among-left, among-right, among-split, map-append}
-use Rattle.pair_protocol.proofs.Traces.Moves.{entries-append, inputs-append, operations-append, output-append}
 use Rattle.pair_rule.specs.declared.payload.DiskAnswer.{DiskAnswer}
 use Rattle.pair_rule.specs.declared.view.Arrived.{Arrived}
-use Rattle.pair_rule.specs.declared.view.Knowledge.{Knowledge}
-use Rattle.pair_rule.specs.Knowledge.{AllAre, HasWrite}
 use Rattle.pair_rule.specs.Rules.{CountsAs}
-use Rattle.pair_rule.specs.Shown.{arrival_of}
-use Rattle.pair_rule.specs.Threads.{ThreadRun}
-use Rattle.pair_threads.specs.Ending.{NoneUnderWay}
-use Rattle.pair_threads.specs.Leading.{AreAnswers, IsAnswer}
-use Rattle.pair_threads.specs.Stores.{IsFirst}
 use Rattle.pair_resumed.proofs.Logging.{IsAt, logged}
 
 -- ---- one more move

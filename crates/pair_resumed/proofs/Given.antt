@@ -1,18 +1,8 @@
 -- What a run gave went to ports that there are, and its marks are among its entries.
 use Rattle.std.proofs.Common.{◌≡◌, ℕ, suc, ◌+◌, ◌<◌, ◌≤◌, inl, inr, Bool, true, false, List, [], ◌∷◌, ◌++◌, length, Some, None, refl, sym, ap, ◌∙◌, subst, arith, length-append, eq-eqb, eqb-true, cond}
 use Rattle.std.specs.Prelude.{◌==◌}
-use Rattle.event_callbacks.specs.declared.operations.Operation.{Operation}
-use Rattle.event_callbacks.specs.declared.operations.Operation.TheVariants.{Byte, Write}
-use Rattle.guest_lockstep.specs.Machine.{Machine, Move, Do, Take}
-use Rattle.guest_lockstep.specs.Recorded.{Recorded}
+use Rattle.pair_resumed.proofs.Words.{Among, Byte, Do, IsAcknowledged, Logged, Machine, Move, Operation, Recorded, Take, Write, acceptances, bool_cases, entries, entries-append, inputs, keys, operations, output, steps}
 use Rattle.guest_lockstep.specs.declared.input.Input.TheVariants as input
-use Rattle.guest_lockstep.specs.declared.reads.Reads.TheVariants.{Logged}
-use Rattle.guest_lockstep.specs.Reach.{acceptances, inputs, keys, operations, output, steps}
-use Rattle.log_entry.specs.Entries.{entries}
-use Rattle.pair_protocol.specs.Lawful.{Among}
-use Rattle.pair_protocol.proofs.Traces.Lists.{bool_cases}
-use Rattle.pair_protocol.proofs.Traces.Moves.{entries-append}
-use Rattle.pair_rule.specs.Shown.{IsAcknowledged}
 
 -- no key of a port that is not there is taken, and no byte accepted
 another : (port at : ℕ) → 2 ≤ port → at < 2 → (port == at) ≡ false

@@ -1,37 +1,16 @@
 -- A step that gives an operation: its mark is held and seen; a byte is released, accepted and counted. A write waits for its
 -- completion.
 use Rattle.std.proofs.Common.{◌≡◌, ℕ, zero, suc, ◌+◌, ◌<◌, ◌≤◌, List, [], ◌∷◌, ◌++◌, length, Option, Some, refl, sym, ap, ◌∙◌, subst, arith, append-nil, length-append, inr, inl, map, eq-eqb, cond}
-use Rattle.disk_dcdd.specs.declared.sector.SectorWrite.{SectorWrite}
-use Rattle.event_callbacks.specs.declared.operations.Operation.{Operation}
-use Rattle.event_callbacks.specs.declared.operations.Operation.TheVariants.{Byte, Write}
-use Rattle.guest_lockstep.specs.Machine.{Machine, Move, Do, Runs}
-use Rattle.guest_lockstep.specs.Recorded.{Recorded}
-use Rattle.guest_lockstep.specs.declared.reads.Reads.TheVariants.{Logged}
-use Rattle.guest_lockstep.specs.Reach.{operations, output, steps}
-use Rattle.log_entry.specs.Entries.{entries}
-use Rattle.log_entry.specs.declared.entry.Entry.{Entry}
+use Rattle.pair_resumed.proofs.Words.{Among, AreAnswers, Byte, Bytes0, Bytes1, Do, Empties, Entry, Fills, Goes, HasLonger, HasPort, HasWrite, IsDone, Knowledge, Logged, Machine, MayRelease, Move, Operation, Out, Recorded, Runnable, Runs, SectorWrite, SeesCount, ThreadRun, Write, accepted_after, accepted_at, after_empty, after_fill, among-left, among-right, among-split, arrival_of, arrives, byte_arrived, entries, entries-append, operations, operations-append, output, output-append, recorded-append, recorded-runs, saw_count, steps, steps-append, top, with_release}
 use Rattle.log_entry.specs.declared.entry.Entry.TheVariants.{Mark}
-use Rattle.pair_protocol.specs.Lawful.{Among, IsDone, top}
-use Rattle.pair_protocol.specs.World.{accepted_after}
 use Rattle.pair_protocol.proofs.Promises.OneMore.{accepted-one}
-use Rattle.pair_protocol.proofs.Traces.Lists.{among-left, among-right, among-split}
-use Rattle.pair_protocol.proofs.Traces.Moves.{entries-append, operations-append, output-append, steps-append}
-use Rattle.pair_protocol.proofs.Traces.Recorded.{recorded-append, recorded-runs}
-use Rattle.pair_rule.specs.declared.mailbox.Mailbox.TheVariants.{Bytes0, Bytes1}
-use Rattle.pair_rule.specs.declared.payload.Payload.TheVariants.{Out}
 use Rattle.pair_rule.specs.declared.payload.PortByte.{PortByte}
 use Rattle.pair_rule.specs.declared.view.Arrived.{Arrived}
-use Rattle.pair_rule.specs.declared.view.Knowledge.{Knowledge}
 use Rattle.pair_rule.specs.declared.view.TerminalView.{TerminalView}
-use Rattle.pair_rule.specs.Knowledge.{HasWrite, accepted_at, after_empty, after_fill, arrives, byte_arrived, saw_count, with_release}
 use Rattle.pair_rule.specs.Knowledge as rule
-use Rattle.pair_rule.specs.Law.{HasLonger, HasPort, Runnable}
-use Rattle.pair_rule.specs.Shown.{arrival_of}
-use Rattle.pair_rule.specs.Steps.{Counts, Empties, Fills, MayRelease, SeesCount}
-use Rattle.pair_rule.specs.Threads.{Goes, ThreadRun}
+use Rattle.pair_rule.specs.Steps.{Counts}
 use Rattle.pair_rule.proofs.HandsAgain.{counts_once}
 use Rattle.pair_rule.proofs.ShownNodes.{map_more}
-use Rattle.pair_threads.specs.Leading.{AreAnswers}
 use Rattle.pair_threads.specs.Screens.{next_byte}
 use Rattle.pair_threads.proofs.OneMoment.{as_many}
 use Rattle.pair_resumed.proofs.Logging.{IsAt, log_at, log_runs, logged, may_release}

@@ -1,15 +1,9 @@
 -- What the terminals had accepted when a host failed begins what they have accepted when all is settled.
 use Rattle.std.proofs.Common.{◌≡◌, ℕ, ◌+◌, List, [], ◌∷◌, length, sym, ap, subst, ◌∙◌}
-use Rattle.guest_lockstep.specs.Reach.{output}
-use Rattle.log_entry.specs.Entries.{inputs_of, last_count}
-use Rattle.pair_protocol.specs.Faithful.{IsPrefix}
+use Rattle.pair_resumed.proofs.Words.{EachScreen, IsPrefix, ScreensGoOn, inputs_of, last_count, output, output-append, prefix-trans}
 use Rattle.pair_protocol.specs.Traces.{OneTrace, cut}
 use Rattle.pair_protocol.proofs.Traces.Cuts.{cut-prefix}
-use Rattle.pair_protocol.proofs.Traces.Lists.{prefix-trans}
-use Rattle.pair_protocol.proofs.Traces.Moves.{output-append}
-use Rattle.pair_threads.specs.Ending.{EachScreen}
 use Rattle.pair_threads.proofs.FirstEntries.{first_part}
-use Rattle.pair_resumed.specs.Settled.{ScreensGoOn}
 
 each : {P Q : ℕ → List ℕ → Type 0} → ((port : ℕ) (screen : List ℕ) → P port screen → Q port screen) → (port : ℕ)
     (screens : List (List ℕ)) → EachScreen P port screens → EachScreen Q port screens

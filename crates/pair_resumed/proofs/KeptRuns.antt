@@ -1,31 +1,21 @@
 -- The other way round: steps of the threads are steps of the table, and each call of the primary and each answer of the disk
 -- that they led to kept its promise.
 use Rattle.std.proofs.Common.{ℕ, zero, suc, List, [], ◌∷◌, sym, ◌∙◌}
-use Rattle.disk_dcdd.specs.declared.address.SectorAddress.{SectorAddress}
-use Rattle.guest_lockstep.specs.Machine.{Machine, booted_from}
+use Rattle.pair_resumed.proofs.Words.{Agrees, AgreesOf, Answer, Answers, AreKept, AsksNot, Bytes0, Bytes1, CallKept, CanFill, Entry, FirstsAgree, FirstsAgreeOf, Goes, Inbox, IsTold, Knowledge, Log, Lookup, Lookups, Machine, Opens, Out, Outbox, Promised, ReadsBoot, Request, Requests, SectorAddress, Sectors, TableStep, ThreadRun, after_empty, after_fill, all_more, booted_from, knew}
 use Rattle.guest_lockstep.proofs.Booted.{Recorded-booted}
-use Rattle.log_entry.specs.declared.entry.Entry.{Entry}
 use Rattle.log_entry.specs.declared.entry.Entry.TheVariants.{Mark, Rx, Sent, Sector, Written, Read}
 use Rattle.pair_rule.specs.declared.mailbox.Mailbox.{Mailbox}
-use Rattle.pair_rule.specs.declared.mailbox.Mailbox.TheVariants.{Outbox, Inbox, Bytes0, Bytes1, Requests, Answers, Lookups, Sectors}
 use Rattle.pair_rule.specs.declared.payload.DiskAnswer.{DiskAnswer}
 use Rattle.pair_rule.specs.declared.payload.DiskAnswer.TheVariants as answer
 use Rattle.pair_rule.specs.declared.payload.DiskRequest.TheVariants as ask
 use Rattle.pair_rule.specs.declared.payload.Payload.{Payload}
 use Rattle.pair_rule.specs.declared.payload.Payload.TheVariants as payload
-use Rattle.pair_rule.specs.declared.payload.Payload.TheVariants.{Log, Out, Request, Answer, Lookup}
-use Rattle.pair_rule.specs.declared.view.Knowledge.{Knowledge}
 use Rattle.pair_rule.specs.declared.view.PrimaryCall.{PrimaryCall}
 use Rattle.pair_rule.specs.declared.view.PrimaryCall.TheVariants as call
 use Rattle.pair_rule.specs.Boxes.{filler}
 use Rattle.pair_rule.specs.Histories as plain
 use Rattle.pair_rule.specs.Histories.{IsReply, PlainRun}
-use Rattle.pair_rule.specs.Knowledge.{Agrees, AgreesOf, CanFill, FirstsAgree, FirstsAgreeOf, after_empty, after_fill}
-use Rattle.pair_rule.specs.Law.{IsTold}
 use Rattle.pair_rule.specs.Steps as table
-use Rattle.pair_rule.specs.Steps.{AsksNot, Promised, ReadsBoot, TableStep}
-use Rattle.pair_rule.specs.Threads.{AreKept, CallKept, Goes, Opens, ThreadRun, knew}
-use Rattle.pair_rule.proofs.Filled.{all_more}
 use Rattle.shared_disk.specs.declared.disk.SectorRead.{SectorRead}
 
 module _ {S : Type 0} (M : Machine S) (typed0 typed1 : List ℕ) (k : Knowledge) where

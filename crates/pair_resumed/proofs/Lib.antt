@@ -1,3 +1,4 @@
+pub mod Words
 pub mod Logging
 pub mod Following
 pub mod Giving

@@ -3,23 +3,9 @@ use Rattle.std.proofs.Common.{◌≡◌, ℕ, ◌+◌, ◌<◌, cond, List, [], 
 use mathlib.Core.Option.{some}
 use lib.ListN.{get_elem?}
 use Rattle.event_callbacks.specs.Operations.{id_of}
-use Rattle.event_callbacks.specs.declared.operations.Operation.{Operation}
-use Rattle.guest_lockstep.specs.Machine.{Machine, Move}
-use Rattle.guest_lockstep.specs.Recorded.{Recorded}
-use Rattle.guest_lockstep.specs.declared.reads.Reads.TheVariants.{Logged}
-use Rattle.log_entry.specs.Entries.{entries}
-use Rattle.log_entry.specs.declared.entry.Entry.{Entry}
-use Rattle.pair_protocol.specs.Lawful.{top}
-use Rattle.pair_rule.specs.declared.mailbox.Mailbox.TheVariants.{Inbox}
+use Rattle.pair_resumed.proofs.Words.{Appends, Empties, Entry, Goes, HasLonger, Holds, Inbox, IsTold, Knowledge, Log, Logged, Machine, MayRelease, Move, Operation, Recorded, Sees, ThreadRun, after_empty, appended, entries, held, last_or, notes_from, saw, top}
 use Rattle.pair_rule.specs.declared.payload.Carried.TheVariants.{Whole}
 use Rattle.pair_rule.specs.declared.payload.Packet.{Packet}
-use Rattle.pair_rule.specs.declared.payload.Payload.TheVariants.{Log}
-use Rattle.pair_rule.specs.declared.view.Knowledge.{Knowledge}
-use Rattle.pair_rule.specs.Knowledge.{after_empty, appended, held, last_or, saw}
-use Rattle.pair_rule.specs.Law.{HasLonger, IsTold}
-use Rattle.pair_rule.specs.Shown.{notes_from}
-use Rattle.pair_rule.specs.Steps.{Appends, Empties, Holds, MayRelease, Sees}
-use Rattle.pair_rule.specs.Threads.{Goes, ThreadRun}
 use Rattle.pair_rule.proofs.ListsThatGrow.{last_more}
 use Rattle.pair_threads.proofs.KeptCalls.{covered_by, notes_covered}
 

@@ -1,15 +1,8 @@
 -- A sector whose writes are all done has on the disk what the machine's own disk has.
 use Rattle.std.proofs.Common.{◌≡◌, ℕ, ◌≤◌, ◌⊎◌, inl, inr, List, sym, ap, ◌∙◌, arith}
 use Rattle.disk_dcdd.specs.Address.{address_of}
-use Rattle.disk_dcdd.specs.declared.address.SectorAddress.{SectorAddress}
-use Rattle.disk_dcdd.specs.declared.sector.SectorWrite.{SectorWrite}
-use Rattle.event_callbacks.specs.declared.operations.Operation.TheVariants.{Write}
-use Rattle.guest_lockstep.specs.Machine.{Machine, Move, Runs}
-use Rattle.guest_lockstep.specs.Reach.{image, operations}
-use Rattle.pair_protocol.specs.Lawful.{Among, IsDone, IsUnwritten, IsWritten, Lawful}
-use Rattle.pair_protocol.specs.World.{SectorRecord, latest}
+use Rattle.pair_resumed.proofs.Words.{Among, HasWrite, IsDone, IsUnwritten, IsWritten, Lawful, Machine, Move, Runs, SectorAddress, SectorRecord, SectorWrite, Write, image, latest, operations}
 use Rattle.pair_protocol.proofs.Keeps.Disk.{AsBefore, LatestIs, OfPut, latest_all, latest_is}
-use Rattle.pair_rule.specs.Knowledge.{HasWrite}
 
 module _ {S : Type 0} (M : Machine S) (laws : Lawful M) (moves : List Move) (s : S) (runs : Runs M M.boot moves s)
     (puts : List SectorWrite) (issued : (v : SectorWrite) → Among v puts → Among (Write v) (operations moves))

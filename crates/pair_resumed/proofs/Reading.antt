@@ -1,36 +1,14 @@
 -- A sector comes under the head: the disk is asked for it, and reads what the machine's own disk has there.
 use Rattle.std.proofs.Common.{◌≡◌, ℕ, ◌+◌, ◌≤◌, ◌⊎◌, inl, inr, true, List, [], ◌∷◌, ◌++◌, length, refl, sym, ap, ◌∙◌, subst}
 use Rattle.disk_dcdd.specs.Address.{address_of}
-use Rattle.disk_dcdd.specs.declared.address.SectorAddress.{SectorAddress}
-use Rattle.disk_dcdd.specs.declared.sector.SectorWrite.{SectorWrite}
-use Rattle.event_callbacks.specs.declared.operations.Operation.TheVariants.{Write}
-use Rattle.guest_lockstep.specs.Machine.{Machine, Move, Take, Runs}
-use Rattle.guest_lockstep.specs.Recorded.{Accepts, Recorded}
+use Rattle.pair_resumed.proofs.Words.{Accepts, Among, Answer, Answers, DueIsGiven, Empties, Fills, FirstsAgree, Goes, IsAnswer, IsFirst, IsUnwritten, IsWritten, Knowledge, Logged, Machine, Move, Own, Recorded, Request, Requests, Runnable, Runs, SectorAddress, SectorWrite, Take, ThreadRun, Write, after_empty, after_fill, all_more, among-left, among-right, entries, entry_of, latest, operations, recorded-runs, steps, top}
 use Rattle.guest_lockstep.specs.declared.input.Input.TheVariants as input
-use Rattle.guest_lockstep.specs.declared.reads.Reads.TheVariants.{Logged}
-use Rattle.guest_lockstep.specs.Reach.{Own, operations, steps}
-use Rattle.log_entry.specs.Entries.{entries, entry_of}
-use Rattle.pair_protocol.specs.Lawful.{Among, IsUnwritten, IsWritten, top}
-use Rattle.pair_protocol.specs.World.{latest}
 use Rattle.pair_protocol.proofs.Keeps.PrimaryMoves.{sector-passed}
-use Rattle.pair_protocol.proofs.Traces.Lists.{among-left, among-right}
-use Rattle.pair_protocol.proofs.Traces.Recorded.{recorded-runs}
-use Rattle.pair_rule.specs.declared.mailbox.Mailbox.TheVariants.{Answers, Requests}
 use Rattle.pair_rule.specs.declared.payload.DiskAnswer.TheVariants as answer
 use Rattle.pair_rule.specs.declared.payload.DiskRequest.TheVariants as ask
-use Rattle.pair_rule.specs.declared.payload.Payload.TheVariants.{Answer, Request}
-use Rattle.pair_rule.specs.declared.view.Knowledge.{Knowledge}
-use Rattle.pair_rule.specs.Knowledge.{FirstsAgree, after_empty, after_fill}
-use Rattle.pair_rule.specs.Law.{Runnable}
-use Rattle.pair_rule.specs.Steps.{Empties, Fills}
-use Rattle.pair_rule.specs.Threads.{Goes, ThreadRun}
-use Rattle.pair_rule.proofs.Filled.{all_more}
 use Rattle.pair_rule.proofs.ReadsAgree.{agrees}
 use Rattle.pair_rule.proofs.Elements.{all_in}
-use Rattle.pair_threads.specs.Leading.{IsAnswer}
-use Rattle.pair_threads.specs.Stores.{IsFirst}
 use Rattle.shared_disk.specs.declared.disk.SectorRead.{SectorRead}
-use Rattle.pair_resumed.specs.Settled.{DueIsGiven}
 use Rattle.pair_resumed.proofs.KeptRuns.{threads_kept}
 use Rattle.pair_resumed.proofs.Logging.{logged}
 use Rattle.pair_resumed.proofs.Following.{Follows, answers_more, one_answer}

@@ -3,34 +3,15 @@ use Rattle.std.proofs.Common.{◌≡◌, ℕ, zero, suc, ◌+◌, ◌<◌, ◌�
 use Rattle.std.specs.Prelude.{◌^◌}
 use Rattle.std.proofs.lemmas.Bool.Decides.{leb_tells}
 use Rattle.std.proofs.Math.Seq.{take-append_seam}
-use Rattle.disk_dcdd.specs.declared.address.SectorAddress.{SectorAddress}
+use Rattle.pair_resumed.proofs.Words.{Among, Byte, Do, DueIsGiven, HasPort, IsPrefix, IsRested, IsSettled, IsShown, Knowledge, Leads, Logged, Machine, MayStart, Move, Opens, Operation, Owns, PrimaryIsTold, Recorded, Runnable, Runs, Says, SectorAddress, SettledRunsAreShown, Stands, Take, ThreadsAreFaithful, Write, acceptances, accepted_of, among-prefix, bytes_accepted, entries, entries-append, image, inputs, inputs_of, inputs_of-entries, keys, keys-prefix, keys_of, operations, operations-prefix, output, prefix-trans, recorded-append, recorded-runs, sector_record, steps, top, typed_at}
 use Rattle.event_callbacks.specs.declared.operations.OpId.{OpId}
 use Rattle.event_callbacks.specs.declared.operations.OpId.TheVariants as id
-use Rattle.event_callbacks.specs.declared.operations.Operation.{Operation}
-use Rattle.event_callbacks.specs.declared.operations.Operation.TheVariants.{Byte, Write}
-use Rattle.guest_lockstep.specs.Machine.{Machine, Move, Do, Take, Runs}
-use Rattle.guest_lockstep.specs.Recorded.{Recorded}
 use Rattle.guest_lockstep.specs.declared.input.Input.TheVariants as input
-use Rattle.guest_lockstep.specs.declared.reads.Reads.TheVariants.{Logged}
-use Rattle.guest_lockstep.specs.Reach.{Owns, acceptances, image, inputs, keys, operations, output, steps}
-use Rattle.log_entry.specs.Entries.{entries, inputs_of}
 use Rattle.pair_protocol.specs.Copying.{Copying}
-use Rattle.pair_protocol.specs.Faithful.{IsPrefix}
-use Rattle.pair_protocol.specs.Lawful.{Among, top}
-use Rattle.pair_protocol.specs.World.{sector_record}
-use Rattle.pair_protocol.proofs.Traces.Lists.{among-prefix, prefix-trans}
-use Rattle.pair_protocol.proofs.Traces.Moves.{entries-append, inputs_of-entries, keys-prefix, operations-prefix}
-use Rattle.pair_protocol.proofs.Traces.Recorded.{recorded-append, recorded-runs}
-use Rattle.pair_rule.specs.declared.view.Knowledge.{Knowledge}
 use Rattle.pair_rule.specs.Histories.{PlainRun}
 use Rattle.pair_rule.specs.Kinds.{counted_at}
-use Rattle.pair_rule.specs.Knowledge.{Stands}
-use Rattle.pair_rule.specs.Law.{HasPort, Runnable, typed_at}
 use Rattle.pair_rule.specs.Rules.{IsStart, first_known}
-use Rattle.pair_rule.specs.Threads.{IsShown, Opens, PrimaryIsTold, ThreadsAreFaithful, bytes_accepted}
-use Rattle.pair_threads.specs.Leading.{Leads, Says}
 use Rattle.pair_threads.proofs.AtRest.{all_accepted}
-use Rattle.pair_resumed.specs.Settled.{DueIsGiven, IsRested, IsSettled, MayStart, SettledRunsAreShown, accepted_of, keys_of}
 use Rattle.pair_resumed.proofs.Given.{is_acknowledged, none_accepted, none_taken, some_byte}
 use Rattle.pair_resumed.proofs.Following.{Follows, follows_quiet}
 use Rattle.pair_resumed.proofs.Giving.{follows_gives, many}

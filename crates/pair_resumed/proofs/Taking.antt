@@ -1,33 +1,13 @@
 -- An input is taken: its entry is logged. A key was typed, and an acceptance was counted.
 use Rattle.std.proofs.Common.{◌≡◌, ℕ, zero, suc, ◌+◌, ◌<◌, ◌≤◌, inl, inr, List, [], ◌∷◌, ◌++◌, length, Some, None, Option, refl, sym, ap, ◌∙◌, subst, arith, append-nil, length-append, eq-eqb, cond, is_none, if◌then◌else◌}
-use Rattle.disk_dcdd.specs.declared.sector.SectorWrite.{SectorWrite}
+use Rattle.pair_resumed.proofs.Words.{Accepts, AllAre, Among, AreAnswers, Byte, DueIsGiven, Entry, HasLonger, HasWrite, IsAnswer, IsDone, IsFirst, IsPrefix, IsTold, Knowledge, Logged, Machine, Move, NoneUnderWay, Operation, Recorded, Runnable, Runs, SectorWrite, Take, ThreadRun, Write, acceptances, acceptances_of-append, bare, count_entry, entries, entries-append, entry_of, inputs, inputs_of, inputs_of-entries, keys, operations, operations-append, output, output-append, recorded-append, recorded-runs, refusal_of, steps, steps-append, top, typed_at}
 use Rattle.event_callbacks.specs.Operations.{id_of}
 use Rattle.event_callbacks.specs.declared.operations.OpId.TheVariants as id
-use Rattle.event_callbacks.specs.declared.operations.Operation.{Operation}
-use Rattle.event_callbacks.specs.declared.operations.Operation.TheVariants.{Byte, Write}
-use Rattle.guest_lockstep.specs.Machine.{Machine, Move, Take, Runs, refusal_of}
-use Rattle.guest_lockstep.specs.Recorded.{Accepts, Recorded}
 use Rattle.guest_lockstep.specs.declared.input.Input.{Input}
 use Rattle.guest_lockstep.specs.declared.input.Input.TheVariants as input
-use Rattle.guest_lockstep.specs.declared.reads.Reads.TheVariants.{Logged}
-use Rattle.guest_lockstep.specs.Reach.{acceptances, bare, inputs, keys, operations, output, steps}
 use Rattle.guest_lockstep.specs.declared.timed.Bare.TheVariants.{Written}
 use Rattle.i8080_words.specs.declared.refusal.Fault.TheVariants.{NotDue}
-use Rattle.log_entry.specs.Entries.{entries, entry_of, inputs_of}
-use Rattle.log_entry.specs.declared.entry.Entry.{Entry}
-use Rattle.pair_protocol.specs.Faithful.{IsPrefix}
-use Rattle.pair_protocol.specs.Lawful.{Among, IsDone, top}
-use Rattle.pair_protocol.proofs.Traces.Moves.{acceptances_of-append, count_entry, entries-append, inputs_of-entries, operations-append, output-append, steps-append}
-use Rattle.pair_protocol.proofs.Traces.Recorded.{recorded-append, recorded-runs}
-use Rattle.pair_rule.specs.declared.view.Knowledge.{Knowledge}
 use Rattle.pair_rule.specs.Kinds.{counted_at}
-use Rattle.pair_rule.specs.Knowledge.{AllAre, HasWrite}
-use Rattle.pair_rule.specs.Law.{HasLonger, IsTold, Runnable, typed_at}
-use Rattle.pair_rule.specs.Threads.{ThreadRun}
-use Rattle.pair_threads.specs.Ending.{NoneUnderWay}
-use Rattle.pair_threads.specs.Leading.{AreAnswers, IsAnswer}
-use Rattle.pair_threads.specs.Stores.{IsFirst}
-use Rattle.pair_resumed.specs.Settled.{DueIsGiven}
 use Rattle.pair_resumed.proofs.Logging.{IsAt, log_at, log_runs, logged}
 use Rattle.pair_resumed.proofs.Following.{AtPort0, AtPort1, Follows, answers_end, done_by, done_longer, still_none}
 

@@ -2,16 +2,7 @@
 -- released, and whatever was released has its mark among the entries seen.
 use Rattle.std.proofs.Common.{◌≡◌, ℕ, zero, suc, ◌+◌, ◌<◌, ◌≤◌, ◌==◌, cond, Bool, true, false, List, [], ◌∷◌, refl, subst, arith, inl, inr}
 use Rattle.std.proofs.lemmas.Bool.Decides.{leb_tells}
-use Rattle.event_callbacks.specs.declared.operations.Operation.TheVariants.{Byte}
-use Rattle.guest_lockstep.specs.Machine.{Machine}
-use Rattle.log_entry.specs.Entries.{inputs_of}
-use Rattle.guest_lockstep.specs.Reach.{acceptances}
-use Rattle.pair_protocol.specs.World.{World}
-use Rattle.pair_rule.specs.declared.view.Arrived.{Arrived}
-use Rattle.pair_rule.specs.declared.view.Knowledge.{Knowledge}
-use Rattle.pair_rule.specs.Knowledge.{AllAre, Stands, accepted_after}
-use Rattle.pair_rule.specs.Shown.{IsAcknowledged, Shows}
-use Rattle.pair_rule.specs.Threads.{ByteIsAcknowledged, PrimaryIsTold}
+use Rattle.pair_rule.proofs.Words.{AllAre, Arrived, Byte, ByteIsAcknowledged, IsAcknowledged, Knowledge, Machine, PrimaryIsTold, Shows, Stands, World, acceptances, accepted_after, inputs_of}
 
 -- each number past the first n, up to those accepted, is that of a byte that arrived
 arrived_at : (n : ℕ) (arrivals : List Arrived) (number : ℕ) (holds : Arrived → Type 0) → AllAre arrivals holds →

@@ -2,29 +2,8 @@
 use Rattle.std.proofs.Common.{◌≡◌, ℕ, zero, suc, ◌≤◌, max, eqb, cond, Bool, true, false, List, [], ◌∷◌, ◌++◌, length, sym, refl, ap, ◌∙◌, subst, ◌⊎◌, inl, inr, ⊎_elim, arith, eq-eqb, Option, Some, None, slice_get, slice_set}
 use mathlib.Core.Option.{some}
 use lib.ListN.{get_elem?}
-use Rattle.guest_lockstep.specs.Machine.{Machine}
-use Rattle.pair_protocol.specs.Lawful.{Among}
-use Rattle.pair_protocol.specs.Copying.{Copying}
-use Rattle.i8080_words.specs.declared.refusal.Fault.TheVariants.{BadAck}
-use Rattle.pair_protocol.specs.Node.{Node, hears, holds}
-use Rattle.pair_protocol.specs.Refusals.{fault_if, first_of, at_log_entry, at_node, at_acknowledgement, acknowledge_refusal}
-use Rattle.pair_protocol.specs.World.{World, LogEntry, Acknowledgement, with_node}
-use Rattle.pair_events.specs.declared.event.Event.TheVariants.{DeliverLog, Acknowledge, DeliverAcknowledgement}
-use Rattle.pair_protocol.specs.Reply.{MessageIs, HeldIs, New, Old}
-use Rattle.pair_protocol.specs.Row.{Accepts}
+use Rattle.pair_rule.proofs.Words.{Accepts, Acknowledge, Acknowledgement, Among, BadAck, Copying, DeliverAcknowledgement, DeliverLog, Entry, First, HeldIs, Inbox, Knowledge, Leads, Log, LogEntry, Machine, MessageIs, NamedSector, New, Node, Nothing, Old, Packet, Sector, SectorRead, Sectors, SeeEvents, Sent, Shows, Stands, Whole, World, acknowledge_refusal, after_empty, at_acknowledgement, at_log_entry, at_node, backup_node, backup_role, backup_runs, completed, fault_if, first_of, hears, held, holds, last_or, longer_by, named_by, primary_node, primary_role, primary_runs, saw, visible, wanted_then, with_carried, with_node}
 use Rattle.pair_protocol.proofs.OneNode.{with_same}
-use Rattle.pair_rule.specs.Law.{SeeEvents}
-use Rattle.pair_rule.specs.Shown.{First, Nothing}
-use Rattle.pair_rule.specs.declared.view.Knowledge.{Knowledge}
-use Rattle.pair_rule.specs.declared.mailbox.Mailbox.TheVariants.{Inbox, Sectors}
-use Rattle.pair_rule.specs.declared.payload.Packet.{Packet}
-use Rattle.pair_rule.specs.declared.payload.Payload.TheVariants.{Log, Sector}
-use Rattle.pair_rule.specs.declared.payload.Carried.TheVariants.{Whole}
-use Rattle.pair_rule.specs.declared.payload.NamedSector.{NamedSector}
-use Rattle.log_entry.specs.declared.entry.Entry.{Entry}
-use Rattle.shared_disk.specs.declared.disk.SectorRead.{SectorRead}
-use Rattle.pair_rule.specs.Knowledge.{Stands, after_empty, completed, held, last_or, longer_by, named_by, saw, wanted_then, with_carried}
-use Rattle.pair_rule.specs.Shown.{visible, primary_role, primary_runs, backup_role, backup_runs, primary_node, backup_node, Sent, Shows, Leads}
 use Rattle.pair_rule.proofs.Filled.{among_last}
 use Rattle.pair_rule.proofs.ListsThatGrow.{last_among}
 use Rattle.pair_rule.proofs.WordChanges.{held_short}

@@ -3,22 +3,9 @@
 use Rattle.std.proofs.Common.{◌≡◌, ◌==◌, ℕ, List, ◌∷◌, [], ◌++◌, length, Bool, true, false, cond, sym, refl, ap, ◌∙◌, ◌⊎◌, inl, inr, ⊎_elim, eqb-true, Option, Some, None}
 use mathlib.Core.Option.{some}
 use lib.ListN.{get_elem?}
-use Rattle.disk_dcdd.specs.Address.{same_address}
-use Rattle.disk_dcdd.specs.declared.sector.SectorWrite.{SectorWrite}
-use Rattle.log_entry.specs.declared.entry.Entry.{Entry}
+use Rattle.pair_rule.proofs.Words.{Agrees, AgreesOf, AllAre, Among, Carried, Carries, DiskAnswer, DiskView, Entry, IsEntryOf, IsNext, Named, NamedSector, Packet, SectorRead, SectorWrite, WasRead, WhereSome, Whole, and_parts, completed, is_of, read_at, same_address, same_address-is, sector_entry}
 use Rattle.log_entry.specs.declared.entry.Entry.TheVariants as entry
-use Rattle.shared_disk.specs.declared.disk.SectorRead.{SectorRead}
-use Rattle.pair_protocol.specs.Lawful.{Among}
-use Rattle.pair_protocol.proofs.Keeps.Disk.{same_address-is}
-use Rattle.pair_protocol.proofs.Traces.Lists.{and_parts}
-use Rattle.pair_rule.specs.declared.payload.Carried.{Carried}
-use Rattle.pair_rule.specs.declared.payload.Carried.TheVariants.{Whole, Named}
-use Rattle.pair_rule.specs.declared.payload.DiskAnswer.{DiskAnswer}
 use Rattle.pair_rule.specs.declared.payload.DiskAnswer.TheVariants as answer
-use Rattle.pair_rule.specs.declared.payload.NamedSector.{NamedSector}
-use Rattle.pair_rule.specs.declared.payload.Packet.{Packet}
-use Rattle.pair_rule.specs.declared.view.DiskView.{DiskView}
-use Rattle.pair_rule.specs.Knowledge.{Agrees, AgreesOf, AllAre, Carries, IsEntryOf, IsNext, WasRead, WhereSome, completed, is_of, read_at, sector_entry}
 use Rattle.pair_rule.proofs.Elements.{all_in, among_either, among_more, no_read}
 
 abbrev pub AllAgree : DiskView → Type 0

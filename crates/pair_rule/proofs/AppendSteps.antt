@@ -1,28 +1,11 @@
 -- An append is events of the world: what a run of the longer list says of its last move, and what the primary was told.
 use Rattle.std.proofs.Common.{◌≡◌, ℕ, ◌+◌, ◌≤◌, List, [], ◌∷◌, ◌++◌, length, sym, refl, ap, ◌∙◌, arith, eq-eqb, Option, Some, None, is_none, if◌then◌else◌, slice_get}
-use Rattle.guest_lockstep.specs.Machine.{Machine, Move, Runs, refusal_of, sector_refusal}
-use Rattle.guest_lockstep.specs.Recorded.{Accepts, Recorded}
-use Rattle.guest_lockstep.specs.Running.{Quiet}
-use Rattle.guest_lockstep.specs.declared.input.Input.{Input}
+use Rattle.pair_rule.proofs.Words.{Among, AppendEvents, Copying, Entry, HasLonger, Input, IsPrefix, IsTold, Knowledge, Lawful, Leads, Logged, Machine, Move, NotDue, Quiet, Recorded, Runnable, Runs, Rx, Shows, Stands, World, acceptances, acceptances-append, appended, counted_at, entries, entry_of, inputs, inputs_of, inputs_of-append, inputs_of-entries, keys, keys-append, recorded-runs, refusal_of, sector_record, sector_refusal, typed_at}
+use Rattle.guest_lockstep.specs.Recorded.{Accepts}
 use Rattle.guest_lockstep.specs.declared.input.Input.TheVariants as input
-use Rattle.guest_lockstep.specs.declared.reads.Reads.TheVariants.{Logged}
-use Rattle.i8080_words.specs.declared.refusal.Fault.TheVariants.{NotDue}
-use Rattle.log_entry.specs.Entries.{entries, entry_of, inputs_of}
-use Rattle.log_entry.specs.declared.entry.Entry.{Entry}
-use Rattle.log_entry.specs.declared.entry.Entry.TheVariants.{Rx, Sent}
-use Rattle.guest_lockstep.specs.Reach.{inputs, keys, acceptances}
-use Rattle.pair_protocol.specs.Copying.{Copying}
-use Rattle.pair_protocol.specs.Faithful.{IsPrefix}
-use Rattle.pair_protocol.specs.Lawful.{Among, Lawful}
-use Rattle.pair_protocol.specs.World.{World, sector_record}
-use Rattle.pair_protocol.proofs.Traces.Moves.{inputs_of-append, keys-append, acceptances-append, inputs_of-entries}
-use Rattle.pair_protocol.proofs.Traces.Recorded.{recorded-runs}
+use Rattle.log_entry.specs.declared.entry.Entry.TheVariants.{Sent}
 use Rattle.pair_rule.specs.declared.payload.DiskAnswer.TheVariants as answer
-use Rattle.pair_rule.specs.declared.view.Knowledge.{Knowledge}
-use Rattle.pair_rule.specs.Kinds.{counted_at}
-use Rattle.pair_rule.specs.Knowledge.{Stands, appended}
-use Rattle.pair_rule.specs.Law.{AppendEvents, HasLonger, IsTold, MayAppend, Runnable, typed_at}
-use Rattle.pair_rule.specs.Shown.{Shows, Leads}
+use Rattle.pair_rule.specs.Law.{MayAppend}
 use Rattle.pair_rule.proofs.Appends.{mark_leads, key_leads, sent_leads, done_leads, sector_leads}
 use Rattle.pair_rule.proofs.ShownGuards.{all_in, typed_there, accepted_there, done_there, put_there}
 use Rattle.pair_rule.proofs.SameRecord.{is_ready, still}

@@ -1,44 +1,13 @@
 -- An append is events of the world: steps up to the entry's count, its input, and the entry is sent.
 use Rattle.std.proofs.Common.{◌≡◌, ℕ, suc, ◌+◌, ◌-◌, ◌<◌, ◌≤◌, true, false, List, [], ◌∷◌, ◌++◌, length, map, sym, refl, ap, ◌∙◌, subst, inl, inr, ⊎_elim, arith, eq-eqb, ne_eqb, Option, Some, None, slice_get, slice_set, nat_lt, nat_le, is_none, not, ◌||◌, append-nil, ◌==◌}
-use Rattle.disk_dcdd.specs.Address.{same_address}
-use Rattle.disk_dcdd.specs.declared.address.SectorAddress.{SectorAddress}
-use Rattle.event_callbacks.specs.Operations.{id_of}
-use Rattle.event_callbacks.specs.declared.operations.Operation.{Operation}
-use Rattle.guest_lockstep.specs.Machine.{Machine, Move, Do, Take, Runs}
-use Rattle.guest_lockstep.specs.Recorded.{Accepts as IsAccepted, Counts, Recorded}
-use Rattle.guest_lockstep.specs.Running.{Quiet, Begin, More}
-use Rattle.guest_lockstep.specs.declared.input.Input.{Input}
+use Rattle.pair_rule.proofs.Words.{Accepts, Among, AppendEvents, Begin, Copying, Counts, Do, Entry, Event, First, Get, GetReply, Happens, HasWrite, Idle, Input, IsAcknowledged, IsDone, IsPrefix, IsSentBy, Knowledge, Lawful, Leads, LogEntry, LogFull, Logged, Machine, Mark, Message, MessageIs, More, Move, Node, NotDue, Nothing, Operation, PutReply, Quiet, Ran, Recorded, Reply, Runs, SectorAddress, Send, Sent, Shows, Spent, Stands, Step, Take, TakeKey, Taken, TellSent, Timed, Unknown, World, WriteDone, Written, WrongNumber, accepted, among-prefix, among-split, appended, at_node, at_sector_read, at_write_done, backup_node, bare, count_entry, count_of, entries, entries-append, entry_of, fault_if, first_of, get_refusal, id_of, inputs, inputs-append, inputs_of, inputs_of-append, is_number, log_size, map-append, notes_after, notes_from, operations, operations-prefix, primary_node, primary_role, primary_runs, primary_takes, recorded-append, recorded-runs, refusal, same_address, sector_record, send_refusal, step_refusal, steps, take_key_refusal, tell_sent_refusal, terminal, timed_entry, top, visible, with_message, with_node, with_read}
+use Rattle.guest_lockstep.specs.Recorded.{Accepts as IsAccepted}
 use Rattle.guest_lockstep.specs.declared.input.Input.TheVariants as input
-use Rattle.guest_lockstep.specs.declared.reads.Reads.TheVariants.{Logged}
-use Rattle.i8080_words.specs.declared.refusal.Fault.TheVariants.{LogFull, Spent, Idle, Unknown, WrongNumber, NotDue}
-use Rattle.log_entry.specs.Entries.{entries, entry_of, count_of, inputs_of}
-use Rattle.log_entry.specs.declared.entry.Entry.{Entry}
-use Rattle.log_entry.specs.declared.entry.Entry.TheVariants.{Mark}
-use Rattle.guest_lockstep.specs.Reach.{steps, inputs, operations, bare}
-use Rattle.guest_lockstep.specs.declared.timed.Timed.{Timed}
-use Rattle.guest_lockstep.specs.declared.timed.Bare.TheVariants.{Written}
-use Rattle.pair_protocol.specs.Faithful.{IsPrefix}
-use Rattle.pair_rule.specs.Knowledge.{HasWrite}
-use Rattle.pair_protocol.specs.Lawful.{Among, IsDone, top, Lawful}
-use Rattle.pair_protocol.specs.Copying.{Copying}
-use Rattle.pair_protocol.specs.Node.{Node, Primary, primary_takes, notes_after}
-use Rattle.pair_protocol.specs.World.{World, Message, LogEntry, WriteDone, with_node, with_message, SectorRead, terminal, accepted, sector_record, with_read}
-use Rattle.pair_events.specs.declared.event.Event.{Event}
-use Rattle.pair_events.specs.declared.event.Event.TheVariants.{Step, Send, TakeKey, TellSent, PutReply, Get, GetReply}
-use Rattle.pair_protocol.specs.Reply.{Taken, Reply, Ran, MessageIs}
+use Rattle.pair_protocol.specs.Node.{Primary}
+use Rattle.pair_protocol.specs.World.{SectorRead}
 use Rattle.guest_lockstep.specs.declared.running.StopReason.{StopReason}
 use Rattle.guest_lockstep.specs.declared.running.StopReason.TheVariants as reason
-use Rattle.pair_protocol.specs.Row.{Accepts}
-use Rattle.pair_rule.specs.Law.{AppendEvents}
-use Rattle.pair_rule.specs.Shown.{IsAcknowledged, IsSentBy, Happens, First, Nothing}
 use Rattle.pair_protocol.specs.Effects.{Advances, NoneLeft, Gives, Goes}
-use Rattle.pair_protocol.specs.Refusals.{fault_if, first_of, at_node, refusal, step_refusal, send_refusal, log_size, take_key_refusal, tell_sent_refusal, is_number, at_write_done, at_sector_read, get_refusal}
-use Rattle.pair_protocol.proofs.Traces.Lists.{among-prefix, among-split, map-append}
-use Rattle.pair_protocol.proofs.Traces.Moves.{operations-prefix, inputs-append, inputs_of-append, timed_entry, count_entry, entries-append}
-use Rattle.pair_rule.specs.declared.view.Knowledge.{Knowledge}
-use Rattle.pair_rule.specs.Knowledge.{Stands, appended}
-use Rattle.pair_rule.specs.Shown.{visible, notes_from, primary_role, primary_runs, primary_node, backup_node, Sent, Shows, Leads}
-use Rattle.pair_protocol.proofs.Traces.Recorded.{recorded-runs, recorded-append}
 use Rattle.pair_rule.proofs.QuietSteps.{QuietMoves, quiet_moves, quiet_count, quiet_first, notes_more}
 use Rattle.pair_rule.proofs.Filled.{among_last}
 use Rattle.pair_rule.proofs.ListEnds.{get_last, get_end, last_of, too_low, same_self, same_number, not_true, key_room}

@@ -1,18 +1,6 @@
 -- Steps that are events of the world: a seat asks the arbiter, and has won or is halted.
 use Rattle.std.proofs.Common.{◌≡◌, ℕ, List, [], ◌∷◌, ◌++◌, sym, refl, ap, ◌∙◌, inl, inr, Some, slice_get, slice_set}
-use Rattle.guest_lockstep.specs.Machine.{Machine}
-use Rattle.pair_protocol.specs.Copying.{Copying}
-use Rattle.i8080_words.specs.declared.refusal.Fault.TheVariants.{Lost}
-use Rattle.pair_protocol.specs.Node.{Node, halts, wins}
-use Rattle.pair_protocol.specs.Refusals.{fault_if, first_of, at_node, ask_refusal, is_other}
-use Rattle.pair_protocol.specs.World.{World, with_node, with_winner, Winner, winner_in}
-use Rattle.pair_events.specs.declared.event.Event.TheVariants.{Suspect}
-use Rattle.pair_protocol.specs.Reply.{Won, Refused}
-use Rattle.pair_protocol.specs.Row.{Row, Accepts, Refuses}
-use Rattle.pair_rule.specs.Shown.{First, Nothing}
-use Rattle.pair_rule.specs.declared.view.Knowledge.{Knowledge}
-use Rattle.pair_rule.specs.Knowledge.{winner_of, primary_asked, backup_asked}
-use Rattle.pair_rule.specs.Shown.{Visible, visible, primary_node, backup_node, winners_of, Shows, ShowsVisible, Leads}
+use Rattle.pair_rule.proofs.Words.{Accepts, Copying, First, Knowledge, Leads, Lost, Machine, Node, Nothing, Refused, Refuses, Row, Shows, ShowsVisible, Suspect, Visible, Winner, Won, World, ask_refusal, at_node, backup_asked, backup_node, fault_if, first_of, halts, is_other, primary_asked, primary_node, visible, winner_in, winner_of, winners_of, wins, with_node, with_winner}
 use Rattle.pair_rule.proofs.ShownNodes.{serving, waiting, first_node, second_node}
 
 module _ {S : Type 0} (M : Machine S) (C : Copying S) (typed0 typed1 : List ℕ) (k : Knowledge) (w : World S)

@@ -1,19 +1,6 @@
 -- A generation begins: the bytes are typed, one after another.
 use Rattle.std.proofs.Common.{ℕ, List, [], ◌∷◌, ◌++◌, length, refl, sym, subst, append_assoc, append-nil}
-use Rattle.guest_lockstep.specs.Machine.{Machine}
-use Rattle.guest_lockstep.specs.declared.reads.Reads.TheVariants.{Logged}
-use Rattle.pair_protocol.specs.Lawful.{Lawful}
-use Rattle.pair_protocol.specs.Change.{AtBoot}
-use Rattle.pair_protocol.specs.Copying.{Copying}
-use Rattle.pair_events.specs.declared.event.Event.{Event}
-use Rattle.pair_events.specs.declared.event.Event.TheVariants.{TypeByte}
-use Rattle.pair_protocol.specs.Reply.{Reply, TypedAt}
-use Rattle.pair_protocol.specs.Laws.{RowIsChanges, ChangesReach}
-use Rattle.pair_protocol.specs.Row.{Accepts}
-use Rattle.pair_protocol.specs.World.{World, opening}
-use Rattle.pair_rule.specs.Rules.{first_known}
-use Rattle.pair_rule.specs.Law.{StartsShown}
-use Rattle.pair_rule.specs.Shown.{Happens, First, Nothing, Shows}
+use Rattle.pair_rule.proofs.Words.{Accepts, AtBoot, ChangesReach, Copying, Event, First, Happens, Lawful, Logged, Machine, Nothing, Reply, RowIsChanges, Shows, StartsShown, TypeByte, TypedAt, World, first_known, opening}
 use Rattle.pair_rule.proofs.FirstTable.{first_stands}
 use Rattle.pair_rule.proofs.Law.{run_reaches}
 

@@ -2,19 +2,9 @@
 use Rattle.std.proofs.Common.{◌≡◌, ℕ, ◌+◌, ◌<◌, Bool, true, false, List, [], ◌∷◌, ◌++◌, get_or, set, sym, refl, ap, ◌∙◌, subst, arith, Option, Some, None}
 use mathlib.Core.Option.{some}
 use lib.ListN.{get_elem?}
-use Rattle.atomic_table.specs.Table.{takes, gives, chain, Allows}
-use Rattle.pair_rule.specs.declared.mailbox.Mailbox.{Mailbox}
-use Rattle.pair_rule.specs.declared.payload.Payload.{Payload}
-use Rattle.pair_rule.specs.declared.view.Side.{Side}
-use Rattle.pair_rule.specs.declared.view.Core.{Core}
-use Rattle.pair_rule.specs.declared.view.SeatView.{SeatView}
-use Rattle.pair_rule.specs.Boxes.{box_index, Who, seat_index, filler, emptier, slot_of, is_full, number_of, full_word, empty_word, Boxed, filler_met, side}
-use Rattle.pair_rule.specs.Knowledge.{words_of, Fits, CanFill, after_fill, after_empty, WhereSome}
-use Rattle.pair_rule.specs.Histories.{AsksNot, MayPut}
+use Rattle.pair_rule.proofs.Words.{Allows, AsksNot, Boxed, CanFill, Core, Emptied, Facts, Filled, Fits, Mailbox, MayPut, Mine, Payload, Rule, Same, SeatView, Side, WhereSome, Who, after_empty, after_fill, box_index, chain, emptied, emptier, empties, empty_word, filled, filler, filler_met, fills, found_empty, full_word, gives, has, is_full, new_side, number_of, seat_index, side, side_at, slot_of, takes, with_core, words_of}
 use Rattle.pair_rule.specs.Histories as plain
 use Rattle.pair_rule.proofs.Histories.{asks_same, may_put}
-use Rattle.pair_rule.specs.Rules.{Same, has, Facts, Rule, new_side}
-use Rattle.pair_rule.specs.Kinds.{Mine, side_at, filled, emptied, found_empty, with_core, Filled, Emptied, fills, empties}
 use Rattle.pair_rule.proofs.Slots.{swapped, found, within, or_both}
 use Rattle.pair_rule.proofs.SlotSwaps.{apart, inside}
 use Rattle.pair_rule.proofs.Parts.{nothing, one_box, steps}

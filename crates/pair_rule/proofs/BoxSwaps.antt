@@ -2,20 +2,7 @@
 use Rattle.std.proofs.Common.{◌≡◌, ◌≢◌, ℕ, ◌+◌, ◌<◌, true, false, List, ◌++◌, set, get_or, sym, refl, ap, ◌∙◌, subst, ⊎_elim, arith, length-set, Option, Some, None}
 use mathlib.Core.Option.{some, some-injective}
 use lib.ListN.{get_elem?}
-use Rattle.atomic_table.specs.Table.{State, Act, Valid, homes_after, carried_after}
-use Rattle.atomic_table.proofs.Lists.{at_set, set_here, set_else}
-use Rattle.pair_rule.specs.declared.mailbox.Mailbox.{Mailbox}
-use Rattle.pair_rule.specs.declared.mailbox.Mailbox.TheVariants.{Outbox, Inbox, Bytes0, Bytes1, Requests, Answers, Lookups, Sectors}
-use Rattle.pair_rule.specs.declared.payload.Payload.{Payload}
-use Rattle.pair_rule.specs.declared.view.Side.{Side}
-use Rattle.pair_rule.specs.declared.view.Knowledge.{Knowledge}
-use Rattle.pair_rule.specs.declared.view.Core.{Core}
-use Rattle.pair_rule.specs.declared.view.SeatView.{SeatView}
-use Rattle.pair_rule.specs.Boxes.{Homes, box_index, Who, seat_index, filler, emptier, slot_of, is_full, number_of, full_word, empty_word, Boxed, filler_met, side, Laid, Boxes}
-use Rattle.pair_rule.specs.Knowledge.{words_of, Fits, Stands, after_fill, after_empty, WhereSome}
-use Rattle.pair_rule.specs.Histories.{PlainRun}
-use Rattle.pair_rule.specs.Rules.{Sized, Same, Facts, Rule, new_side}
-use Rattle.pair_rule.specs.Kinds.{Mine, side_at, filled, emptied, found_empty}
+use Rattle.pair_rule.proofs.Words.{Act, Answers, Boxed, Boxes, Bytes0, Bytes1, Core, Facts, Fits, Homes, Inbox, Knowledge, Laid, Lookups, Mailbox, Mine, Outbox, Payload, PlainRun, Requests, Rule, Same, SeatView, Sectors, Side, Sized, Stands, State, Valid, WhereSome, Who, after_empty, after_fill, at_set, box_index, carried_after, emptied, emptier, empty_word, filled, filler, filler_met, found_empty, full_word, homes_after, is_full, new_side, number_of, seat_index, set_else, set_here, side, side_at, slot_of, words_of}
 use Rattle.pair_rule.proofs.Slots as slots
 use Rattle.pair_rule.proofs.Slots.{swapped, given, box_stays, slot_full, slot_empty, set_both, at_or}
 use Rattle.pair_rule.proofs.SlotSwaps.{laid_swap, box_else, apart, inside}

@@ -1,16 +1,7 @@
 -- Each swap at the boxes between primary and disk is counted in what the seat knows.
 use Rattle.std.proofs.Common.{◌≡◌, ◌≢◌, ℕ, ◌+◌, ◌<◌, List, [], ◌∷◌, length, set, ap, ◌∙◌, arith, length-append}
-use Rattle.atomic_table.proofs.Lists.{set_here, set_else}
-use Rattle.event_callbacks.specs.declared.operations.Operation.TheVariants.{Byte, Write}
-use Rattle.pair_rule.specs.declared.mailbox.Mailbox.{Mailbox}
-use Rattle.pair_rule.specs.declared.mailbox.Mailbox.TheVariants.{Outbox, Inbox, Bytes0, Bytes1, Requests, Answers, Lookups, Sectors}
-use Rattle.pair_rule.specs.declared.payload.Payload.{Payload}
-use Rattle.pair_rule.specs.declared.payload.Payload.TheVariants.{Log, Out, Request, Answer, Lookup, Sector}
-use Rattle.pair_rule.specs.declared.view.Side.{Side}
-use Rattle.pair_rule.specs.declared.view.Knowledge.{Knowledge}
-use Rattle.pair_rule.specs.Boxes.{box_index}
-use Rattle.pair_rule.specs.Knowledge.{Fits, after_empty, after_fill}
-use Rattle.pair_rule.specs.Rules.{CountedBy, new_side, side_at}
+use Rattle.pair_rule.proofs.Words.{Answer, Answers, Byte, Bytes0, Bytes1, CountedBy, Fits, Inbox, Knowledge, Log, Lookup, Lookups, Mailbox, Out, Outbox, Payload, Request, Requests, Sector, Sectors, Side, Write, after_empty, after_fill, box_index, new_side, set_else, set_here}
+use Rattle.pair_rule.specs.Rules.{side_at}
 use Rattle.pair_rule.proofs.Slots.{or_both, or_of}
 
 here : (sides : List Side) (i : ℕ) (y : Side) → i < length sides → side_at (set sides i y) i ≡ y

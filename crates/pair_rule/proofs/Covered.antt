@@ -1,20 +1,9 @@
 -- An operation that is outstanding and covered by its note was given by a step whose mark is acknowledged.
 use Rattle.std.proofs.Common.{◌≡◌, ◌≢◌, ℕ, suc, ◌<◌, Bool, true, false, List, [], ◌∷◌, ◌++◌, length, sym, refl, ap, ◌∙◌, inl, inr, ◌⊎◌, arith, Option, Some, None, append-nil, append_assoc, ◌==◌, ◌&&◌, nat_lt, nat_le, if◌then◌else◌}
-use Rattle.event_callbacks.specs.Operations.{id_of}
-use Rattle.event_callbacks.specs.declared.operations.OpId.{OpId}
+use Rattle.pair_rule.proofs.Words.{Do, Entry, Input, IsAcknowledged, Lawful, Logged, Machine, Move, Note, OpId, Operation, Runs, Take, covers, entries, entry_of, id_of, marks, note_of, notes_after, notes_from, same_name, same_some}
 use Rattle.event_callbacks.specs.declared.operations.OpId.TheVariants as id
-use Rattle.event_callbacks.specs.declared.operations.Operation.{Operation}
-use Rattle.guest_lockstep.specs.Machine.{Machine, Move, Do, Take, Runs}
 use Rattle.guest_lockstep.specs.Outstanding.{ComesAndGoes, completed_by}
-use Rattle.guest_lockstep.specs.declared.input.Input.{Input}
-use Rattle.guest_lockstep.specs.declared.reads.Reads.TheVariants.{Logged}
-use Rattle.log_entry.specs.Entries.{entries, entry_of, marks}
-use Rattle.log_entry.specs.declared.entry.Entry.{Entry}
-use Rattle.pair_protocol.specs.Lawful.{Lawful}
-use Rattle.pair_protocol.specs.Node.{Note, covers, note_of, notes_after, same_name}
 use Rattle.pair_protocol.specs.Waiting.{waits_for}
-use Rattle.pair_protocol.proofs.Traces.Lists.{same_some}
-use Rattle.pair_rule.specs.Shown.{IsAcknowledged, notes_from}
 
 -- ---- names
 

@@ -1,10 +1,7 @@
 -- The elements of lists that grow by one.
 use Rattle.std.proofs.Common.{◌≡◌, ℕ, List, [], ◌∷◌, ◌++◌, sym, refl, subst, ◌⊎◌, inl, inr, ⊎_elim, Option, Some, None}
-use Rattle.pair_protocol.specs.Lawful.{Among}
-use Rattle.pair_rule.specs.declared.payload.DiskAnswer.{DiskAnswer}
+use Rattle.pair_rule.proofs.Words.{AllAre, Among, DiskAnswer, SectorRead, WhereSome}
 use Rattle.pair_rule.specs.declared.payload.DiskAnswer.TheVariants as answer
-use Rattle.shared_disk.specs.declared.disk.SectorRead.{SectorRead}
-use Rattle.pair_rule.specs.Knowledge.{AllAre, WhereSome}
 
 module _ {A : Type 0} where
   pub among_more : (x : A) (xs ys : List A) → Among x xs → Among x (xs ++ ys)

@@ -1,19 +1,6 @@
 -- What held still holds after boxes are emptied.
 use Rattle.std.proofs.Common.{◌+◌, [], ◌∷◌, ◌++◌, length, refl, Option, Some}
-use Rattle.disk_dcdd.specs.declared.address.SectorAddress.{SectorAddress}
-use Rattle.event_callbacks.specs.declared.operations.Operation.{Operation}
-use Rattle.log_entry.specs.declared.entry.Entry.{Entry}
-use Rattle.shared_disk.specs.declared.disk.SectorRead.{SectorRead}
-use Rattle.pair_protocol.specs.Lawful.{Among}
-use Rattle.pair_rule.specs.declared.mailbox.Mailbox.{Mailbox}
-use Rattle.pair_rule.specs.declared.mailbox.Mailbox.TheVariants.{Outbox, Inbox, Bytes0, Bytes1, Requests, Answers, Lookups, Sectors}
-use Rattle.pair_rule.specs.declared.payload.Packet.{Packet}
-use Rattle.pair_rule.specs.declared.payload.Payload.{Payload}
-use Rattle.pair_rule.specs.declared.payload.Payload.TheVariants.{Log, Out, Request, Answer, Lookup, Sector}
-use Rattle.pair_rule.specs.declared.payload.DiskRequest.{DiskRequest}
-use Rattle.pair_rule.specs.declared.payload.DiskAnswer.{DiskAnswer}
-use Rattle.pair_rule.specs.declared.view.Knowledge.{Knowledge}
-use Rattle.pair_rule.specs.Knowledge.{IsEntryOf, IsByteOf, IsAsked, Fits, Stands, after_empty, after_sector, completed, grown}
+use Rattle.pair_rule.proofs.Words.{Among, Answer, Answers, Bytes0, Bytes1, DiskAnswer, DiskRequest, Entry, Fits, Inbox, IsAsked, IsByteOf, IsEntryOf, Knowledge, Log, Lookup, Lookups, Mailbox, Operation, Out, Outbox, Packet, Payload, Request, Requests, Sector, SectorAddress, SectorRead, Sectors, Stands, after_empty, after_sector, completed, grown}
 use Rattle.pair_rule.proofs.BoxSwaps.{Keeps}
 use Rattle.pair_rule.proofs.Filled.{all_more}
 use Rattle.pair_rule.proofs.ListsThatGrow.{grown_length, grown_prefix, grown_wanted, longer_by_length, longer_by_prefix, longer_by_wanted, rising_higher}

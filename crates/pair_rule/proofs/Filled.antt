@@ -2,32 +2,10 @@
 use Rattle.std.proofs.Common.{◌≡◌, ℕ, ◌+◌, List, [], ◌∷◌, ◌++◌, length, sym, refl, ◌∙◌, subst, inl, inr, Option, Some, None}
 use mathlib.Core.Option.{some}
 use lib.ListN.{get_elem?}
-use Rattle.atomic_table.proofs.Lists.{at_longer}
-use Rattle.disk_dcdd.specs.declared.address.SectorAddress.{SectorAddress}
-use Rattle.disk_dcdd.specs.declared.sector.SectorWrite.{SectorWrite}
-use Rattle.event_callbacks.specs.declared.operations.Operation.{Operation}
-use Rattle.event_callbacks.specs.declared.operations.Operation.TheVariants.{Byte, Write}
-use Rattle.log_entry.specs.declared.entry.Entry.{Entry}
-use Rattle.pair_protocol.specs.Lawful.{Among}
-use Rattle.pair_rule.specs.declared.mailbox.Mailbox.{Mailbox}
-use Rattle.pair_rule.specs.declared.mailbox.Mailbox.TheVariants.{Outbox, Inbox, Bytes0, Bytes1, Requests, Answers, Lookups, Sectors}
-use Rattle.pair_rule.specs.declared.payload.Packet.{Packet}
-use Rattle.pair_rule.specs.declared.payload.Payload.{Payload}
-use Rattle.pair_rule.specs.declared.payload.Payload.TheVariants.{Log, Out, Request, Answer, Lookup, Sector}
-use Rattle.pair_rule.specs.declared.payload.DiskRequest.{DiskRequest}
+use Rattle.pair_rule.proofs.Words.{Agrees, AgreesOf, AllAre, Among, Answer, Answers, Arrived, Byte, Bytes0, Bytes1, CanFill, Carries, DiskAnswer, DiskRequest, DiskView, Entry, Fits, Inbox, IsAsked, IsByteOf, IsEntryOf, IsNext, IsReplied, Knowledge, Log, Lookup, Lookups, Mailbox, NamedSector, Operation, Out, Outbox, Packet, Payload, PortStands, PrimaryView, Request, Requests, SamePart, Sector, SectorAddress, SectorRead, SectorWrite, Sectors, Stands, WhereSome, Write, after_empty, after_fill, after_sector, at_longer, emptier, filler, grown, put_by, with_release, with_request}
 use Rattle.pair_rule.specs.declared.payload.DiskRequest.TheVariants as ask
-use Rattle.pair_rule.specs.declared.payload.DiskAnswer.{DiskAnswer}
 use Rattle.pair_rule.specs.declared.payload.DiskAnswer.TheVariants as answer
-use Rattle.pair_rule.specs.declared.view.Arrived.{Arrived}
 use Rattle.pair_rule.specs.declared.view.PrimaryCall.{PrimaryCall}
-use Rattle.pair_rule.specs.declared.view.PrimaryView.{PrimaryView}
-use Rattle.pair_rule.specs.declared.view.DiskView.{DiskView}
-use Rattle.pair_rule.specs.declared.view.Knowledge.{Knowledge}
-use Rattle.pair_rule.specs.declared.payload.NamedSector.{NamedSector}
-use Rattle.shared_disk.specs.declared.disk.SectorRead.{SectorRead}
-use Rattle.pair_rule.specs.Boxes.{filler, emptier}
-use Rattle.pair_rule.specs.Knowledge.{Agrees, AgreesOf, Carries, IsEntryOf, IsNext, after_sector, IsByteOf, IsAsked, IsReplied, Fits, WhereSome, AllAre, PortStands, Stands, grown, put_by, with_release, with_request, after_fill, after_empty, CanFill}
-use Rattle.pair_rule.specs.Rules.{SamePart}
 use Rattle.pair_rule.proofs.Parts.{Local, nothing, on_primary, on_link, on_backup, on_terminal, on_disk}
 use Rattle.pair_rule.proofs.BoxSwaps.{Keeps, keeps_all}
 use Rattle.pair_rule.proofs.Agree.{agree_answer, agree_found, carries_all, entry_given, next_given}

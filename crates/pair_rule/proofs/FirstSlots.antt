@@ -3,14 +3,7 @@ use Rattle.std.proofs.Common.{◌≡◌, ℕ, Bool, true, false, List, [], ◌�
 use mathlib.Core.Option as maybe
 use mathlib.Core.Option.{some, none, some-injective}
 use lib.ListN.{get_elem?}
-use Rattle.atomic_table.specs.Table.{homes_after, carried_after, Act, takes, gives, Valid, Allows}
-use Rattle.atomic_table.proofs.Lists.{set_else}
-use Rattle.pair_rule.specs.declared.payload.Payload.{Payload}
-use Rattle.pair_rule.specs.declared.view.Core.{Core}
-use Rattle.pair_rule.specs.declared.view.SeatView.{SeatView}
-use Rattle.pair_rule.specs.Boxes.{Homes, box_index, Who, seat_index, Laid}
-use Rattle.pair_rule.specs.Rules.{Sized, Same, has, Facts, Rule}
-use Rattle.pair_rule.specs.Kinds.{Mine, with_core, with_slot, takes_first_slot, gives_last_slot}
+use Rattle.pair_rule.proofs.Words.{Act, Allows, Core, Facts, Homes, Laid, Mine, Payload, Rule, Same, SeatView, Sized, Valid, Who, box_index, carried_after, gives, gives_last_slot, has, homes_after, seat_index, set_else, takes, takes_first_slot, with_core, with_slot}
 use Rattle.pair_rule.proofs.Slots.{set_both, box_stays}
 use Rattle.pair_rule.proofs.SlotSwaps.{laid_first, laid_last, home_else}
 use Rattle.pair_rule.proofs.Parts.{one_seat, steps}

@@ -3,16 +3,9 @@ use Rattle.std.proofs.Common.{◌≡◌, ℕ, zero, suc, ◌+◌, ◌<◌, ◌�
 use mathlib.Core.Option.{some, some-injective, some-ne-none}
 use lib.ListN.{get_elem?}
 use Rattle.atomic_table.specs.Table.{opening}
-use Rattle.pair_rule.specs.declared.mailbox.Mailbox.{Mailbox}
-use Rattle.pair_rule.specs.declared.mailbox.Mailbox.TheVariants.{Outbox, Inbox, Bytes0, Bytes1, Requests, Answers, Lookups, Sectors}
-use Rattle.pair_rule.specs.declared.view.Side.{Side}
-use Rattle.pair_rule.specs.declared.view.Knowledge.{Knowledge}
-use Rattle.pair_rule.specs.declared.view.SeatView.{SeatView}
-use Rattle.pair_rule.specs.Boxes.{slot_of, is_full, Boxed, Homes, box_index, Who, Primary, Link, Backup, Terminal, Disk}
-use Rattle.pair_rule.specs.Knowledge.{Fits, Stands, WhereSome, winner_of}
+use Rattle.pair_rule.proofs.Words.{Answers, Backup, Boxed, Bytes0, Bytes1, Disk, Fits, Homes, Inbox, IsStart, Knowledge, Link, Lookups, Mailbox, Outbox, Primary, Requests, Rule, Same, SamePart, SeatView, Sectors, Side, Sized, Stands, Terminal, WhereSome, Who, box_index, core_of, first_known, has, is_full, new_side, slot_of, view_of, winner_of}
 use Rattle.pair_rule.specs.Histories.{Opens}
 use Rattle.pair_rule.proofs.Agree.{AllAgree}
-use Rattle.pair_rule.specs.Rules.{SamePart, Sized, Same, has, IsStart, Rule, first_known, core_of, view_of, new_side}
 
 abbrev homes0 : Homes
 homes0 = some None ∷ some None ∷ some None ∷ some None ∷ some None ∷ some None ∷ some None ∷ some None ∷ some None ∷ some None

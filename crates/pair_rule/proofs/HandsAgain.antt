@@ -2,11 +2,7 @@
 -- byte of that one has arrived.
 use Rattle.std.proofs.Common.{◌≡◌, ℕ, ◌+◌, Bool, true, false, cond, List, Option, Some, None, refl, sym, ap, ◌∙◌, arith, eqb-true, ne_eqb}
 use Rattle.std.specs.Prelude.{◌==◌}
-use Rattle.event_callbacks.specs.declared.operations.Operation.{Operation}
-use Rattle.event_callbacks.specs.declared.operations.Operation.TheVariants.{Byte, Write}
-use Rattle.pair_rule.specs.declared.view.Arrived.{Arrived}
-use Rattle.pair_rule.specs.Knowledge.{accepted_after, arrives}
-use Rattle.pair_rule.specs.Rules.{CountsAs}
+use Rattle.pair_rule.proofs.Words.{Arrived, Byte, CountsAs, Operation, Write, accepted_after, arrives}
 use Rattle.pair_rule.proofs.ListsThatGrow.{more_accepted}
 
 -- how many bytes are accepted after n of them and this one

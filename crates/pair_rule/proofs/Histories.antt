@@ -1,17 +1,6 @@
 -- What a seat may do is known to the seat itself.
 use Rattle.std.proofs.Common.{◌≡◌, sym, ap, ◌∙◌, subst}
-use Rattle.pair_rule.specs.declared.mailbox.Mailbox.{Mailbox}
-use Rattle.pair_rule.specs.declared.mailbox.Mailbox.TheVariants.{Outbox, Inbox, Bytes0, Bytes1, Requests, Answers, Lookups, Sectors}
-use Rattle.pair_rule.specs.declared.payload.Payload.{Payload}
-use Rattle.pair_rule.specs.declared.payload.Payload.TheVariants.{Log, Out, Request, Answer, Lookup, Sector}
-use Rattle.pair_rule.specs.declared.view.BackupView.{BackupView}
-use Rattle.pair_rule.specs.declared.view.DiskView.{DiskView}
-use Rattle.pair_rule.specs.declared.view.Knowledge.{Knowledge}
-use Rattle.pair_rule.specs.declared.view.PrimaryView.{PrimaryView}
-use Rattle.pair_rule.specs.Boxes.{Who, Primary, Link, Backup, Terminal, Disk, filler}
-use Rattle.pair_rule.specs.Histories.{AsksNot, IsReply, MayAppend, MayPut}
-use Rattle.pair_rule.specs.Knowledge.{Finds, FirstsAgree, FirstsAgreeOf, Replies}
-use Rattle.pair_rule.specs.Rules.{SamePart}
+use Rattle.pair_rule.proofs.Words.{Answer, Answers, AsksNot, Backup, BackupView, Bytes0, Bytes1, Disk, DiskView, Finds, FirstsAgree, FirstsAgreeOf, Inbox, IsReply, Knowledge, Link, Log, Lookup, Lookups, Mailbox, MayAppend, MayPut, Out, Outbox, Payload, Primary, PrimaryView, Replies, Request, Requests, SamePart, Sector, Sectors, Terminal, Who, filler}
 
 pub asks_same : (s : Who) (k l : Knowledge) → SamePart s k l → AsksNot s k → AsksNot s l
 asks_same Primary k l e none = ap (λ (p : PrimaryView). p.winner) (sym e) ∙ none

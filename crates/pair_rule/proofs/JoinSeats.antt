@@ -4,20 +4,7 @@ use mathlib.Core.Option.{some, some-injective}
 use mathlib.Core.Logic.{dite}
 use native.Mathlib.Decide.{ℕ_discrete}
 use lib.ListN.{get_elem?}
-use Rattle.atomic_table.specs.Table.{Joins, Final, Seen}
-use Rattle.atomic_table.proofs.Lists.{at_set, set_here, set_else}
-use Rattle.pair_rule.specs.declared.mailbox.Mailbox.{Mailbox}
-use Rattle.pair_rule.specs.declared.mailbox.Mailbox.TheVariants.{Outbox, Inbox, Bytes0, Bytes1, Requests, Answers, Lookups, Sectors}
-use Rattle.pair_rule.specs.declared.payload.Payload.{Payload}
-use Rattle.pair_rule.specs.declared.view.Side.{Side}
-use Rattle.pair_rule.specs.declared.view.Knowledge.{Knowledge}
-use Rattle.pair_rule.specs.declared.view.Core.{Core}
-use Rattle.pair_rule.specs.declared.view.SeatView.{SeatView}
-use Rattle.pair_rule.specs.Boxes.{Boxed, Homes, box_index, Who, Primary, Link, Backup, Terminal, Disk, seat_index, filler, emptier, is_full}
-use Rattle.pair_rule.specs.Knowledge.{words_of, Stands}
-use Rattle.pair_rule.specs.Histories.{PlainRun}
-use Rattle.pair_rule.specs.Rules.{Facts, SamePart, Sized, Same, Has, has, Rule, new_side}
-use Rattle.pair_rule.specs.Kinds.{side_at, which, mixed, know_of, part_of, with_part, spent_view}
+use Rattle.pair_rule.proofs.Words.{Answers, Backup, Boxed, Bytes0, Bytes1, Core, Disk, Facts, Final, Has, Homes, Inbox, Joins, Knowledge, Link, Lookups, Mailbox, Outbox, Payload, PlainRun, Primary, Requests, Rule, Same, SamePart, SeatView, Sectors, Seen, Side, Sized, Stands, Terminal, Who, at_set, box_index, emptier, filler, has, is_full, know_of, mixed, new_side, part_of, seat_index, set_else, set_here, side_at, spent_view, which, with_part, words_of}
 use Rattle.pair_rule.proofs.Slots.{at_or}
 use Rattle.pair_rule.proofs.Parts.{one_seat, few_boxes, few_seats, set_there}
 use Rattle.pair_rule.proofs.BoxSwaps.{Table, box, here as box_word}

@@ -1,24 +1,13 @@
 -- Steps of the table that keep all promises are steps of the threads: each call of the primary is there with what it knew
 -- then, and the disk's answers only grow.
 use Rattle.std.proofs.Common.{ℕ, zero, suc, List, [], ◌∷◌, ◌++◌}
-use Rattle.guest_lockstep.specs.Machine.{Machine}
-use Rattle.log_entry.specs.declared.entry.Entry.{Entry}
-use Rattle.log_entry.specs.declared.entry.Entry.TheVariants.{Mark, Rx, Sent, Sector, Written, Read}
-use Rattle.pair_rule.specs.declared.mailbox.Mailbox.{Mailbox}
-use Rattle.pair_rule.specs.declared.mailbox.Mailbox.TheVariants.{Outbox, Inbox, Bytes0, Bytes1, Requests, Answers, Lookups, Sectors}
+use Rattle.pair_rule.proofs.Words.{AllAre, Answer, Answers, AreKept, Bytes0, Bytes1, CanFill, Entry, Goes, Inbox, IsTold, KeptStepsAreThreads, Knowledge, Log, Lookup, Lookups, Machine, Mailbox, Mark, MayPut, Opens, Out, Outbox, Payload, PlainRun, PlainStep, Read, ReadsBoot, Request, Requests, Rx, Sector, Sectors, TableStep, after_empty, after_fill, knew}
+use Rattle.log_entry.specs.declared.entry.Entry.TheVariants.{Sent, Sector, Written}
 use Rattle.pair_rule.specs.declared.payload.DiskAnswer.TheVariants as answer
 use Rattle.pair_rule.specs.declared.payload.DiskRequest.TheVariants as ask
-use Rattle.pair_rule.specs.declared.payload.Payload.{Payload}
-use Rattle.pair_rule.specs.declared.payload.Payload.TheVariants.{Log, Out, Request, Answer, Lookup, Sector}
-use Rattle.pair_rule.specs.declared.view.Knowledge.{Knowledge}
 use Rattle.pair_rule.specs.Histories as plain
-use Rattle.pair_rule.specs.Histories.{MayPut, PlainRun, PlainStep}
-use Rattle.pair_rule.specs.Knowledge.{AllAre, CanFill, after_empty, after_fill}
-use Rattle.pair_rule.specs.Law.{IsTold}
 use Rattle.pair_rule.specs.Steps as table
-use Rattle.pair_rule.specs.Steps.{ReadsBoot, TableStep}
 use Rattle.pair_rule.proofs.ReadsAgree.{agrees, finds_agree}
-use Rattle.pair_rule.specs.Threads.{AreKept, Goes, KeptStepsAreThreads, Opens, knew}
 
 -- ---- all of a longer list
 

@@ -1,26 +1,6 @@
 -- Each kind of step, one after another.
 use Rattle.std.proofs.Common.{◌≡◌, ℕ, zero, suc, ◌+◌, ◌<◌, List, [], ◌∷◌, ◌++◌, sym, refl, ap, ◌∙◌, subst, arith, Some}
-use Rattle.event_callbacks.specs.Operations.{id_of}
-use Rattle.event_callbacks.specs.declared.operations.Operation.{Operation}
-use Rattle.event_callbacks.specs.declared.operations.Operation.TheVariants.{Byte}
-use Rattle.guest_lockstep.specs.Machine.{Machine}
-use Rattle.guest_lockstep.specs.declared.reads.Reads.TheVariants.{Logged}
-use Rattle.log_entry.specs.Entries.{entries}
-use Rattle.guest_lockstep.specs.Reach.{steps}
-use Rattle.pair_protocol.specs.Change.{Reached}
-use Rattle.pair_protocol.specs.Copying.{Copying}
-use Rattle.pair_events.specs.declared.event.Event.{Event}
-use Rattle.pair_events.specs.declared.event.Event.TheVariants.{Release}
-use Rattle.pair_protocol.specs.Reply.{Reply}
-use Rattle.pair_protocol.specs.Lawful.{Among}
-use Rattle.pair_protocol.specs.Laws.{RowIsChanges, ChangesReach, ReachedIsFaithful, ReachedGrows}
-use Rattle.pair_protocol.specs.Node.{note_of, covers}
-use Rattle.pair_protocol.specs.World.{World}
-use Rattle.pair_protocol.proofs.Traces.Recorded.{recorded-runs}
-use Rattle.pair_rule.specs.declared.view.Knowledge.{Knowledge}
-use Rattle.pair_rule.specs.Knowledge.{IsByteOf, Stands, WhereSome}
-use Rattle.pair_rule.specs.Law.{HasPort, HasRun, IsCovered, Runnable, Appends, Holds, Sees, Takes, Completes, PrimaryWins, PrimaryLoses, BackupWins, BackupLoses, Releases, Arrives, Puts, StepsAreEvents, StepsAreFaithful, with_released}
-use Rattle.pair_rule.specs.Shown.{Happens, First, Nothing, Leads, Shows, hand_of, notes_from}
+use Rattle.pair_rule.proofs.Words.{Among, Appends, Arrives, BackupLoses, BackupWins, Byte, ChangesReach, Completes, Copying, Event, First, Happens, HasPort, HasRun, Holds, IsByteOf, IsCovered, Knowledge, Leads, Logged, Machine, Nothing, Operation, PrimaryLoses, PrimaryWins, Puts, Reached, ReachedGrows, ReachedIsFaithful, Release, Releases, Reply, RowIsChanges, Runnable, Sees, Shows, Stands, StepsAreEvents, StepsAreFaithful, Takes, WhereSome, World, covers, entries, hand_of, id_of, note_of, notes_from, recorded-runs, steps, with_released}
 use Rattle.pair_rule.proofs.AppendSteps.{append_leads}
 use Rattle.pair_rule.proofs.SameRecord.{port_there}
 use Rattle.pair_rule.proofs.Covered.{is_acknowledged}

@@ -1,14 +1,8 @@
 -- The end of a list that grows by one element, and what follows from equations of numbers, names and tests.
 use Rattle.std.proofs.Common.{◌≡◌, ℕ, zero, suc, ◌<◌, Bool, true, false, List, [], ◌∷◌, ◌++◌, length, refl, ap, ◌⊎◌, inl, inr, ⊎_elim, arith, Option, Some, None, slice_get, nat_le}
-use Rattle.disk_dcdd.specs.Address.{same_address}
-use Rattle.disk_dcdd.specs.declared.address.SectorAddress.{SectorAddress}
-use Rattle.guest_lockstep.specs.Machine.{Machine}
+use Rattle.pair_rule.proofs.Words.{Entry, Machine, SectorAddress, Written, count_of, last_count, same_address, top}
 use Rattle.guest_lockstep.specs.declared.timed.Bare.{Bare}
-use Rattle.guest_lockstep.specs.declared.timed.Bare.TheVariants.{Written}
 use Rattle.i8080_words.specs.declared.limits.TheConstants.{GREATEST_NUMBER}
-use Rattle.log_entry.specs.Entries.{count_of, last_count}
-use Rattle.log_entry.specs.declared.entry.Entry.{Entry}
-use Rattle.pair_protocol.specs.Lawful.{top}
 
 pub get_last : {A : Type 0} (xs : List A) (x : A) → slice_get (xs ++ x ∷ []) (length xs) ≡ Some x
 get_last [] x = refl

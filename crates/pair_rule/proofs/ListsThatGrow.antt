@@ -3,16 +3,7 @@ use Rattle.std.proofs.Common.{◌≡◌, ℕ, zero, suc, ◌+◌, ◌≤◌, eqb
 use mathlib.Core.Option.{some, some-injective, some-ne-none}
 use lib.ListN.{get_elem?}
 use prog.Atomic.{either}
-use Rattle.event_callbacks.specs.declared.operations.Operation.{Operation}
-use Rattle.event_callbacks.specs.declared.operations.Operation.TheVariants.{Byte, Write}
-use Rattle.log_entry.specs.declared.entry.Entry.{Entry}
-use Rattle.pair_protocol.specs.Lawful.{Among}
-use Rattle.pair_rule.specs.declared.payload.Carried.{Carried}
-use Rattle.pair_rule.specs.declared.payload.Carried.TheVariants.{Whole, Named}
-use Rattle.pair_rule.specs.declared.payload.DiskAnswer.{DiskAnswer}
-use Rattle.pair_rule.specs.declared.payload.NamedSector.{NamedSector}
-use Rattle.pair_rule.specs.declared.view.Arrived.{Arrived}
-use Rattle.pair_rule.specs.Knowledge.{Carries, IsNext, last_or, longer_by, named_by, wanted_then, with_carried, accepted_after, winner_of, StartsWith, Rising, IsByteOf, WhereSome, AllAre, Decided, arrives}
+use Rattle.pair_rule.proofs.Words.{AllAre, Among, Arrived, Byte, Carried, Carries, Decided, DiskAnswer, Entry, IsByteOf, IsNext, Named, NamedSector, Operation, Rising, StartsWith, WhereSome, Whole, Write, accepted_after, arrives, last_or, longer_by, named_by, wanted_then, winner_of, with_carried}
 use Rattle.pair_rule.proofs.Filled.{all_more}
 
 pub longer_prefix : (list copy : List Entry) (e : Entry) → StartsWith list copy → StartsWith (list ++ e ∷ []) copy

@@ -1,20 +1,8 @@
 -- A run whose list of entries begins with another run's continues that one, at its last entry.
 use Rattle.std.proofs.Common.{◌≡◌, ℕ, suc, ◌+◌, ◌≤◌, List, [], ◌∷◌, ◌++◌, sym, refl, ap, ◌∙◌, subst, arith, Option, Some, None, append-nil, le_refl}
-use Rattle.event_callbacks.specs.declared.operations.Operation.{Operation}
-use Rattle.guest_lockstep.specs.Machine.{Machine, Move, Do, Take, Runs}
-use Rattle.guest_lockstep.specs.Recorded.{Accepts, Counts, Recorded}
-use Rattle.guest_lockstep.specs.Running.{Quiet}
-use Rattle.guest_lockstep.specs.declared.input.Input.{Input}
+use Rattle.pair_rule.proofs.Words.{Counts, Do, Entry, HasLonger, Input, Logged, Machine, Mark, Move, Operation, Quiet, Recorded, Runs, Take, count_entry, count_of, entries, entries-append, entry_of, input_of, last_count, recorded-rest, recorded-runs, same_some, steps}
+use Rattle.guest_lockstep.specs.Recorded.{Accepts}
 use Rattle.guest_lockstep.specs.declared.input.Input.TheVariants as input
-use Rattle.guest_lockstep.specs.declared.reads.Reads.TheVariants.{Logged}
-use Rattle.log_entry.specs.Entries.{entries, entry_of, count_of, input_of, last_count}
-use Rattle.log_entry.specs.declared.entry.Entry.{Entry}
-use Rattle.log_entry.specs.declared.entry.Entry.TheVariants.{Mark}
-use Rattle.guest_lockstep.specs.Reach.{steps}
-use Rattle.pair_protocol.proofs.Traces.Lists.{same_some}
-use Rattle.pair_protocol.proofs.Traces.Moves.{entries-append, count_entry}
-use Rattle.pair_protocol.proofs.Traces.Recorded.{recorded-runs, recorded-rest}
-use Rattle.pair_rule.specs.Law.{HasLonger}
 use Rattle.pair_rule.proofs.QuietSteps.{are_quiet}
 
 -- ---- lists

@@ -3,14 +3,8 @@ use Rattle.std.proofs.Common.{◌≡◌, ℕ, ◌<◌, true, false, [], ◌∷�
 use mathlib.Core.Option.{some}
 use lib.ListN.{get_elem?}
 use Rattle.atomic_table.specs.Seated.{TableId}
-use Rattle.atomic_table.specs.Table.{Allows}
-use Rattle.pair_rule.specs.declared.view.Core.{Core}
-use Rattle.pair_rule.specs.declared.view.Knowledge.{Knowledge}
-use Rattle.pair_rule.specs.declared.view.SeatView.{SeatView}
-use Rattle.pair_rule.specs.Boxes.{Who, Primary, Link, Backup, Terminal, Disk, seat_index}
-use Rattle.pair_rule.specs.Rules.{Rule, has, core_of, view_of}
-use Rattle.pair_rule.specs.Kinds.{Mine, with_core, with_slot, takes_first_slot, without, nobody}
-use Rattle.pair_rule.specs.Seats.{Holds, Opened, numbers, zeros}
+use Rattle.pair_rule.proofs.Words.{Allows, Backup, Core, Disk, Knowledge, Link, Mine, Opened, Primary, Rule, SeatView, Terminal, Who, core_of, has, nobody, numbers, seat_index, takes_first_slot, view_of, with_core, with_slot, without, zeros}
+use Rattle.pair_rule.specs.Seats.{Holds}
 use Rattle.pair_rule.proofs.Parts.{set_there}
 use Rattle.pair_rule.proofs.FirstSlots.{first_slot_allowed}
 

@@ -1,33 +1,12 @@
 -- Each sector that the primary took has what its machine's own disk has there: the disk answered it, by the bytes at boot or
 -- by a write of that machine, and it has the number of the last completed write.
 use Rattle.std.proofs.Common.{◌≡◌, ℕ, zero, suc, ◌+◌, List, [], ◌∷◌, ◌++◌, sym, refl, ap, ◌∙◌, subst, inl, inr, ◌⊎◌, Some, None}
-use Rattle.disk_dcdd.specs.declared.address.SectorAddress.{SectorAddress}
-use Rattle.disk_dcdd.specs.declared.sector.SectorWrite.{SectorWrite}
-use Rattle.event_callbacks.specs.declared.operations.Operation.TheVariants.{Write}
-use Rattle.guest_lockstep.specs.Machine.{Machine, Move, Do, Take, Runs, refusal_of}
-use Rattle.guest_lockstep.specs.Recorded.{Recorded}
-use Rattle.guest_lockstep.specs.declared.input.Input.{Input}
+use Rattle.pair_rule.proofs.Words.{Among, AnswersLookup, AnswersRead, Appends, Arrives, AsksRead, BackupLoses, BackupWins, Completes, Copying, CountsNone, Do, Entry, Goes, HasAnswer, HasLonger, HasRun, Holds, Input, IsReplied, IsShown, IsTold, Keeps, Knowledge, Logged, Machine, Misses, Move, Opens, Own, Owns, PrimaryLoses, PrimaryWins, Puts, Recorded, Releases, Runnable, Runs, SectorAddress, SectorRead, SectorWrite, Sees, SeesCount, Shows, SilentStep, Stands, Take, Takes, TakesByte0, TakesByte1, TakesLookup, TakesRequest, ThreadRun, ThreadStep, Wants, World, Write, among-prefix, entries, entries-append, entry_of, operations, operations-prefix, owns-append, prefix-refl, read_at, recorded-append, recorded-runs, refusal_of, sector-passed, steps}
 use Rattle.guest_lockstep.specs.declared.input.Input.TheVariants as input
-use Rattle.guest_lockstep.specs.declared.reads.Reads.TheVariants.{Logged}
-use Rattle.guest_lockstep.specs.Reach.{Own, Owns, operations, steps}
-use Rattle.log_entry.specs.Entries.{entries, entry_of}
-use Rattle.log_entry.specs.declared.entry.Entry.{Entry}
-use Rattle.shared_disk.specs.declared.disk.SectorRead.{SectorRead}
-use Rattle.pair_protocol.specs.Copying.{Copying}
-use Rattle.pair_protocol.specs.Lawful.{Among}
-use Rattle.pair_protocol.specs.World.{World}
 use Rattle.pair_protocol.proofs.Invariant.{AtStart, IsRecord, OfWrite}
-use Rattle.pair_protocol.proofs.Keeps.PrimaryMoves.{sector-passed}
 use Rattle.pair_protocol.proofs.Keeps.Reads.{right_bytes}
-use Rattle.pair_protocol.proofs.Traces.Lists.{among-prefix, prefix-refl}
-use Rattle.pair_protocol.proofs.Traces.Moves.{entries-append, operations-prefix, owns-append}
-use Rattle.pair_protocol.proofs.Traces.Recorded.{recorded-append, recorded-runs}
 use Rattle.pair_rule.specs.declared.payload.DiskAnswer.TheVariants as answer
-use Rattle.pair_rule.specs.declared.view.Knowledge.{Knowledge}
-use Rattle.pair_rule.specs.Knowledge.{IsReplied, Stands, read_at}
-use Rattle.pair_rule.specs.Law.{HasLonger, HasRun, IsTold, Runnable, SilentStep, ThreadStep, Appends, Holds, Sees, Takes, Completes, PrimaryWins, PrimaryLoses, BackupWins, BackupLoses, Releases, Arrives, Puts, Keeps, CountsNone, Carries, SeesCount, TakesByte0, TakesByte1, TakesRequest, HasAnswer, AsksRead, AnswersRead, Wants, TakesLookup, AnswersLookup, Misses}
-use Rattle.pair_rule.specs.Shown.{Shows}
-use Rattle.pair_rule.specs.Threads.{Goes, IsShown, Opens, ThreadRun}
+use Rattle.pair_rule.specs.Law.{Carries}
 use Rattle.pair_rule.proofs.ListEnds.{last_of}
 use Rattle.pair_rule.proofs.LongerRuns.{GoesOn, last_move, run_goes_on, same_front}
 use Rattle.pair_rule.proofs.Elements.{all_in}

@@ -4,19 +4,7 @@ use mathlib.Core.Option.{some}
 use mathlib.Core.Logic.{dite}
 use native.Mathlib.Decide.{ℕ_discrete}
 use lib.ListN.{get_elem?}
-use Rattle.atomic_table.proofs.Lists.{at_set, set_else}
-use Rattle.pair_rule.specs.declared.mailbox.Mailbox.{Mailbox}
-use Rattle.pair_rule.specs.declared.mailbox.Mailbox.TheVariants.{Outbox, Inbox, Bytes0, Bytes1, Requests, Answers, Lookups, Sectors}
-use Rattle.pair_rule.specs.declared.payload.Packet.{Packet}
-use Rattle.pair_rule.specs.declared.view.PrimaryView.{PrimaryView}
-use Rattle.pair_rule.specs.declared.view.BackupView.{BackupView}
-use Rattle.pair_rule.specs.declared.view.TerminalView.{TerminalView}
-use Rattle.pair_rule.specs.declared.view.DiskView.{DiskView}
-use Rattle.pair_rule.specs.declared.view.Knowledge.{Knowledge}
-use Rattle.pair_rule.specs.declared.view.Core.{Core}
-use Rattle.pair_rule.specs.declared.view.SeatView.{SeatView}
-use Rattle.pair_rule.specs.Boxes.{box_index, Who, Primary, Link, Backup, Terminal, Disk, seat_index}
-use Rattle.pair_rule.specs.Rules.{SamePart, Same, Has, has}
+use Rattle.pair_rule.proofs.Words.{Answers, Backup, BackupView, Bytes0, Bytes1, Core, Disk, DiskView, Has, Inbox, Knowledge, Link, Lookups, Mailbox, Outbox, Packet, Primary, PrimaryView, Requests, Same, SamePart, SeatView, Sectors, Terminal, TerminalView, Who, at_set, box_index, has, seat_index, set_else}
 
 -- numbers name one seat and one box
 who_at : ℕ → Who

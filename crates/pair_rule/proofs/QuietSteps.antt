@@ -1,20 +1,7 @@
 -- Steps that give nothing: the moves that they are, and what these leave as it was.
 use Rattle.std.proofs.Common.{◌≡◌, ℕ, suc, ◌+◌, List, [], ◌∷◌, ◌++◌, sym, refl, ap, ◌∙◌, subst, arith, Bool, true, false, cond, is_none, Option, Some, None, append-nil, append_assoc}
-use Rattle.event_callbacks.specs.declared.operations.Operation.{Operation}
-use Rattle.guest_lockstep.specs.Machine.{Machine, Move, Do, Take}
-use Rattle.guest_lockstep.specs.Recorded.{Counts, Recorded}
-use Rattle.guest_lockstep.specs.Running.{Quiet, Begin, More}
+use Rattle.pair_rule.proofs.Words.{Begin, Counts, Do, Entry, Idle, Logged, Machine, More, Move, Note, OpId, Operation, Quiet, Recorded, Spent, Take, entries, entries-append, entry_of, inputs, inputs-append, marks, notes_after, notes_from, recorded-append, steps, steps-append}
 use Rattle.guest_lockstep.specs.Outstanding.{ComesAndGoes}
-use Rattle.guest_lockstep.specs.declared.reads.Reads.TheVariants.{Logged}
-use Rattle.event_callbacks.specs.declared.operations.OpId.{OpId}
-use Rattle.i8080_words.specs.declared.refusal.Fault.TheVariants.{Spent, Idle}
-use Rattle.log_entry.specs.Entries.{entries, entry_of, marks}
-use Rattle.log_entry.specs.declared.entry.Entry.{Entry}
-use Rattle.guest_lockstep.specs.Reach.{steps, inputs}
-use Rattle.pair_protocol.specs.Node.{Note, notes_after}
-use Rattle.pair_protocol.proofs.Traces.Moves.{inputs-append, entries-append, steps-append}
-use Rattle.pair_protocol.proofs.Traces.Recorded.{recorded-append}
-use Rattle.pair_rule.specs.Shown.{notes_from}
 
 -- ---- what operations wait for, after more moves
 

@@ -2,25 +2,10 @@
 -- writes, and only a write of a greater number replaces a record; so a number has one content, and of number 0 each answer
 -- says so.
 use Rattle.std.proofs.Common.{◌≡◌, ℕ, zero, suc, ◌<◌, ◌≤◌, List, [], ◌∷◌, ◌++◌, sym, refl, ap, ◌∙◌, subst, ◌⊎◌, inl, inr, ⊎_elim, arith, append-nil, append_assoc, Option, Some, None}
-use Rattle.disk_dcdd.specs.declared.address.SectorAddress.{SectorAddress}
-use Rattle.disk_dcdd.specs.declared.sector.SectorWrite.{SectorWrite}
-use Rattle.shared_disk.specs.declared.disk.SectorRead.{SectorRead}
-use Rattle.pair_protocol.specs.Lawful.{Among}
-use Rattle.pair_protocol.specs.World.{SectorRecord, latest, record_after}
-use Rattle.pair_protocol.proofs.Keeps.Disk.{Came, Kept, Replaced, latest_ge, replaced}
-use Rattle.pair_rule.specs.declared.mailbox.Mailbox.{Mailbox}
-use Rattle.pair_rule.specs.declared.mailbox.Mailbox.TheVariants.{Outbox, Inbox, Bytes0, Bytes1, Requests, Answers, Lookups, Sectors}
-use Rattle.pair_rule.specs.declared.payload.DiskAnswer.{DiskAnswer}
+use Rattle.pair_rule.proofs.Words.{Agrees, AgreesOf, Among, Answer, Answers, Bytes0, Bytes1, Came, DiskAnswer, DiskRequest, DiskView, Finds, FirstsAgree, FirstsAgreeOf, Inbox, IsReply, Kept, Knowledge, Log, Lookup, Lookups, Mailbox, Out, Outbox, Payload, PlainRun, PlainStep, Replaced, Replies, Request, Requests, Sector, SectorAddress, SectorRead, SectorRecord, SectorWrite, Sectors, WasRead, after_empty, after_fill, latest, latest_ge, put_by, read_at, record_after, replaced}
 use Rattle.pair_rule.specs.declared.payload.DiskAnswer.TheVariants as answer
-use Rattle.pair_rule.specs.declared.payload.DiskRequest.{DiskRequest}
 use Rattle.pair_rule.specs.declared.payload.DiskRequest.TheVariants as ask
-use Rattle.pair_rule.specs.declared.payload.Payload.{Payload}
-use Rattle.pair_rule.specs.declared.payload.Payload.TheVariants.{Log, Out, Request, Answer, Lookup, Sector}
-use Rattle.pair_rule.specs.declared.view.DiskView.{DiskView}
-use Rattle.pair_rule.specs.declared.view.Knowledge.{Knowledge}
 use Rattle.pair_rule.specs.Histories as plain
-use Rattle.pair_rule.specs.Histories.{IsReply, PlainRun, PlainStep}
-use Rattle.pair_rule.specs.Knowledge.{Agrees, AgreesOf, Finds, FirstsAgree, FirstsAgreeOf, Replies, WasRead, after_empty, after_fill, put_by, read_at}
 use Rattle.pair_rule.proofs.Elements.{among_either}
 use Rattle.pair_rule.proofs.Filled.{AgreesBy}
 

@@ -1,31 +1,9 @@
 -- Steps that are events of the world: an operation is released, a byte arrives, a write is put.
 use Rattle.std.proofs.Common.{◌≡◌, ℕ, zero, suc, ◌<◌, true, List, [], ◌∷◌, ◌++◌, length, map, sym, refl, ap, ◌∙◌, subst, inl, ⊎_elim, arith, Some, None, slice_get, slice_set, nat_lt, is_none, not, if◌then◌else◌}
-use Rattle.disk_dcdd.specs.declared.sector.SectorWrite.{SectorWrite}
-use Rattle.event_callbacks.specs.Operations.{id_of}
-use Rattle.event_callbacks.specs.declared.operations.OpId.{OpId}
-use Rattle.event_callbacks.specs.declared.operations.Operation.{Operation}
-use Rattle.event_callbacks.specs.declared.operations.Operation.TheVariants.{Byte, Write}
-use Rattle.guest_lockstep.specs.Machine.{Machine}
-use Rattle.pair_protocol.specs.Lawful.{Among}
-use Rattle.pair_protocol.specs.Copying.{Copying}
-use Rattle.i8080_words.specs.declared.refusal.Fault.TheVariants.{NotDue, NotCovered}
-use Rattle.pair_protocol.specs.Node.{Node, note_of, covers}
-use Rattle.pair_protocol.specs.Refusals.{fault_if, first_of, byte_refusal, write_refusal, at_node, release_refusal, no_such}
-use Rattle.pair_protocol.specs.World.{World, Message, Released, Terminal, WriteDone, with_arrival, with_put, with_message, accepted, terminal_in}
-use Rattle.pair_events.specs.declared.event.Event.TheVariants.{Release, Arrive, Put}
-use Rattle.pair_protocol.specs.Reply.{MessageIs, Accepted, Dropped}
-use Rattle.pair_protocol.specs.Row.{Accepts}
-use Rattle.pair_rule.specs.Shown.{IsAcknowledged, Happens, First, Nothing}
-use Rattle.pair_rule.specs.declared.view.Arrived.{Arrived}
-use Rattle.pair_rule.specs.declared.view.Knowledge.{Knowledge}
-use Rattle.pair_rule.specs.declared.mailbox.Mailbox.TheVariants.{Answers}
-use Rattle.pair_rule.specs.declared.payload.Payload.TheVariants.{Answer}
+use Rattle.pair_rule.proofs.Words.{Accepted, Accepts, Among, Answer, Answers, Arrive, Arrived, Byte, Copying, DiskAnswer, Dropped, First, Happens, IsAcknowledged, IsAsked, Knowledge, Leads, Machine, Message, MessageIs, Node, NotCovered, NotDue, Nothing, OpId, Operation, Put, Release, Released, SectorWrite, Sent, Shows, ShowsVisible, Stands, Visible, WhereSome, World, Write, WriteDone, accepted, after_fill, arrival_of, arrives, at_node, byte_arrived, byte_refusal, covers, fault_if, first_of, hand_of, id_of, no_such, note_of, notes_from, operations, put_by, release_refusal, terminal_in, terminals_of, visible, with_arrival, with_message, with_put, with_release, write_refusal}
+use Rattle.pair_protocol.specs.World.{Terminal}
 use Rattle.pair_rule.specs.declared.payload.DiskRequest.TheVariants as ask
-use Rattle.pair_rule.specs.declared.payload.DiskAnswer.{DiskAnswer}
 use Rattle.pair_rule.specs.declared.payload.DiskAnswer.TheVariants as answer
-use Rattle.pair_rule.specs.Knowledge.{WhereSome, IsAsked, Stands, after_fill, put_by, arrives, byte_arrived, with_release}
-use Rattle.pair_rule.specs.Shown.{Visible, visible, terminals_of, arrival_of, notes_from, hand_of, Sent, Shows, ShowsVisible, Leads}
-use Rattle.guest_lockstep.specs.Reach.{operations}
 use Rattle.pair_rule.proofs.Filled.{among_last, put_more}
 use Rattle.pair_rule.proofs.Elements.{no_read}
 use Rattle.pair_rule.proofs.ShownNodes.{only_more, index_of, more_sent, among_either, map_more, serving, first_node}

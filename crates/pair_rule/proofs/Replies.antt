@@ -1,18 +1,8 @@
 -- What the disk's seat replies is what the rule of the table asks.
 use Rattle.std.proofs.Common.{inl, inr, ap, sym, subst, ◌∙◌}
-use Rattle.pair_protocol.specs.World.{SectorRecord, latest}
-use Rattle.pair_protocol.proofs.Keeps.Disk.{LatestIs, OfPut, latest_is, AsBefore}
-use Rattle.pair_rule.specs.declared.payload.DiskAnswer.{DiskAnswer}
+use Rattle.pair_rule.proofs.Words.{Answer, Answers, AsBefore, DiskAnswer, DiskView, Finds, FirstsAgree, FirstsAgreeOf, IsReplied, Knowledge, LatestIs, MayPut, OfPut, Sector, SectorRead, SectorRecord, Sectors, latest, latest_is, put_by}
 use Rattle.pair_rule.specs.declared.payload.DiskAnswer.TheVariants as answer
-use Rattle.pair_rule.specs.declared.view.DiskView.{DiskView}
-use Rattle.pair_rule.specs.Knowledge.{IsReplied, put_by}
-use Rattle.pair_rule.specs.Knowledge.{Finds, FirstsAgree, FirstsAgreeOf}
-use Rattle.pair_rule.specs.Histories.{MayPut}
 use Rattle.pair_rule.specs.Seats.{Replies}
-use Rattle.pair_rule.specs.declared.mailbox.Mailbox.TheVariants.{Answers, Sectors}
-use Rattle.pair_rule.specs.declared.payload.Payload.TheVariants.{Answer, Sector}
-use Rattle.pair_rule.specs.declared.view.Knowledge.{Knowledge}
-use Rattle.shared_disk.specs.declared.disk.SectorRead.{SectorRead}
 use Rattle.pair_rule.proofs.Filled.{among_last}
 
 pub can_reply : (d : DiskView) (a : DiskAnswer) → Replies d a → IsReplied (put_by d.taken d.puts) a

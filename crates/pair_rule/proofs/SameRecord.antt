@@ -1,33 +1,10 @@
 -- The record of a sector that the disk answered is the same when its entry is appended: no write of it is outstanding then.
 use Rattle.std.proofs.Common.{◌≡◌, ℕ, ◌+◌, ◌≤◌, Bool, true, false, cond, not, List, ◌++◌, Some, None, ◌⊎◌, inl, inr, refl, sym, ap, subst, ◌∙◌, arith, map, append-nil, nat_le, length}
 use Rattle.std.specs.Prelude.{◌==◌}
-use Rattle.disk_dcdd.specs.Address.{address_of}
-use Rattle.disk_dcdd.specs.declared.address.SectorAddress.{SectorAddress}
-use Rattle.disk_dcdd.specs.declared.sector.SectorWrite.{SectorWrite}
-use Rattle.event_callbacks.specs.Operations.{id_of}
-use Rattle.event_callbacks.specs.declared.operations.Operation.{Operation}
-use Rattle.event_callbacks.specs.declared.operations.Operation.TheVariants.{Byte, Write}
-use Rattle.guest_lockstep.specs.Machine.{Machine, Move, Runs, refusal_of, sector_refusal}
-use Rattle.guest_lockstep.specs.Running.{Quiet}
+use Rattle.pair_rule.proofs.Words.{Among, AsBefore, Byte, HasPort, HasWrite, IsDone, IsReplied, IsUnwritten, IsWritten, Knowledge, LatestIs, Lawful, Machine, Move, NotDue, OfPut, Operation, Quiet, Runs, SectorAddress, SectorBusy, SectorRead, SectorRecord, SectorWrite, Shows, StaleRead, Stands, Timed, Unknown, World, Write, Written, address_of, among-left, fault_if, id_of, inputs, inputs-append, latest_all, latest_is, no_such, operations, operations-append, recorded-runs, refusal_of, runs-append, sector-passed, sector_record, sector_refusal, steps}
 use Rattle.guest_lockstep.specs.declared.input.Input.TheVariants as input
-use Rattle.i8080_words.specs.declared.refusal.Fault.TheVariants.{NotDue, SectorBusy, StaleRead, Unknown}
-use Rattle.guest_lockstep.specs.Reach.{inputs, operations, steps}
-use Rattle.guest_lockstep.specs.declared.timed.Timed.{Timed}
-use Rattle.guest_lockstep.specs.declared.timed.Bare.TheVariants.{Written}
-use Rattle.shared_disk.specs.declared.disk.SectorRead.{SectorRead}
-use Rattle.pair_protocol.specs.Lawful.{Among, IsDone, IsUnwritten, IsWritten, Lawful}
-use Rattle.pair_protocol.specs.Refusals.{no_such, fault_if}
-use Rattle.pair_protocol.specs.World.{World, SectorRecord, sector_record, Terminal}
-use Rattle.pair_protocol.proofs.Traces.Lists.{among-left}
-use Rattle.pair_protocol.proofs.Traces.Moves.{operations-append, runs-append, inputs-append}
-use Rattle.pair_protocol.proofs.Traces.Recorded.{recorded-runs}
-use Rattle.pair_protocol.proofs.Keeps.Disk.{AsBefore, OfPut, latest_all, latest_is, LatestIs}
-use Rattle.pair_protocol.proofs.Keeps.PrimaryMoves.{sector-passed}
+use Rattle.pair_protocol.specs.World.{Terminal}
 use Rattle.pair_rule.specs.declared.payload.DiskAnswer.TheVariants as answer
-use Rattle.pair_rule.specs.declared.view.Knowledge.{Knowledge}
-use Rattle.pair_rule.specs.Knowledge.{Stands, HasWrite, IsReplied}
-use Rattle.pair_rule.specs.Law.{HasPort}
-use Rattle.pair_rule.specs.Shown.{Shows}
 use Rattle.pair_rule.proofs.ShownGuards.{all_in}
 use Rattle.pair_rule.proofs.QuietSteps.{QuietMoves, quiet_moves}
 

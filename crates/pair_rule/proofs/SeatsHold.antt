@@ -2,19 +2,8 @@
 use Rattle.std.proofs.Common.{◌≡◌, ◌≢◌, ◌↔◌, ℕ, zero, suc, ◌+◌, ◌<◌, ◌^◌, ◌&&◌, nat_lt, Bool, true, false, List, [], ◌∷◌, length, get_or, set, Some, None, sym, refl, ap, ◌∙◌, subst, arith, length-set, Option}
 use mathlib.Core.Option.{some}
 use lib.ListN.{get_elem?}
-use Rattle.atomic_table.specs.Table.{rest}
-use Rattle.pair_rule.specs.declared.mailbox.Mailbox.{Mailbox}
-use Rattle.pair_rule.specs.declared.mailbox.Mailbox.TheVariants.{Outbox, Inbox, Bytes0, Bytes1, Requests, Answers, Lookups, Sectors}
-use Rattle.pair_rule.specs.declared.payload.Payload.{Payload}
-use Rattle.pair_rule.specs.declared.view.Side.{Side}
-use Rattle.pair_rule.specs.declared.view.Knowledge.{Knowledge}
-use Rattle.pair_rule.specs.declared.view.Core.{Core}
-use Rattle.pair_rule.specs.declared.view.SeatView.{SeatView}
-use Rattle.pair_rule.specs.Rules.{new_side}
-use Rattle.pair_rule.specs.Boxes.{number_of, side, box_index, Who, seat_index, filler, emptier, slot_of}
-use Rattle.pair_rule.specs.Kinds.{Mine, WasIn, nobody, side_at, filled, emptied, found_empty, with_known, with_core, Swapped}
-use Rattle.pair_rule.specs.Seats.{Holds, Keeps, numbers, all_below, most_swaps, LeavesRoom, HasSwapsLeft, Fills, Empties}
-use Rattle.atomic_table.proofs.Lists.{set_else, set_here}
+use Rattle.pair_rule.proofs.Words.{Answers, Bytes0, Bytes1, Core, Empties, Fills, HasSwapsLeft, Inbox, Knowledge, LeavesRoom, Lookups, Mailbox, Mine, Outbox, Payload, Requests, SeatView, Sectors, Side, Swapped, WasIn, Who, all_below, box_index, emptied, emptier, filled, filler, found_empty, most_swaps, new_side, nobody, number_of, numbers, rest, seat_index, set_else, set_here, side, side_at, slot_of, with_core, with_known}
+use Rattle.pair_rule.specs.Seats.{Holds, Keeps}
 use Rattle.pair_rule.proofs.Slots.{or_of}
 use Rattle.pair_rule.proofs.SplitSeats.{nobody_has}
 use Rattle.pair_rule.proofs.Parts.{set_there, few_boxes, index_at}

@@ -1,38 +1,14 @@
 -- No write that the disk took came after a sector that is not acknowledged yet: whatever was released has its mark among the
 -- entries seen, so it was given before the sector was taken, and the sector came while no write of it was outstanding.
 use Rattle.std.proofs.Common.{◌≡◌, ℕ, zero, suc, ◌+◌, ◌<◌, ◌≤◌, true, List, [], ◌∷◌, ◌++◌, length, take, sym, refl, ap, ◌∙◌, subst, inl, inr, ◌⊎◌, Some, None, slice_get, le_refl, arith}
-use Rattle.disk_dcdd.specs.Address.{address_of}
-use Rattle.disk_dcdd.specs.declared.address.SectorAddress.{SectorAddress}
-use Rattle.disk_dcdd.specs.declared.sector.SectorWrite.{SectorWrite}
-use Rattle.event_callbacks.specs.declared.operations.Operation.{Operation}
-use Rattle.event_callbacks.specs.declared.operations.Operation.TheVariants.{Write}
-use Rattle.guest_lockstep.specs.Machine.{Machine, Move, Do, Take, Runs, refusal_of}
-use Rattle.guest_lockstep.specs.Recorded.{Accepts, Recorded}
+use Rattle.pair_rule.proofs.Words.{Among, AsBefore, Do, Entry, HasWrite, IsAcknowledged, IsDone, IsPrefix, IsShown, IsUnwritten, IsWritten, Knowledge, LatestIs, Lawful, Logged, Machine, Mark, Move, NeedsNoCopies, OfPut, Operation, Own, Owns, Reach, Recorded, Runs, SectorAddress, SectorRecord, SectorWrite, Shows, Stands, Take, ThreadRun, ThreadsAreFaithful, Timed, Write, address_of, count_entry, count_of, entries, entry_of, image, input_entry, input_of, inputs_of, inputs_of-entries, latest_all, latest_is, no_copies, operations, owns-prefix, prefix-refl, put-prefix, recorded-prefix, recorded-rest, recorded-runs, refusal_of, same_some, sector-passed, sector_record, steps}
+use Rattle.guest_lockstep.specs.Recorded.{Accepts}
 use Rattle.guest_lockstep.specs.declared.input.Input.TheVariants as input
-use Rattle.guest_lockstep.specs.declared.reads.Reads.TheVariants.{Logged}
-use Rattle.guest_lockstep.specs.declared.timed.Timed.{Timed}
-use Rattle.guest_lockstep.specs.Reach.{Own, Owns, Reach, image, operations, steps}
-use Rattle.log_entry.specs.Entries.{count_of, entries, entry_of, input_of, inputs_of}
-use Rattle.log_entry.specs.declared.entry.Entry.{Entry}
-use Rattle.log_entry.specs.declared.entry.Entry.TheVariants.{Mark, Sector}
-use Rattle.pair_protocol.specs.Copying.{no_copies}
-use Rattle.pair_protocol.specs.Faithful.{IsPrefix}
-use Rattle.pair_protocol.specs.Laws.{NeedsNoCopies}
-use Rattle.pair_protocol.specs.Lawful.{Among, IsDone, IsUnwritten, IsWritten, Lawful}
-use Rattle.pair_protocol.specs.World.{SectorRecord, sector_record}
+use Rattle.log_entry.specs.declared.entry.Entry.TheVariants.{Sector}
 use Rattle.pair_protocol.proofs.Invariant.{AtStart, IsRecord, OfWrite}
-use Rattle.pair_protocol.proofs.Keeps.Disk.{AsBefore, LatestIs, OfPut, latest_all, latest_is}
-use Rattle.pair_protocol.proofs.Keeps.PrimaryMoves.{sector-passed}
 use Rattle.pair_protocol.proofs.Keeps.Reads.{owns-at, right_bytes}
-use Rattle.pair_protocol.proofs.Traces.Lists.{prefix-refl, same_some}
-use Rattle.pair_protocol.proofs.Traces.Moves.{count_entry, input_entry, inputs_of-entries, owns-prefix, put-prefix}
 use Rattle.pair_protocol.proofs.Traces.OneTrace.{one_end, one_trace}
-use Rattle.pair_protocol.proofs.Traces.Recorded.{recorded-prefix, recorded-rest, recorded-runs}
-use Rattle.pair_rule.specs.declared.view.Knowledge.{Knowledge}
-use Rattle.pair_rule.specs.Knowledge.{HasWrite, Stands}
 use Rattle.pair_rule.specs.ReadsKept.{AreKeptFrom, IsKept, SectorsAreKept}
-use Rattle.pair_rule.specs.Shown.{IsAcknowledged, Shows}
-use Rattle.pair_rule.specs.Threads.{IsShown, ThreadRun, ThreadsAreFaithful}
 use Rattle.pair_rule.proofs.ListsThatGrow.{last_below}
 use Rattle.pair_rule.proofs.LongerRuns.{same_head, same_tail}
 use Rattle.pair_rule.proofs.OwnSectors.{run_owns}

@@ -1,16 +1,8 @@
 -- What the guards of a step say of what is known holds of the world that is shown.
 use Rattle.std.proofs.Common.{◌≡◌, ℕ, zero, suc, ◌+◌, ◌<◌, ◌≤◌, eqb, cond, Bool, true, false, List, [], ◌∷◌, length, map, ap, ◌∙◌, arith, Some, slice_get}
-use Rattle.pair_protocol.specs.Lawful.{Among}
-use Rattle.pair_protocol.specs.World.{World, WriteDone, terminal, terminal_in, accepted, accepted_in}
+use Rattle.pair_rule.proofs.Words.{Among, Arrived, HasWrite, IsReplied, Knowledge, Machine, Shows, Stands, World, WriteDone, accepted, accepted_after, accepted_in, arrival_of, counted_at, terminal, terminal_in, typed_at}
 use Rattle.pair_protocol.specs.World.{accepted_after as bytes_after}
-use Rattle.guest_lockstep.specs.Machine.{Machine}
 use Rattle.pair_rule.specs.declared.payload.DiskAnswer.TheVariants as answer
-use Rattle.pair_rule.specs.declared.view.Arrived.{Arrived}
-use Rattle.pair_rule.specs.declared.view.Knowledge.{Knowledge}
-use Rattle.pair_rule.specs.Knowledge.{Stands, accepted_after, HasWrite, IsReplied}
-use Rattle.pair_rule.specs.Kinds.{counted_at}
-use Rattle.pair_rule.specs.Law.{typed_at}
-use Rattle.pair_rule.specs.Shown.{Shows, arrival_of}
 pub use Rattle.pair_rule.proofs.Elements.{all_in}
 
 -- the bytes accepted are as many as are counted

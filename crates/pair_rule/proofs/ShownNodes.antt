@@ -2,17 +2,9 @@
 use Rattle.std.proofs.Common.{append_assoc, ◌∙◌, ◌≤◌, arith, ◌≡◌, ℕ, zero, suc, ◌≤◌, true, false, List, [], ◌∷◌, ◌++◌, map, sym, refl, ap, ◌∙◌, ⊎_elim, arith, subst, Option, None, Some, slice_get, nat_lt}
 use mathlib.Core.Option.{some, some-injective, some-ne-none}
 use lib.ListN.{get_elem?}
-use Rattle.event_callbacks.specs.declared.operations.Operation.{Operation}
-use Rattle.guest_lockstep.specs.Machine.{Machine, Move, Do}
-use Rattle.log_entry.specs.declared.entry.Entry.{Entry}
-use Rattle.pair_protocol.specs.Lawful.{Among}
-use Rattle.pair_protocol.specs.Copying.{Copying}
-use Rattle.pair_protocol.specs.Node.{Node, Primary, Backup}
+use Rattle.pair_rule.proofs.Words.{Acknowledgement, Among, Copying, Do, Entry, ImagePart, IsAcknowledged, IsSentBy, Knowledge, LogEntry, Machine, Message, Move, NamedSector, Node, Operation, Released, Sent, Shows, Visible, World, WriteDone, backup_node, backup_role, backup_runs, primary_node, primary_role, primary_runs, visible}
+use Rattle.pair_protocol.specs.Node.{Primary, Backup}
 use Rattle.pair_protocol.specs.World as world
-use Rattle.pair_protocol.specs.World.{World, Message, LogEntry, Acknowledgement, ImagePart, Released, WriteDone}
-use Rattle.pair_rule.specs.declared.payload.NamedSector.{NamedSector}
-use Rattle.pair_rule.specs.declared.view.Knowledge.{Knowledge}
-use Rattle.pair_rule.specs.Shown.{Visible, visible, IsAcknowledged, IsSentBy, primary_role, primary_runs, backup_role, backup_runs, primary_node, backup_node, Sent, Shows}
 pub use Rattle.pair_rule.proofs.Elements.{among_either}
 use Rattle.pair_rule.proofs.Elements.{among_more}
 

@@ -1,13 +1,9 @@
 -- The steps that are not events leave the world as it is, and it shows what is known then.
 use Rattle.std.proofs.Common.{◌≡◌, ℕ, zero, suc, ◌==◌, cond, Bool, true, false, List, [], ◌∷◌, ◌++◌, length, ◌⊎◌, inl, inr, sym, ap, ◌∙◌, subst, Some}
-use Rattle.pair_protocol.specs.Lawful.{Among}
-use Rattle.pair_rule.specs.declared.payload.DiskAnswer.{DiskAnswer}
+use Rattle.pair_rule.proofs.Words.{Among, AnswersLookup, AnswersRead, AsksRead, CountsNone, DiskAnswer, HasAnswer, HasWrite, Keeps, Misses, SectorRead, SeesCount, Shows, SilentStepsShow, TakesByte0, TakesByte1, TakesLookup, TakesRequest, Wants, arrives, longer_by, named_by, put_by, read_at, wanted_then, with_carried}
 use Rattle.pair_rule.specs.declared.payload.DiskAnswer.TheVariants as answer
-use Rattle.shared_disk.specs.declared.disk.SectorRead.{SectorRead}
-use Rattle.pair_rule.specs.Knowledge.{HasWrite, arrives, longer_by, named_by, put_by, read_at, wanted_then, with_carried}
 use Rattle.pair_rule.proofs.ShownNodes.{among_either, wants_shows}
-use Rattle.pair_rule.specs.Law.{Keeps, CountsNone, Carries, SeesCount, TakesByte0, TakesByte1, TakesRequest, HasAnswer, AsksRead, AnswersRead, Wants, TakesLookup, AnswersLookup, Misses, SilentStepsShow}
-use Rattle.pair_rule.specs.Shown.{Shows}
+use Rattle.pair_rule.specs.Law.{Carries}
 
 -- of the answers with one of a read more, those of writes are as before
 no_write : (n : ℕ) (r : SectorRead) (given : List DiskAnswer) → Among (answer.Written n) (given ++ answer.Read r ∷ [])

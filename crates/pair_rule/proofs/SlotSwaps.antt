@@ -4,9 +4,7 @@ use mathlib.Core.Option as maybe
 use mathlib.Core.Option.{some, none, some-injective}
 use native.Mathlib.Decide.{ℕ_discrete}
 use lib.ListN.{get_elem?}
-use Rattle.atomic_table.proofs.Lists.{at_set, set_here, set_else}
-use Rattle.pair_rule.specs.declared.payload.Payload.{Payload}
-use Rattle.pair_rule.specs.Boxes.{Homes, slot_of, Laid}
+use Rattle.pair_rule.proofs.Words.{Homes, Laid, Payload, at_set, set_else, set_here, slot_of}
 use Rattle.pair_rule.proofs.Slots.{swapped, given, elsewhere, as_deep, within}
 
 -- a function changed at one place

@@ -2,10 +2,7 @@
 use Rattle.std.proofs.Common.{◌≡◌, ◌≢◌, ℕ, zero, suc, ◌+◌, ◌/◌, ◌%◌, ◌<◌, Bool, true, false, List, [], ◌∷◌, length, set, get_or, sym, refl, ap, ◌∙◌, subst, arith, length-set, Option, Some, eq-eqb, ne_eqb}
 use mathlib.Core.Option.{some, none, some-ne-none, some-injective}
 use lib.ListN.{get_elem?}
-use Rattle.atomic_table.proofs.Lists.{set_here, set_else}
-use Rattle.pair_rule.specs.declared.payload.Payload.{Payload}
-use Rattle.pair_rule.specs.declared.view.Side.{Side}
-use Rattle.pair_rule.specs.Boxes.{Homes, slot_of, is_full, number_of, full_word, empty_word, Boxed, side, filler_met}
+use Rattle.pair_rule.proofs.Words.{Boxed, Homes, Payload, Side, empty_word, filler_met, full_word, is_full, number_of, set_else, set_here, side, slot_of}
 
 pub slot_full : (n h : ℕ) → h < 16 → slot_of (full_word n h) ≡ h
 slot_full n h small = omega arith

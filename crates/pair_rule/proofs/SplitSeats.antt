@@ -5,13 +5,7 @@ use mathlib.Core.Option.{some, some-injective, some-ne-none}
 use mathlib.Core.Logic.{dite}
 use native.Mathlib.Decide.{ℕ_discrete}
 use lib.ListN.{get_elem?}
-use Rattle.atomic_table.specs.Table.{Splits}
-use Rattle.atomic_table.proofs.Lists.{at_set, set_else, at_longer, at_last}
-use Rattle.pair_rule.specs.declared.view.Core.{Core}
-use Rattle.pair_rule.specs.declared.view.SeatView.{SeatView}
-use Rattle.pair_rule.specs.Boxes.{Who, Primary, Link, Backup, Terminal, Disk, seat_index}
-use Rattle.pair_rule.specs.Rules.{Same, Has, has, Rule}
-use Rattle.pair_rule.specs.Kinds.{nobody, without, only}
+use Rattle.pair_rule.proofs.Words.{Backup, Core, Disk, Has, Link, Primary, Rule, Same, SeatView, Splits, Terminal, Who, at_last, at_longer, at_set, has, nobody, only, seat_index, set_else, without}
 use Rattle.pair_rule.proofs.Parts.{one_seat, set_there}
 
 at_end : {A : Type 0} (l : List A) (a b : A) (j : ℕ) → get_elem? (l ++ a ∷ []) j ≡ some b

@@ -2,29 +2,11 @@
 use Rattle.std.proofs.Common.{◌≡◌, ℕ, zero, suc, ◌<◌, ◌≤◌, List, sym, refl, ap, ◌∙◌, subst, inl, inr, ◌⊎◌, arith, Option, Some, None}
 use mathlib.Core.Option.{some}
 use lib.ListN.{get_elem?}
-use Rattle.event_callbacks.specs.declared.operations.Operation.{Operation}
-use Rattle.event_callbacks.specs.declared.operations.Operation.TheVariants.{Byte, Write}
-use Rattle.guest_lockstep.specs.Machine.{Machine}
-use Rattle.log_entry.specs.declared.entry.Entry.{Entry}
-use Rattle.shared_disk.specs.declared.disk.SectorRead.{SectorRead}
-use Rattle.pair_protocol.specs.Lawful.{Among}
-use Rattle.pair_rule.specs.declared.mailbox.Mailbox.{Mailbox}
-use Rattle.pair_rule.specs.declared.mailbox.Mailbox.TheVariants.{Outbox, Inbox, Bytes0, Bytes1, Requests, Answers, Lookups, Sectors}
-use Rattle.pair_rule.specs.declared.payload.Carried.{Carried}
-use Rattle.pair_rule.specs.declared.payload.Carried.TheVariants.{Whole, Named}
+use Rattle.pair_rule.proofs.Words.{Among, Answer, Answers, AnswersLookup, AnswersRead, AsksRead, BackupAsks, Byte, Bytes0, Bytes1, CanFill, Carried, Carries, CountsNone, Entry, Fits, HasAnswer, Inbox, IsByteOf, Keeps, Knowledge, Log, Lookup, Lookups, Machine, Mailbox, Named, Operation, Out, Outbox, Packet, Payload, PrimaryAsks, Promised, Request, Requests, Sector, SectorRead, Sectors, SilentStep, Stands, Stays, TableStepsAreSteps, TakesByte0, TakesByte1, TakesLookup, TakesRequest, ThreadStep, WhereSome, Whole, Write, accepted_at, after_empty, after_fill, backup_asked, byte_arrived, completed, counted_at, emptier, filler, hand_of, primary_asked, winner_of}
 use Rattle.pair_rule.specs.declared.payload.DiskAnswer.TheVariants as answer
 use Rattle.pair_rule.specs.declared.payload.DiskRequest.TheVariants as ask
-use Rattle.pair_rule.specs.declared.payload.Packet.{Packet}
-use Rattle.pair_rule.specs.declared.payload.Payload.{Payload}
-use Rattle.pair_rule.specs.declared.payload.Payload.TheVariants.{Log, Out, Request, Answer, Lookup, Sector}
-use Rattle.pair_rule.specs.declared.view.Knowledge.{Knowledge}
-use Rattle.pair_rule.specs.Boxes.{filler, emptier}
-use Rattle.pair_rule.specs.Kinds.{counted_at}
-use Rattle.pair_rule.specs.Knowledge.{CanFill, Carries, Fits, IsByteOf, Stands, WhereSome, accepted_at, after_empty, after_fill, backup_asked, byte_arrived, completed, primary_asked, winner_of}
 use Rattle.pair_rule.specs.Law as law
-use Rattle.pair_rule.specs.Law.{SilentStep, ThreadStep, Keeps, CountsNone, TakesByte0, TakesByte1, TakesRequest, HasAnswer, AsksRead, AnswersRead, TakesLookup, AnswersLookup}
-use Rattle.pair_rule.specs.Shown.{hand_of}
-use Rattle.pair_rule.specs.Steps.{AsksNot, Promised, Stays, Fills, Empties, Appends, Sees, Holds, PrimaryAsks, BackupAsks, Counts, SeesCount, TableStepsAreSteps}
+use Rattle.pair_rule.specs.Steps.{AsksNot, Fills, Empties, Appends, Sees, Holds, Counts, SeesCount}
 use Rattle.pair_rule.proofs.Emptied.{empty_keeps}
 use Rattle.pair_rule.proofs.Filled.{AgreesBy, fill_keeps}
 use Rattle.pair_rule.proofs.WordChanges.{append_stays, see_stays, hold_stays, primary_asks, backup_asks, came_stays, count_stays}

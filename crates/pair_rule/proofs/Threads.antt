@@ -1,24 +1,8 @@
 -- Step after step, what is known is shown by a faithful world.
 use Rattle.std.proofs.Common.{ℕ, zero, suc, ◌<◌, List, ◌++◌, subst, arith, inl, inr}
-use Rattle.disk_dcdd.specs.declared.address.SectorAddress.{SectorAddress}
-use Rattle.guest_lockstep.specs.Machine.{Machine}
-use Rattle.guest_lockstep.specs.Reach.{keys, output}
-use Rattle.pair_protocol.specs.Change.{Reached}
-use Rattle.pair_protocol.specs.Copying.{Copying, IsCopying}
-use Rattle.pair_protocol.specs.Faithful.{Faithful, IsAllBut, IsPrefix, MayHave}
-use Rattle.pair_protocol.specs.Laws.{RowIsChanges, ChangesReach, ReachedIsFaithful, ReachedGrows}
-use Rattle.pair_events.specs.declared.event.Event.{Event}
-use Rattle.pair_protocol.specs.Reply.{Reply}
-use Rattle.guest_lockstep.specs.declared.reads.Reads.TheVariants.{Logged}
-use Rattle.pair_protocol.specs.World.{World, opening, accepted_in, sector_record, terminal_in}
-use Rattle.pair_rule.specs.declared.view.Knowledge.{Knowledge}
-use Rattle.pair_rule.specs.Law.{Runnable, typed_at}
-use Rattle.pair_rule.specs.Shown.{First, Happens, Nothing, Shows}
-use Rattle.pair_rule.specs.Threads.{Goes, IsShown, Opens, PrimaryIsTold, Promises, ThreadsAreFaithful, bytes_accepted}
+use Rattle.pair_rule.proofs.Words.{ChangesReach, Copying, Event, Faithful, First, Goes, Happens, IsAllBut, IsCopying, IsPrefix, IsShown, IsStep, Knowledge, Logged, Machine, MayHave, Nothing, Opens, PrimaryIsTold, Promises, Reached, ReachedGrows, ReachedIsFaithful, Reply, RowIsChanges, Runnable, SectorAddress, Shows, Stands, ThreadsAreFaithful, World, accepted_in, bytes_accepted, keys, opening, output, sector_record, terminal_in, typed_at}
 use Rattle.pair_rule.proofs.Beginning.{starts_shown}
 use Rattle.pair_rule.proofs.Law.{steps_stay_faithful}
-use Rattle.pair_rule.specs.Knowledge.{Stands}
-use Rattle.pair_rule.specs.Steps.{IsStep}
 use Rattle.pair_rule.proofs.SilentSteps.{silent_shows}
 use Rattle.pair_rule.proofs.TableSteps.{table_steps}
 use Rattle.pair_rule.proofs.AcceptedMarks.{accepted_marked}

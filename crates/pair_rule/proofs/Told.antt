@@ -1,20 +1,10 @@
 -- What the primary's list says was told: each entry that is appended adds what its append asks, and no other step changes
 -- the list or takes back what arrived.
 use Rattle.std.proofs.Common.{◌≡◌, ℕ, zero, suc, ◌+◌, ◌≤◌, Bool, true, false, ◌==◌, if◌then◌else◌, List, [], ◌∷◌, ◌++◌, sym, ap, ◌∙◌, subst, arith, append-nil, le_refl, refl, ⊎_elim}
-use Rattle.guest_lockstep.specs.Machine.{Machine}
-use Rattle.log_entry.specs.Entries.{inputs_of}
-use Rattle.log_entry.specs.declared.entry.Entry.{Entry}
-use Rattle.log_entry.specs.declared.entry.Entry.TheVariants.{Mark, Rx, Sent, Sector, Written, Read}
-use Rattle.guest_lockstep.specs.Reach.{keys, acceptances}
-use Rattle.pair_protocol.specs.Faithful.{IsPrefix}
-use Rattle.pair_protocol.specs.Lawful.{Among}
-use Rattle.pair_protocol.proofs.Traces.Moves.{inputs_of-append, acceptances-append, keys-append}
-use Rattle.pair_rule.specs.declared.payload.DiskAnswer.{DiskAnswer}
+use Rattle.pair_rule.proofs.Words.{Among, AnswersLookup, AnswersRead, Appends, Arrives, AsksRead, BackupLoses, BackupWins, Completes, CountsNone, DiskAnswer, Entry, HasAnswer, Holds, IsAnswered, IsPrefix, IsTold, Keeps, Knowledge, ListIsTold, Machine, Mark, Misses, PortIsTold, PrimaryIsTold, PrimaryLoses, PrimaryWins, Puts, Read, Releases, Rx, Sees, SeesCount, SilentStep, Takes, TakesByte0, TakesByte1, TakesLookup, TakesRequest, ThreadStep, Wants, acceptances, acceptances-append, counted_at, inputs_of, inputs_of-append, keys, keys-append, typed_at}
+use Rattle.log_entry.specs.declared.entry.Entry.TheVariants.{Sent, Sector, Written}
 use Rattle.pair_rule.specs.declared.payload.DiskAnswer.TheVariants as answer
-use Rattle.pair_rule.specs.declared.view.Knowledge.{Knowledge}
-use Rattle.pair_rule.specs.Kinds.{counted_at}
-use Rattle.pair_rule.specs.Law.{typed_at, IsTold, SilentStep, ThreadStep, Appends, Holds, Sees, Takes, Completes, PrimaryWins, PrimaryLoses, BackupWins, BackupLoses, Releases, Arrives, Puts, Keeps, CountsNone, Carries, SeesCount, TakesByte0, TakesByte1, TakesRequest, HasAnswer, AsksRead, AnswersRead, Wants, TakesLookup, AnswersLookup, Misses}
-use Rattle.pair_rule.specs.Threads.{IsAnswered, ListIsTold, PortIsTold, PrimaryIsTold}
+use Rattle.pair_rule.specs.Law.{Carries}
 use Rattle.pair_rule.proofs.Filled.{among_more}
 use Rattle.pair_rule.proofs.ShownNodes.{among_either}
 

@@ -1,9 +1,6 @@
 -- The backup after a sector that it looked up: its list, and what it wants then.
 use Rattle.std.proofs.Common.{◌≡◌, refl, ap, ◌∙◌, Option, Some, None}
-use Rattle.shared_disk.specs.declared.disk.SectorRead.{SectorRead}
-use Rattle.pair_rule.specs.declared.view.BackupView.{BackupView}
-use Rattle.pair_rule.specs.Knowledge.{longer_by, wanted_then}
-use Rattle.pair_rule.specs.Seats.{entry_by, with_sector}
+use Rattle.pair_rule.proofs.Words.{BackupView, SectorRead, entry_by, longer_by, wanted_then, with_sector}
 
 list_is : (b : BackupView) (r : Option SectorRead) → (with_sector b r).list ≡ longer_by b.list (entry_by b.wanted r)
 list_is b None = refl

@@ -2,17 +2,7 @@
 use Rattle.std.proofs.Common.{◌≡◌, ℕ, zero, suc, ◌≤◌, eqb, List, [], ◌∷◌, ◌++◌, length, refl, ap, inl, inr, ⊎_elim, arith, length-append, le_refl}
 use prog.Atomic.{either}
 use Rattle.std.specs.Prelude.{Option}
-use Rattle.event_callbacks.specs.declared.operations.Operation.{Operation}
-use Rattle.log_entry.specs.declared.entry.Entry.{Entry}
-use Rattle.pair_protocol.specs.Lawful.{Among}
-use Rattle.pair_rule.specs.declared.mailbox.Mailbox.{Mailbox}
-use Rattle.pair_rule.specs.declared.mailbox.Mailbox.TheVariants.{Outbox, Inbox, Bytes0, Bytes1, Requests, Answers, Lookups, Sectors}
-use Rattle.pair_rule.specs.declared.payload.Payload.{Payload}
-use Rattle.pair_rule.specs.declared.payload.Payload.TheVariants.{Log, Out, Request, Answer, Lookup, Sector}
-use Rattle.pair_rule.specs.declared.view.Arrived.{Arrived}
-use Rattle.pair_rule.specs.declared.view.Knowledge.{Knowledge}
-use Rattle.pair_rule.specs.declared.view.TerminalView.{TerminalView}
-use Rattle.pair_rule.specs.Knowledge.{accepted_after, accepted_at, arrives, last_or, winner_of, Fits, PortStands, Stands, appended, saw, held, winner_after, primary_asked, backup_asked, byte_arrived, saw_count}
+use Rattle.pair_rule.proofs.Words.{Among, Answer, Answers, Arrived, Bytes0, Bytes1, Entry, Fits, Inbox, Knowledge, Log, Lookup, Lookups, Mailbox, Operation, Out, Outbox, Payload, PortStands, Request, Requests, Sector, Sectors, Stands, TerminalView, accepted_after, accepted_at, appended, arrives, backup_asked, byte_arrived, held, last_or, primary_asked, saw, saw_count, winner_after, winner_of}
 use Rattle.pair_rule.proofs.Filled.{among_more, if_map, entry_more, next_more}
 use Rattle.pair_rule.proofs.ListsThatGrow.{longer_prefix, last_below, rising_more, last_more, last_among, fewer_arrived, all_arrived, decide_primary, decide_backup}
 

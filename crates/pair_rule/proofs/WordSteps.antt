@@ -3,26 +3,9 @@ use Rattle.std.proofs.Common.{◌≡◌, ℕ, zero, suc, ◌+◌, ◌%◌, ◌^�
 use mathlib.Core.Option.{some}
 use lib.ListN.{get_elem?}
 use prog.Atomic.{either}
-use Rattle.atomic_table.specs.Table.{keeps, carried_after, Allows}
-use Rattle.pair_rule.specs.declared.mailbox.Mailbox.{Mailbox}
-use Rattle.log_entry.specs.declared.entry.Entry.{Entry}
-use Rattle.pair_rule.specs.declared.payload.Carried.{Carried}
-use Rattle.pair_rule.specs.declared.payload.Carried.TheVariants.{Whole, Named}
-use Rattle.pair_rule.specs.declared.payload.Packet.{Packet}
-use Rattle.pair_rule.specs.declared.payload.Payload.{Payload}
-use Rattle.pair_rule.specs.declared.payload.Payload.TheVariants.{Log}
-use Rattle.pair_rule.specs.declared.view.PrimaryView.{PrimaryView}
-use Rattle.pair_rule.specs.declared.view.BackupView.{BackupView}
-use Rattle.pair_rule.specs.declared.view.TerminalView.{TerminalView}
-use Rattle.pair_rule.specs.declared.view.Knowledge.{Knowledge}
-use Rattle.pair_rule.specs.declared.view.Core.{Core}
-use Rattle.pair_rule.specs.Boxes.{Homes, Who, Primary, Backup, Terminal}
-use Rattle.pair_rule.specs.Knowledge.{last_or, words_of, winner_of, Fits, Stands, appended, with_entry, saw, held, winner_after, primary_asked, backup_asked, arrives, byte_arrived, saw_count, accepted_after, accepted_with}
-use Rattle.pair_rule.specs.Histories.{MayAppend, PlainRun, PlainStep}
+use Rattle.pair_rule.proofs.Words.{Allows, Backup, BackupView, Carried, Core, CountedBy, Entry, Facts, Fits, Homes, Knowledge, Log, Mailbox, MayAppend, Mine, Moment, Named, Packet, Payload, PlainRun, PlainStep, Primary, PrimaryView, Rule, Same, SamePart, Stands, Terminal, TerminalView, Who, Whole, accepted_after, accepted_with, appended, appends, arrives, backup_asked, byte_arrived, carried_after, contests_backup, contests_primary, counts, counts_at, has, held, holds_entries, keeps, last_or, primary_asked, saw, saw_count, sees, sees_count, sees_count_at, winner_after, winner_of, with_core, with_entry, with_known, words_of}
 use Rattle.pair_rule.specs.Histories as plain
-use Rattle.pair_rule.specs.Rules.{CountedBy, SamePart, Same, has, Facts, Moment, Rule}
 use Rattle.pair_rule.proofs.Histories.{asks_same, may_append}
-use Rattle.pair_rule.specs.Kinds.{Mine, with_known, with_core, appends, sees, holds_entries, contests_primary, contests_backup, counts, sees_count, counts_at, sees_count_at}
 use Rattle.pair_rule.proofs.Parts.{Local, on_primary, on_backup, on_terminal, steps}
 use Rattle.pair_rule.proofs.BoxSwaps.{Table, Goes, last_fits}
 use Rattle.pair_rule.proofs.BoxSteps.{own, same_load}

@@ -6,21 +6,16 @@ use Rattle.std.proofs.lemmas.Bool.{lt-ltb}
 use Rattle.std.proofs.lemmas.List.{get_or_past}
 use Rattle.std.proofs.lemmas.Option.{cond_some}
 use Rattle.disk_dcdd.specs.Drive as drives
-use Rattle.disk_dcdd.specs.declared.address.SectorAddress.{SectorAddress}
+use Rattle.pair_standing.proofs.Words.{AltairsAreDue, Among, Byte, Do, Input, Move, Operation, Reaches, SectorAddress, Take, Write, operations, operations-append}
 use Rattle.serial_2sio.specs.Port as serial
 use Rattle.event_callbacks.specs.Completions.{port_of}
 use Rattle.event_callbacks.specs.Operations.{id_of}
 use Rattle.event_callbacks.specs.declared.operations.OpId.TheVariants as id
-use Rattle.event_callbacks.specs.declared.operations.Operation.{Operation}
-use Rattle.event_callbacks.specs.declared.operations.Operation.TheVariants.{Byte, Write}
 use Rattle.guest_parts.specs.Guest.{Guest}
 use Rattle.guest_board.specs.Guest.{altair, due_byte, oldest_byte, stepped, take_from, wired}
 use Rattle.guest_board.specs.Ports.{Wired}
 use Rattle.guest_board.specs.declared.setup.Setup.{Setup}
-use Rattle.guest_lockstep.specs.Machine.{Move, Do, Take}
-use Rattle.guest_lockstep.specs.declared.input.Input.{Input}
 use Rattle.guest_lockstep.specs.declared.input.Input.TheVariants.{Rx}
-use Rattle.guest_lockstep.specs.Reach.{operations}
 use Rattle.i8080_words.specs.declared.registers.Processor.{Processor}
 use Rattle.altair_laws.specs.Stands.{IsLast}
 use Rattle.altair_laws.proofs.Bytes.{Bytes, bytes_after}
@@ -31,9 +26,6 @@ use Rattle.altair_laws.proofs.Sectors.{after_data-issue, issues}
 use Rattle.altair_laws.proofs.Steps.{Gave, GaveNothing, GaveByte, GaveWrite, after_step, steps_from}
 use Rattle.altair_laws.proofs.Windows.{bytes_pending}
 use Rattle.altair_laws.proofs.Writes.{Writes}
-use Rattle.pair_protocol.specs.Lawful.{Among, Reaches}
-use Rattle.pair_protocol.proofs.Traces.Moves.{operations-append}
-use Rattle.pair_standing.specs.Standing.{AltairsAreDue}
 
 -- ---- writes
 

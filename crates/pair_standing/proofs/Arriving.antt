@@ -6,7 +6,7 @@ use Rattle.std.specs.Option.{option_or}
 use Rattle.std.proofs.lemmas.Bool.{eq-eqb, false≢true, ltb-false, ltb-true}
 use Rattle.std.proofs.lemmas.List.{get_or-set_same}
 use Rattle.std.proofs.lemmas.Option.{none-some, same_Some, slice_get-get_or, slice_get_past}
-use Rattle.clone_state.specs.Assembly.{Gathering, Slots, after_part, gathered, is_missing, is_whole, whole_answer, with_part}
+use Rattle.pair_standing.proofs.Words.{Gathering, Sent, Slots, SomeIsLost, after_fate, after_part, after_parts, after_rounds, fate_in, gathered, is_missing, is_whole, le-cases, message_of, whole_answer, with_part}
 use Rattle.clone_state.specs.Gathering.{AreOf, IsOfImage, StaysOfImage}
 use Rattle.clone_state.specs.Laws.{PartsAreReadAgain}
 use Rattle.clone_state.specs.Parts.{PartMessage, guest_in, message_at}
@@ -14,8 +14,6 @@ use Rattle.i8080_words.specs.declared.refusal.Fault.{Fault}
 use Rattle.i8080_words.specs.declared.refusal.Fault.TheVariants.{NotWhole}
 use Rattle.log_entry.specs.Numbers.{◌>>=◌}
 use Rattle.log_entry.proofs.ReadingLaws.{first_read}
-use Rattle.pair_protocol.proofs.Traces.Lists.{le-cases}
-use Rattle.pair_standing.specs.Copying.{Sent, SomeIsLost, after_fate, after_parts, after_rounds, fate_in, message_of}
 use Rattle.pair_threads.specs.Fates.{fate_at}
 use Rattle.pair_threads.specs.declared.link.Fate.{Fate}
 use Rattle.pair_threads.specs.declared.link.Fate.TheVariants.{Pass, Drop, Twice}

@@ -2,7 +2,7 @@
 use Rattle.std.proofs.Common.{◌≡◌, ℕ, ◌+◌, ◌<◌, ◌^◌, Bool, true, false, cond, eqb, List, [], ◌∷◌, length, take, drop, Some, None, is_some, refl, sym, ap, subst, ◌∙◌, arith}
 use Rattle.std.proofs.lemmas.Bool.{eqb-true}
 use Rattle.std.proofs.lemmas.Option.{same_Some}
-use Rattle.clone_state.specs.Assembly.{Gathering, is_whole, machine_in, nothing_gathered}
+use Rattle.pair_standing.proofs.Words.{AllCame, Gathering, IsMadeByItsImage, Sent, SomeIsLost, after_rounds, is_whole, machine_in, nothing_gathered, sent_of}
 use Rattle.clone_state.specs.Checkpoint.{Checkpoint, checkpoint_of, guest_of}
 use Rattle.clone_state.specs.Copies.{image_parts}
 use Rattle.clone_state.specs.Gathering.{BeginsOfImage, StaysOfImage}
@@ -12,7 +12,6 @@ use Rattle.clone_state.specs.declared.image.Image.{Image}
 use Rattle.guest_parts.specs.Guest.{Guest}
 use Rattle.guest_parts.specs.Parts.{guest_of_parts}
 use Rattle.log_entry.specs.Numbers.{◌>>=◌}
-use Rattle.pair_standing.specs.Copying.{AllCame, IsMadeByItsImage, Sent, SomeIsLost, after_rounds, sent_of}
 use Rattle.pair_standing.proofs.Arriving.{Gathers, none_gathered, rounds-keep, some_is_lost, whole_are}
 use Rattle.pair_threads.specs.declared.link.Fate.{Fate}
 

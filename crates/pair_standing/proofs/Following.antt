@@ -1,12 +1,7 @@
 -- A settled run that stands is shown, so the workers of a generation may begin there.
 use Rattle.std.proofs.Common.{◌≡◌, ℕ, ◌<◌, ◌≤◌, false, [], length, take, sym, ap, subst, ◌∙◌, arith}
 use Rattle.std.proofs.lemmas.Bool.{false≢true}
-use Rattle.guest_lockstep.specs.Machine.{booted_from}
-use Rattle.guest_lockstep.specs.declared.reads.Reads.TheVariants.{Logged}
-use Rattle.guest_lockstep.specs.Reach.{inputs, keys, output}
-use Rattle.log_entry.specs.Entries.{entries}
-use Rattle.pair_protocol.proofs.Traces.Lists.{prefix-length}
-use Rattle.pair_resumed.specs.Settled.{SettledRunsAreShown, SettledRunsMayBegin, accepted_of, keys_of}
+use Rattle.pair_standing.proofs.Words.{Logged, SettledRunsAreShown, SettledRunsMayBegin, accepted_of, booted_from, entries, inputs, keys, keys_of, output, prefix-length}
 use Rattle.pair_rule.specs.Rules.{IsStart}
 use Rattle.pair_standing.specs.Following.{StandingsMayFollow}
 use Rattle.pair_threads.specs.Leading.{by_port}

@@ -1,29 +1,12 @@
 -- A winner's guest goes on: it stays as it was, takes one thing after another, or takes one byte or one write.
 use Rattle.std.proofs.Common.{◌≡◌, ℕ, ◌+◌, ◌<◌, inl, inr, Bool, true, false, cond, List, [], ◌∷◌, ◌++◌, Option, Some, None, refl, sym, ap, subst, ◌∙◌, append-nil, append_assoc, arith}
 use Rattle.std.specs.Prelude.{◌==◌, nat_lt, length, Result, Ok, Err, OnOk}
-use Rattle.disk_dcdd.specs.Address.{address_of}
-use Rattle.disk_dcdd.specs.declared.sector.SectorWrite.{SectorWrite}
-use Rattle.event_callbacks.specs.declared.operations.OpId.{OpId}
+use Rattle.pair_standing.proofs.Words.{Accepts, Accepts-booted, Byte, Entry, GoesOn, Held, Input, IsPrefix, IsThere, Logged, Machine, OpId, Record, SectorWrite, StartsWith, Write, address_of, after_byte, after_put, booted_from, entry_of, held, le-cases, prefix-trans, with_byte}
 use Rattle.event_callbacks.specs.declared.operations.OpId.TheVariants as id
-use Rattle.event_callbacks.specs.declared.operations.Operation.TheVariants.{Byte, Write}
 use Rattle.event_callbacks.proofs.Names.{name_cases}
-use Rattle.guest_lockstep.specs.Machine.{Machine, booted_from}
 use Rattle.guest_lockstep.specs.Outstanding.{ComesAndGoes, completed_by}
-use Rattle.guest_lockstep.specs.Recorded.{Accepts}
-use Rattle.guest_lockstep.specs.declared.input.Input.{Input}
 use Rattle.guest_lockstep.specs.declared.input.Input.TheVariants as input
-use Rattle.guest_lockstep.specs.declared.reads.Reads.TheVariants.{Logged}
-use Rattle.guest_lockstep.proofs.Booted.{Accepts-booted}
-use Rattle.log_entry.specs.Entries.{entry_of}
-use Rattle.log_entry.specs.declared.entry.Entry.{Entry}
-use Rattle.pair_protocol.specs.Faithful.{IsPrefix}
-use Rattle.pair_protocol.proofs.Traces.Lists.{le-cases, prefix-trans}
-use Rattle.pair_rule.specs.Knowledge.{StartsWith}
-use Rattle.pair_standing.specs.Finishing.{GoesOn, Held, after_byte, held, with_byte}
 use Rattle.pair_standing.proofs.Taking.{gives, puts}
-use Rattle.shared_disk.specs.Arrivals.{after_put}
-use Rattle.shared_disk.specs.Records.{IsThere}
-use Rattle.shared_disk.specs.declared.store.Record.{Record}
 
 -- ---- one thing after another
 

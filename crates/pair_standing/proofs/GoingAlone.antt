@@ -2,32 +2,16 @@
 -- outstanding, makes steps, or takes a key or a sector.
 use Rattle.std.proofs.Common.{◌≡◌, ℕ, zero, suc, List, [], ◌∷◌, ◌++◌, Option, Some, None, refl, sym, ap, subst, ◌∙◌, append-nil}
 use Rattle.std.specs.Option.{option_map}
-use Rattle.disk_dcdd.specs.declared.address.SectorAddress.{SectorAddress}
-use Rattle.event_callbacks.specs.declared.operations.OpId.{OpId}
-use Rattle.guest_lockstep.specs.Machine.{Machine, booted_from}
-use Rattle.guest_lockstep.specs.Recorded.{Accepts}
+use Rattle.pair_standing.proofs.Words.{Accepts, Accepts-booted, Entry, GoesOn, Held, IsLeft, IsPrefix, Lawful, Logged, Machine, MovesAlone, OpId, Record, RunsAlone, SectorAddress, TakesKey, Typed, booted_from, entry_of, held, prefix-refl, prefix-trans, read_at, read_of, record_at, typed_at, with_typed}
 use Rattle.guest_lockstep.specs.Running.{Quiet, RunsOn, AllTurns, Gives, IsRefused}
 use Rattle.guest_lockstep.specs.declared.input.Input.TheVariants as input
-use Rattle.guest_lockstep.specs.declared.reads.Reads.TheVariants.{Logged}
 use Rattle.guest_lockstep.specs.declared.running.StopReason.TheVariants as reason
 use Rattle.guest_lockstep.specs.declared.running.Stopped.{Stopped}
-use Rattle.guest_lockstep.proofs.Booted.{Accepts-booted}
 use Rattle.i8080_words.specs.declared.refusal.Fault.{Fault}
-use Rattle.log_entry.specs.Entries.{entry_of}
-use Rattle.log_entry.specs.declared.entry.Entry.{Entry}
 use Rattle.log_entry.specs.declared.entry.Entry.TheVariants.{Mark}
-use Rattle.pair_protocol.specs.Faithful.{IsPrefix}
-use Rattle.pair_protocol.specs.Lawful.{Lawful}
-use Rattle.pair_protocol.proofs.Traces.Lists.{prefix-refl, prefix-trans}
-use Rattle.pair_rule.specs.Law.{typed_at}
-use Rattle.pair_standing.specs.Alone.{MovesAlone, RunsAlone, TakesKey, Typed, with_typed}
-use Rattle.pair_standing.specs.Finishing.{GoesOn, Held, IsLeft, held}
 use Rattle.pair_standing.proofs.Going.{starts_after}
 use Rattle.pair_standing.proofs.Moving.{key_leaves, quiet_leaves, sector_leaves, step_leaves}
-use Rattle.shared_disk.specs.Arrivals.{read_at, read_of}
-use Rattle.shared_disk.specs.Records.{record_at}
 use Rattle.shared_disk.specs.declared.disk.SectorRead.{SectorRead}
-use Rattle.shared_disk.specs.declared.store.Record.{Record}
 
 module _ {S : Type 0} (N : Machine S) where
   -- ---- one thing after another

@@ -1,32 +1,10 @@
 -- A settled run that stands is one that was left: its acceptances are of bytes that it gave, and each write of it was put.
 use Rattle.std.proofs.Common.{◌≡◌, ℕ, ◌+◌, ◌≤◌, inl, inr, Bool, true, false, cond, List, [], ◌∷◌, ◌++◌, length, Option, Some, None, refl, sym, ap, subst, ◌∙◌, arith, append-nil, append_assoc, length-append, eqb-true}
 use Rattle.std.specs.Prelude.{◌==◌}
-use Rattle.disk_dcdd.specs.Address.{address_of}
-use Rattle.disk_dcdd.specs.declared.address.SectorAddress.{SectorAddress}
-use Rattle.disk_dcdd.specs.declared.sector.SectorWrite.{SectorWrite}
+use Rattle.pair_standing.proofs.Words.{Accepts, AllAre, Among, Byte, Do, DueIsGiven, Entry, Has, HasWrite, Input, IsDiskOf, IsDone, IsScreenOf, Lawful, Leaves, Machine, Move, Operation, Record, Recorded, Runs, SectorAddress, SectorWrite, Stands, Take, Write, Written, acceptances, acceptances_of-append, accepted_at, address_of, among-left, among-right, at_boot_is, bare, done_before, done_by, inputs, operations, output, output-append, record_is, recorded-append, recorded-runs, write_of, writes}
 use Rattle.event_callbacks.specs.declared.operations.OpId.TheVariants as id
-use Rattle.event_callbacks.specs.declared.operations.Operation.{Operation}
-use Rattle.event_callbacks.specs.declared.operations.Operation.TheVariants.{Byte, Write}
-use Rattle.guest_lockstep.specs.Machine.{Machine, Move, Do, Take, Runs}
-use Rattle.guest_lockstep.specs.Recorded.{Accepts, Recorded}
-use Rattle.guest_lockstep.specs.declared.input.Input.{Input}
 use Rattle.guest_lockstep.specs.declared.input.Input.TheVariants as input
-use Rattle.guest_lockstep.specs.Reach.{acceptances, accepted_at, bare, inputs, operations, output, write_of, writes}
-use Rattle.guest_lockstep.specs.declared.timed.Bare.TheVariants.{Written}
-use Rattle.log_entry.specs.declared.entry.Entry.{Entry}
-use Rattle.pair_protocol.specs.Lawful.{Among, IsDone, Lawful}
-use Rattle.pair_protocol.proofs.Traces.Lists.{among-left, among-right}
-use Rattle.pair_protocol.proofs.Traces.Moves.{acceptances_of-append, output-append}
-use Rattle.pair_protocol.proofs.Traces.Recorded.{recorded-append, recorded-runs}
-use Rattle.pair_resumed.specs.Settled.{DueIsGiven}
-use Rattle.pair_resumed.proofs.Following.{done_before, done_by}
-use Rattle.pair_resumed.proofs.OnDisk.{at_boot_is, record_is}
 use Rattle.pair_resumed.proofs.Taking.{a_write, is_due, is_out}
-use Rattle.pair_rule.specs.Knowledge.{AllAre, HasWrite}
-use Rattle.pair_standing.specs.Standing.{Stands}
-use Rattle.pair_threads.specs.Left.{IsScreenOf, Leaves}
-use Rattle.pair_threads.specs.Stores.{Has, IsDiskOf}
-use Rattle.shared_disk.specs.declared.store.Record.{Record}
 
 -- ---- the writes among the operations
 

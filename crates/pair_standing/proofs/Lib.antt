@@ -1,3 +1,4 @@
+pub mod Words
 pub mod Taking
 pub mod Going
 pub mod Settling

@@ -2,38 +2,15 @@
 -- that was left. What was left to the guest stays so.
 use Rattle.std.proofs.Common.{◌≡◌, ℕ, suc, ◌+◌, ◌<◌, ◌⊎◌, inl, inr, Bool, true, false, cond, List, [], ◌∷◌, ◌++◌, length, Option, Some, None, refl, sym, ap, subst, ◌∙◌, arith, append-nil, eqb-true}
 use Rattle.std.specs.Prelude.{◌==◌, slice_get}
-use Rattle.disk_dcdd.specs.declared.address.SectorAddress.{SectorAddress}
-use Rattle.disk_dcdd.specs.declared.sector.SectorWrite.{SectorWrite}
-use Rattle.event_callbacks.specs.declared.operations.Operation.{Operation}
-use Rattle.event_callbacks.specs.declared.operations.Operation.TheVariants.{Write}
-use Rattle.guest_lockstep.specs.Machine.{Machine, Move, Do, Take, Runs}
-use Rattle.guest_lockstep.specs.Recorded.{Accepts}
+use Rattle.pair_standing.proofs.Words.{Accepts, Among, Do, Entry, Has, Input, IsPrefix, IsScreenOf, IsStoreOf, IsUnwritten, IsWritten, Lawful, Leaves, Logged, Machine, Move, Operation, Record, Runs, SectorAddress, SectorWrite, Take, Write, Written, acceptances, acceptances_of-append, accepted_at, among-left, at_boot, at_boot_is, bare, count-does, done_before, done_by, entries, entries-append, entry_of, image, inputs, keys, keys_of-append, marks, operations, operations-append, output, output-append, owns-append, prefix-next, prefix-trans, record_at, recorded-append, recorded-runs, steps, typed_at}
 use Rattle.guest_lockstep.specs.Running.{Quiet, Begin, More}
-use Rattle.guest_lockstep.specs.declared.input.Input.{Input}
 use Rattle.guest_lockstep.specs.declared.input.Input.TheVariants as input
-use Rattle.guest_lockstep.specs.declared.reads.Reads.TheVariants.{Logged}
-use Rattle.guest_lockstep.specs.Reach.{acceptances, accepted_at, bare, image, inputs, keys, operations, output, steps}
-use Rattle.guest_lockstep.specs.declared.timed.Bare.TheVariants.{Written}
-use Rattle.log_entry.specs.Entries.{entries, entry_of, marks}
-use Rattle.log_entry.specs.declared.entry.Entry.{Entry}
-use Rattle.pair_protocol.specs.Faithful.{IsPrefix}
-use Rattle.pair_protocol.specs.Lawful.{Among, IsUnwritten, IsWritten, Lawful}
 use Rattle.pair_protocol.specs.World.{SectorRecord, latest}
 use Rattle.pair_protocol.proofs.Keeps.Disk.{AsBefore, LatestIs, OfPut, latest_is}
 use Rattle.pair_protocol.proofs.Keeps.PrimaryMoves.{sector-passed}
-use Rattle.pair_protocol.proofs.Traces.Lists.{among-left, prefix-next, prefix-trans}
-use Rattle.pair_protocol.proofs.Traces.Moves.{acceptances_of-append, count-does, entries-append, keys_of-append, operations-append, output-append, owns-append}
-use Rattle.pair_protocol.proofs.Traces.Recorded.{recorded-append, recorded-runs}
-use Rattle.pair_resumed.proofs.Following.{done_before, done_by}
-use Rattle.pair_resumed.proofs.OnDisk.{at_boot_is}
-use Rattle.pair_rule.specs.Law.{typed_at}
 use Rattle.pair_rule.proofs.Filled.{all_map}
 use Rattle.pair_rule.proofs.ShownGuards.{all_in}
-use Rattle.pair_threads.specs.Left.{IsScreenOf, IsStoreOf, Leaves}
-use Rattle.pair_threads.specs.Stores.{Has, at_boot}
 use Rattle.pair_standing.proofs.Taking.{accepted_more, given_still, leaves_after, leaves_with, same_output}
-use Rattle.shared_disk.specs.Records.{record_at}
-use Rattle.shared_disk.specs.declared.store.Record.{Record}
 
 module _ {S : Type 0} (M : Machine S) (lawful : Lawful M) (typed0 typed1 : List ℕ) (list : List Entry)
     (screen0 screen1 : List ℕ) (records : List Record) (s u : S)

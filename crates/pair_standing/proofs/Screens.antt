@@ -4,8 +4,7 @@ use Rattle.std.specs.Prelude.{◌==◌, nat_lt, if◌then◌else◌}
 use Rattle.pair_lines.specs.Lines.{HasShown, IsSameEnd, IsSameStart, heard, with_byte}
 use Rattle.pair_lines.specs.declared.keyboard.Keyboard.{Keyboard}
 use Rattle.pair_lines.specs.declared.screen.Screen.{Screen}
-use Rattle.pair_standing.specs.Alone.{Shows, ShowsOver, Types}
-use Rattle.pair_standing.specs.Finishing.{after_byte}
+use Rattle.pair_standing.proofs.Words.{Shows, ShowsOver, Types, after_byte}
 use Rattle.pair_threads.specs.Ending.{EachScreen}
 use Rattle.rtrb.specs.declared.consumer.Consumer.{Consumer}
 use Rattle.rtrb.specs.declared.producer.Producer.{Producer}

@@ -2,11 +2,8 @@
 -- or what is outstanding, or more is typed.
 use Rattle.std.proofs.Common.{◌≡◌, ℕ, Some, sym, subst}
 use Rattle.std.specs.Prelude.{slice_get}
-use Rattle.guest_lockstep.specs.Machine.{Machine}
+use Rattle.pair_standing.proofs.Words.{GoesAlone, GoesOn, Held, Machine, MovesAlone, Seen, Shows, TakesKey, Types, seen, typed_at, typed_of}
 use Rattle.pair_lines.specs.declared.screen.Screen.{Screen}
-use Rattle.pair_rule.specs.Law.{typed_at}
-use Rattle.pair_standing.specs.Alone.{GoesAlone, MovesAlone, Seen, Shows, TakesKey, Types, seen, typed_of}
-use Rattle.pair_standing.specs.Finishing.{GoesOn, Held}
 use Rattle.pair_standing.specs.declared.typing.Typing.{Typing}
 use Rattle.pair_standing.proofs.GoingAlone.{stays_alone, taken_alone, then_alone, typed_alone}
 use Rattle.pair_standing.proofs.Screens.{shows_none, shows_then, types_none, types_then}

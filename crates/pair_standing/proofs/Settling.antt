@@ -2,31 +2,11 @@
 -- the machine's own.
 use Rattle.std.proofs.Common.{◌≡◌, ℕ, zero, suc, ◌<◌, ◌≤◌, inl, inr, List, [], ◌∷◌, ◌++◌, length, Option, Some, None, refl, sym, ap, subst, ◌∙◌, arith, append-nil, length-append}
 use Rattle.std.specs.Prelude.{IsSome}
-use Rattle.disk_dcdd.specs.Address.{address_of}
-use Rattle.disk_dcdd.specs.declared.address.SectorAddress.{SectorAddress}
-use Rattle.disk_dcdd.specs.declared.sector.SectorWrite.{SectorWrite}
-use Rattle.event_callbacks.specs.declared.operations.OpId.{OpId}
+use Rattle.pair_standing.proofs.Words.{Among, ComesAndGoes-booted, Do, Entry, GoesOn, Has, Held, IsItsStore, IsLeft, IsScreenOf, Lawful, Leaves, Logged, Machine, Move, OpId, Operation, OutstandingIsDue, Record, Runs, SectorAddress, SectorWrite, Stands, Take, Write, address_of, at_boot_is, booted_from, entries, operations, output, record_is, recorded-runs, top}
 use Rattle.event_callbacks.specs.declared.operations.OpId.TheVariants as id
-use Rattle.event_callbacks.specs.declared.operations.Operation.{Operation}
-use Rattle.event_callbacks.specs.declared.operations.Operation.TheVariants.{Write}
-use Rattle.guest_lockstep.specs.Machine.{Machine, Move, Do, Take, Runs, booted_from}
 use Rattle.guest_lockstep.specs.Outstanding.{ComesAndGoes}
-use Rattle.guest_lockstep.specs.declared.reads.Reads.TheVariants.{Logged}
-use Rattle.guest_lockstep.proofs.Booted.{ComesAndGoes-booted}
-use Rattle.guest_lockstep.specs.Reach.{operations, output}
-use Rattle.log_entry.specs.Entries.{entries}
-use Rattle.log_entry.specs.declared.entry.Entry.{Entry}
-use Rattle.pair_protocol.specs.Lawful.{Among, Lawful, top}
-use Rattle.pair_protocol.proofs.Traces.Recorded.{recorded-runs}
-use Rattle.pair_resumed.specs.Settled.{IsItsStore}
-use Rattle.pair_resumed.proofs.OnDisk.{at_boot_is, record_is}
 use Rattle.pair_rule.proofs.ShownGuards.{all_in}
-use Rattle.pair_threads.specs.Left.{IsScreenOf, Leaves}
-use Rattle.pair_threads.specs.Stores.{Has}
 use Rattle.pair_threads.proofs.AtRest.{all_accepted}
-use Rattle.pair_standing.specs.Finishing.{GoesOn, Held, IsLeft}
-use Rattle.pair_standing.specs.Standing.{OutstandingIsDue, Stands}
-use Rattle.shared_disk.specs.declared.store.Record.{Record}
 
 -- as many operations as marks, which are entries
 few_operations : (c : ℕ) (moves : List Move) → length (operations moves) ≤ length (entries Logged c moves)

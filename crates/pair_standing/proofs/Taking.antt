@@ -3,36 +3,12 @@
 use Rattle.std.proofs.Common.{◌≡◌, ℕ, ◌+◌, ◌<◌, ◌≤◌, inl, inr, Bool, true, false, cond, List, [], ◌∷◌, ◌++◌, length, Some, refl, sym, ap, subst, ◌∙◌, arith, append-nil, length-append, eqb-true}
 use Rattle.std.specs.Prelude.{◌==◌, nat_lt, slice_get}
 use Rattle.std.proofs.lemmas.Bool.{ltb-true, ltb-false}
-use Rattle.disk_dcdd.specs.Address.{address_of}
-use Rattle.disk_dcdd.specs.declared.sector.SectorWrite.{SectorWrite}
+use Rattle.pair_standing.proofs.Words.{Accepts, AllAre, Among, Byte, Entry, HasWrite, Input, IsDiskOf, IsPrefix, IsScreenOf, IsStoreOf, IsThere, Lawful, Leaves, Logged, Machine, Move, Own, Record, Runs, SectorWrite, Take, Write, Written, acceptances, acceptances_of-append, accepted_at, address_of, after_byte, after_put, among-left, among-right, bare, done_by, entries, entries-append, entry_of, inputs, key_at, keys, keys_of-append, operations, operations-append, output, output-append, owns-append, prefix-next, record_at, recorded-runs, recorded-takes, steps, typed_at, with_byte}
 use Rattle.event_callbacks.specs.declared.operations.OpId.TheVariants as id
-use Rattle.event_callbacks.specs.declared.operations.Operation.TheVariants.{Byte, Write}
-use Rattle.guest_lockstep.specs.Machine.{Machine, Move, Take, Runs}
-use Rattle.guest_lockstep.specs.Recorded.{Accepts}
-use Rattle.guest_lockstep.specs.declared.input.Input.{Input}
 use Rattle.guest_lockstep.specs.declared.input.Input.TheVariants as input
-use Rattle.guest_lockstep.specs.declared.reads.Reads.TheVariants.{Logged}
-use Rattle.guest_lockstep.specs.Reach.{Own, acceptances, accepted_at, bare, inputs, key_at, keys, operations, output, steps}
-use Rattle.guest_lockstep.specs.declared.timed.Bare.TheVariants.{Written}
-use Rattle.log_entry.specs.Entries.{entries, entry_of}
-use Rattle.log_entry.specs.declared.entry.Entry.{Entry}
-use Rattle.pair_protocol.specs.Faithful.{IsPrefix}
-use Rattle.pair_protocol.specs.Lawful.{Among, Lawful}
 use Rattle.pair_protocol.proofs.Promises.Outputs.{byte_in_output}
-use Rattle.pair_protocol.proofs.Traces.Lists.{among-left, among-right, prefix-next}
-use Rattle.pair_protocol.proofs.Traces.Moves.{acceptances_of-append, entries-append, keys_of-append, operations-append, output-append, owns-append}
-use Rattle.pair_protocol.proofs.Traces.Recorded.{recorded-runs, recorded-takes}
-use Rattle.pair_resumed.proofs.Following.{done_by}
-use Rattle.pair_rule.specs.Knowledge.{AllAre, HasWrite}
-use Rattle.pair_rule.specs.Law.{typed_at}
 use Rattle.pair_rule.proofs.Filled.{all_map, all_more}
-use Rattle.pair_threads.specs.Left.{IsScreenOf, IsStoreOf, Leaves}
-use Rattle.pair_threads.specs.Stores.{IsDiskOf}
 use Rattle.pair_threads.proofs.Serving.{after_write, is_there}
-use Rattle.pair_standing.specs.Finishing.{after_byte, with_byte}
-use Rattle.shared_disk.specs.Arrivals.{after_put}
-use Rattle.shared_disk.specs.Records.{IsThere, record_at}
-use Rattle.shared_disk.specs.declared.store.Record.{Record}
 
 module _ {S : Type 0} (M : Machine S) (lawful : Lawful M) (typed0 typed1 : List ℕ) (list : List Entry)
     (screen0 screen1 : List ℕ) (records : List Record) (s u : S)

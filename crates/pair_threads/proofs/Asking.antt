@@ -2,9 +2,7 @@
 use Rattle.std.proofs.Common.{◌≡◌, ℕ, Bool, true, false, Option, Some, None, refl, sym, ◌∙◌}
 use Rattle.std.specs.Prelude.{IsSome}
 use Rattle.std.proofs.lemmas.Bool.{false≢true, true≢false}
-use Rattle.pair_threads.specs.Asking.{AsksIn, IsUnplanned, MayAsk, WonOver, asking_of}
-use Rattle.pair_threads.specs.Ending.{WonBy}
-use Rattle.pair_threads.specs.declared.gate.Who.{Who}
+use Rattle.pair_threads.proofs.Words.{AsksIn, IsUnplanned, MayAsk, Who, WonBy, WonOver, asking_of}
 use Rattle.pair_threads.specs.declared.gate.Who.TheVariants.{Primary, Link, Backup, Terminal, Disk}
 use Rattle.pair_threads.specs.declared.plan.Asking.{Asking}
 use Rattle.pair_threads.specs.declared.plan.Asking.TheVariants.{Never, AtTurn, WhenTold}

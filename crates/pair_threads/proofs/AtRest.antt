@@ -3,20 +3,9 @@ use Rattle.std.proofs.Common.{◌≡◌, ◌≢◌, ℕ, ◌+◌, ◌<◌, ◌�
 use Rattle.std.specs.Prelude.{◌==◌}
 use Rattle.std.specs.Option.{option_map}
 use Rattle.std.proofs.lemmas.Bool.Decides.{leb_tells}
-use Rattle.event_callbacks.specs.Operations.{id_of}
-use Rattle.event_callbacks.specs.declared.operations.OpId.{OpId}
+use Rattle.pair_threads.proofs.Words.{Byte, ComesAndGoes, Do, Input, Lawful, Machine, Move, OpId, Operation, Runs, Take, Write, acceptances, acceptances_of-append, accepted_at, bare, bool_cases, completed_by, id_of, inputs, name_cases, output, output-append, runs-append}
 use Rattle.event_callbacks.specs.declared.operations.OpId.TheVariants as id
-use Rattle.event_callbacks.specs.declared.operations.Operation.{Operation}
-use Rattle.event_callbacks.specs.declared.operations.Operation.TheVariants.{Byte, Write}
-use Rattle.event_callbacks.proofs.Names.{name_cases}
-use Rattle.guest_lockstep.specs.Machine.{Machine, Move, Do, Take, Runs}
-use Rattle.guest_lockstep.specs.Outstanding.{ComesAndGoes, completed_by}
-use Rattle.guest_lockstep.specs.declared.input.Input.{Input}
 use Rattle.guest_lockstep.specs.declared.input.Input.TheVariants as input
-use Rattle.guest_lockstep.specs.Reach.{acceptances, accepted_at, bare, inputs, output}
-use Rattle.pair_protocol.specs.Lawful.{Lawful}
-use Rattle.pair_protocol.proofs.Traces.Lists.{bool_cases}
-use Rattle.pair_protocol.proofs.Traces.Moves.{acceptances_of-append, output-append, runs-append}
 
 -- bytes numbered above what is accepted, up to what was given, are outstanding
 abbrev AreOut : {S : Type 0} → Machine S → ℕ → ℕ → ℕ → S → Type 0

@@ -1,10 +1,6 @@
 -- What a generation begins with: a guest at boot has nothing outstanding.
 use Rattle.std.proofs.Common.{◌≡◌, ℕ, List, [], Option, Some, None, refl}
-use Rattle.disk_dcdd.specs.declared.address.SectorAddress.{SectorAddress}
-use Rattle.event_callbacks.specs.declared.operations.OpId.{OpId}
-use Rattle.event_callbacks.specs.declared.operations.Operation.{Operation}
-use Rattle.guest_lockstep.specs.Machine.{Machine, booted_from}
-use Rattle.pair_protocol.specs.Lawful.{Lawful}
+use Rattle.pair_threads.proofs.Words.{Lawful, Machine, OpId, Operation, SectorAddress, booted_from}
 
 pub nothing_yet : {S : Type 0} (N : Machine S) (boot : S) (sectors : SectorAddress → List ℕ)
     → Lawful (booted_from N boot sectors) → (name : OpId) → N.find boot name ≡ None

@@ -1,7 +1,7 @@
 -- The link has a fate exactly for the packet in its hand.
 use Rattle.std.proofs.Common.{◌≡◌, true, Option, None, Some, refl, sym, ap, ◌∙◌}
 use Rattle.std.specs.Prelude.{is_some}
-use Rattle.pair_rule.specs.Seats.{Carrier}
+use Rattle.pair_threads.proofs.Words.{Carrier}
 use Rattle.pair_rule.specs.declared.payload.Packet.{Packet}
 use Rattle.pair_threads.specs.Fates.{IsDealtWith}
 use Rattle.pair_threads.specs.declared.link.Fate.{Fate}

@@ -2,23 +2,10 @@
 -- trace's output, or all of it but the last bytes of a window; a sector has the bytes of the machine's own disk, or of an
 -- outstanding write.
 use Rattle.std.proofs.Common.{◌≡◌, ℕ, ◌+◌, ◌≤◌, ◌⊎◌, inl, inr, Option, Some, None, List, [], ◌∷◌, ◌++◌, length, map, refl, sym, ap, subst, ◌∙◌, arith, append-nil, length-append, slice_get}
-use Rattle.disk_dcdd.specs.Address.{address_of}
-use Rattle.disk_dcdd.specs.declared.address.SectorAddress.{SectorAddress}
-use Rattle.disk_dcdd.specs.declared.sector.SectorWrite.{SectorWrite}
-use Rattle.event_callbacks.specs.declared.operations.OpId.{OpId}
+use Rattle.pair_threads.proofs.Words.{AllAre, Among, Arrival, Arrived, Byte, HasWrite, IsAllBut, IsDone, IsImage, IsOutstanding, IsPrefix, IsUnwritten, IsWritten, Lawful, Machine, MayHave, Move, OpId, Operation, Runs, SectorAddress, SectorRecord, SectorWrite, Write, acceptances, accepted_after, address_of, arrival_of, image, inputs, operations, output, sector_record}
 use Rattle.event_callbacks.specs.declared.operations.OpId.TheVariants as id
-use Rattle.event_callbacks.specs.declared.operations.Operation.{Operation}
-use Rattle.event_callbacks.specs.declared.operations.Operation.TheVariants.{Byte, Write}
-use Rattle.guest_lockstep.specs.Machine.{Machine, Move, Runs}
-use Rattle.guest_lockstep.specs.Reach.{acceptances, image, inputs, operations, output}
-use Rattle.pair_protocol.specs.Faithful.{IsAllBut, IsImage, IsOutstanding, IsPrefix, MayHave}
-use Rattle.pair_protocol.specs.Lawful.{Among, IsDone, IsUnwritten, IsWritten, Lawful}
-use Rattle.pair_protocol.specs.World.{Arrival, SectorRecord, accepted_after, sector_record}
 use Rattle.pair_protocol.proofs.Keeps.Disk.{AsBefore, LatestIs, OfPut, latest_all, latest_is}
 use Rattle.pair_protocol.proofs.Promises.Outputs.{accepted_front, byte_in_output}
-use Rattle.pair_rule.specs.Knowledge.{AllAre, HasWrite}
-use Rattle.pair_rule.specs.Shown.{arrival_of}
-use Rattle.pair_rule.specs.declared.view.Arrived.{Arrived}
 use Rattle.pair_rule.proofs.ShownGuards.{all_in}
 
 -- the arrival among those of a view

@@ -1,8 +1,6 @@
 -- No sector is due: no drive is selected, or none of the sectors of its track may come.
 use Rattle.std.proofs.Common.{◌≡◌, ℕ, ◌<◌, true, false, Option, Some, None, sym, subst, ◌∙◌}
-use Rattle.guest_lockstep.specs.Machine.{Machine}
-use Rattle.pair_protocol.proofs.Traces.Lists.{same_some}
-use Rattle.pair_threads.specs.Ending.{NoSectorIsDue}
+use Rattle.pair_threads.proofs.Words.{Machine, NoSectorIsDue, same_some}
 
 module _ {S : Type 0} (M : Machine S) (s : S) where
   pub none_selected : M.selected s ≡ None → NoSectorIsDue M s

@@ -5,35 +5,12 @@ use Rattle.std.proofs.Common.{◌≡◌, ◌⊎◌, inl, inr, ℕ, zero, suc, �
 use Rattle.std.specs.Prelude.{Result, Ok, Err, IsOk, IfOk, OnOk}
 use Rattle.std.proofs.Math.Seq.{take-length}
 use Rattle.std.proofs.lemmas.Bool.{false≢true}
-use Rattle.guest_lockstep.specs.Machine.{Machine, booted_from}
-use Rattle.guest_lockstep.specs.Outstanding.{ComesAndGoes}
-use Rattle.guest_lockstep.specs.Recorded.{Counts}
-use Rattle.guest_lockstep.proofs.Booted.{ComesAndGoes-booted, Counts-booted, Recorded-booted}
-use Rattle.log_entry.specs.declared.entry.Entry.{Entry}
-use Rattle.pair_protocol.specs.Lawful.{Lawful}
-use Rattle.pair_protocol.specs.World.{accepted_after}
-use Rattle.pair_rule.specs.declared.view.PrimaryView.{PrimaryView}
-use Rattle.pair_rule.specs.declared.view.BackupView.{BackupView}
-use Rattle.pair_rule.specs.declared.view.TerminalView.{TerminalView}
-use Rattle.pair_rule.specs.declared.view.DiskView.{DiskView}
-use Rattle.pair_rule.specs.Knowledge.{Decided, StartsWith, last_or, winner_of}
-use Rattle.pair_rule.specs.Seats.{Settled}
-use Rattle.pair_rule.specs.Shown.{arrival_of}
+use Rattle.pair_threads.proofs.Words.{BackupView, BackupWorker, ComesAndGoes, ComesAndGoes-booted, Counts, Counts-booted, Decided, DiskView, EndsAlone, EndsBy, EndsWell, Entry, IsAt, IsAtRest, IsStore, IsWhereItLeads, Lawful, Leads, Machine, PrimaryView, PrimaryWorker, Record, Recorded-booted, Repeats, SectorAddress, Settled, StartsWith, TerminalView, Who, WorkerLeads, accepted_after, arrival_of, booted_from, bytes_in, last_or, winner_named, winner_of, with_waiting}
 use Rattle.pair_rule.proofs.ListsThatGrow.{last_below}
-use Rattle.pair_threads.specs.declared.backup.BackupWorker.{BackupWorker}
-use Rattle.pair_threads.specs.declared.gate.Who.{Who}
 use Rattle.pair_threads.specs.declared.gate.Who.TheVariants as who
-use Rattle.pair_threads.specs.declared.primary.PrimaryWorker.{PrimaryWorker}
-use Rattle.pair_threads.specs.Ending.{EndsAlone, EndsBy, EndsWell, IsWhereItLeads, winner_named}
-use Rattle.pair_threads.specs.Leading.{Leads, with_waiting}
 use Rattle.pair_threads.specs.Left.{Leaves, LeavesBy}
-use Rattle.pair_threads.specs.Primary.{IsAtRest, WorkerLeads}
-use Rattle.pair_threads.specs.Repeating.{IsAt, Repeats}
-use Rattle.pair_threads.specs.Stores.{IsStore, bytes_in}
 use Rattle.pair_threads.proofs.Views.{leads_there}
 use Rattle.pair_threads.proofs.Ends.{backup_alone, backup_leaves, backup_where, primary_alone, primary_leaves, well}
-use Rattle.disk_dcdd.specs.declared.address.SectorAddress.{SectorAddress}
-use Rattle.shared_disk.specs.declared.store.Record.{Record}
 
 -- ---- the machine that boots elsewhere
 

@@ -5,49 +5,16 @@ use Rattle.std.proofs.Common.{◌≡◌, ℕ, zero, suc, ◌+◌, ◌<◌, ◌�
 use Rattle.std.proofs.Math.Seq.{take-length}
 use Rattle.std.proofs.lemmas.List.{take-append-drop}
 use Rattle.std.specs.Prelude.{Contains}
-use Rattle.disk_dcdd.specs.Address.{address_of}
-use Rattle.disk_dcdd.specs.declared.address.SectorAddress.{SectorAddress}
-use Rattle.disk_dcdd.specs.declared.sector.SectorWrite.{SectorWrite}
-use Rattle.event_callbacks.specs.declared.operations.OpId.{OpId}
-use Rattle.event_callbacks.specs.declared.operations.Operation.{Operation}
-use Rattle.event_callbacks.specs.declared.operations.Operation.TheVariants.{Byte, Write}
-use Rattle.guest_lockstep.specs.Lockstep.{step_refusal}
-use Rattle.guest_lockstep.specs.Machine.{Machine, Move, Do, Take, Runs}
-use Rattle.guest_lockstep.specs.Outstanding.{ComesAndGoes}
-use Rattle.guest_lockstep.specs.Recorded.{Counts, Recorded}
-use Rattle.guest_lockstep.specs.declared.reads.Reads.TheVariants.{Logged}
-use Rattle.guest_lockstep.specs.Reach.{Owns, acceptances, inputs, keys, operations, output, steps}
+use Rattle.pair_threads.proofs.Words.{AllAre, Among, Arrived, BackupView, Byte, ComesAndGoes, Counts, DiskView, Do, EachScreen, EndsAlone, EndsWell, Entry, HasWrite, Idle, IsDone, IsFirst, IsPrefix, IsReplied, IsStore, IsTraceOf, IsWhereItLeads, Lawful, Leads, Logged, Machine, MayHave, Move, NoSectorIsDue, OpId, Operation, Owns, PrimaryView, Record, Recorded, Repeats, Runs, Says, SectorAddress, SectorRead, SectorWrite, Settled, StartsWith, Take, TerminalView, Write, acceptances, acceptances-append, accepted_after, address_of, all_map, among-prefix, arrival_of, by_port, entries, inputs, inputs_of, inputs_of-append, inputs_of-entries, keys, keys-append, last_count, operations, operations-prefix, output, owns-append, owns-prefix, read_at, run_goes_on, sector_record, step_refusal, steps, typed_at, with_waiting}
 use Rattle.guest_lockstep.specs.declared.timed.Bare.TheVariants.{Written}
 use Rattle.guest_lockstep.specs.declared.timed.Timed.{Timed}
-use Rattle.i8080_words.specs.declared.refusal.Fault.TheVariants.{Idle}
-use Rattle.log_entry.specs.Entries.{entries, inputs_of, last_count}
-use Rattle.log_entry.specs.declared.entry.Entry.{Entry}
-use Rattle.pair_protocol.specs.Faithful.{IsPrefix, MayHave}
-use Rattle.pair_protocol.specs.Lawful.{Among, IsDone, Lawful}
 use Rattle.pair_protocol.specs.Traces.{cut}
-use Rattle.pair_protocol.specs.World.{accepted_after, sector_record}
 use Rattle.pair_protocol.proofs.Traces.Cuts.{cut-prefix}
-use Rattle.pair_protocol.proofs.Traces.Lists.{among-prefix}
-use Rattle.pair_protocol.proofs.Traces.Moves.{acceptances-append, inputs_of-append, inputs_of-entries, keys-append, operations-prefix, owns-append, owns-prefix}
 use Rattle.pair_protocol.proofs.Traces.Recorded.{recorded-prefix, recorded-runs}
 use Rattle.pair_rule.specs.declared.payload.DiskAnswer.TheVariants as answer
-use Rattle.pair_rule.specs.declared.view.PrimaryView.{PrimaryView}
-use Rattle.pair_rule.specs.declared.view.BackupView.{BackupView}
-use Rattle.pair_rule.specs.declared.view.TerminalView.{TerminalView}
-use Rattle.pair_rule.specs.declared.view.DiskView.{DiskView}
-use Rattle.pair_rule.specs.Knowledge.{AllAre, HasWrite, IsReplied, StartsWith, read_at}
-use Rattle.pair_rule.specs.Law.{typed_at}
-use Rattle.pair_rule.specs.Seats.{Settled}
-use Rattle.pair_rule.specs.Shown.{arrival_of}
-use Rattle.pair_rule.specs.declared.view.Arrived.{Arrived}
-use Rattle.pair_rule.proofs.Filled.{all_map}
-use Rattle.pair_rule.proofs.LongerRuns.{GoesOn, run_goes_on}
+use Rattle.pair_rule.proofs.LongerRuns.{GoesOn}
 use Rattle.pair_rule.proofs.ShownGuards.{all_in}
-use Rattle.pair_threads.specs.Ending.{EachScreen, EndsAlone, EndsWell, IsTraceOf, IsWhereItLeads, NoSectorIsDue}
-use Rattle.pair_threads.specs.Leading.{Leads, Says, by_port, with_waiting}
 use Rattle.pair_threads.specs.Left.{IsScreenOf, IsStoreOf, Leaves}
-use Rattle.pair_threads.specs.Repeating.{Repeats}
-use Rattle.pair_threads.specs.Stores.{IsFirst, IsStore}
 use Rattle.pair_threads.proofs.AtRest.{all_accepted}
 use Rattle.pair_threads.proofs.Delivered.{at_rest, in_sector, on_screen, whole_screen}
 use Rattle.pair_threads.proofs.FirstEntries.{all_of_it, first_part, given_at_all, given_first, repeated}
@@ -55,8 +22,6 @@ use Rattle.pair_threads.proofs.OneMoment.{StandsOf, stands_of}
 use Rattle.pair_threads.proofs.OwnDisk.{IsReadOf, answered, answers_prefix, owns}
 use Rattle.replayer.specs.Following.{Ran}
 use Rattle.shared_disk.specs.Records.{record_at}
-use Rattle.shared_disk.specs.declared.disk.SectorRead.{SectorRead}
-use Rattle.shared_disk.specs.declared.store.Record.{Record}
 
 -- ---- lists
 

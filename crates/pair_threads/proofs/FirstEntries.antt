@@ -2,23 +2,10 @@
 -- these entries, up to the count of the last, is that trace; and what is acknowledged by them was given in it.
 use Rattle.std.proofs.Common.{◌≡◌, ℕ, zero, suc, ◌<◌, ◌≤◌, inl, inr, true, false, List, [], ◌∷◌, ◌++◌, length, take, Some, None, refl, sym, ap, subst, ◌∙◌, arith, length-append}
 use Rattle.std.proofs.Math.Seq.{take-append_seam}
-use Rattle.event_callbacks.specs.declared.operations.Operation.{Operation}
-use Rattle.guest_lockstep.specs.Machine.{Machine, Move, Do, Take, Runs}
-use Rattle.guest_lockstep.specs.Recorded.{Counts}
-use Rattle.guest_lockstep.specs.declared.reads.Reads.TheVariants.{Logged}
-use Rattle.guest_lockstep.specs.Reach.{Owns, Reach, inputs, operations, steps}
-use Rattle.log_entry.specs.Entries.{entries, inputs_of, last_count}
-use Rattle.log_entry.specs.declared.entry.Entry.{Entry}
-use Rattle.pair_protocol.specs.Lawful.{Among, Lawful}
+use Rattle.pair_threads.proofs.Words.{Among, Counts, Do, Entry, IsAcknowledged, IsTraceOf, IsWhereItLeads, Lawful, Logged, Machine, Move, Operation, Owns, Reach, Repeats, Runs, Take, among-right, entries, front, inputs, inputs_of, inputs_of-entries, last_count, operations, operations-append, owns-prefix, steps}
 use Rattle.pair_protocol.specs.Traces.{cut}
-use Rattle.pair_protocol.proofs.Traces.Lists.{among-right}
-use Rattle.pair_protocol.proofs.Traces.Moves.{inputs_of-entries, operations-append, owns-prefix}
 use Rattle.pair_protocol.proofs.Traces.OneTrace.{first_entries}
 use Rattle.pair_protocol.proofs.Traces.Recorded.{recorded-runs}
-use Rattle.pair_rule.specs.Shown.{IsAcknowledged}
-use Rattle.pair_rule.proofs.LongerRuns.{front}
-use Rattle.pair_threads.specs.Ending.{IsTraceOf, IsWhereItLeads}
-use Rattle.pair_threads.specs.Repeating.{Repeats}
 
 no_longer : (list more all : List Entry) → all ≡ list ++ more → length list ≤ length all
 no_longer list more all is = (let a = length-append list more in let b = ap length is in omega (arith, a, b))

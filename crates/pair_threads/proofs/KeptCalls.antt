@@ -2,35 +2,12 @@
 -- has one, and the disk answered what that move says; and while all entries are seen, each note is covered.
 use Rattle.std.proofs.Common.{◌≡◌, ℕ, zero, suc, ◌+◌, ◌<◌, ◌≤◌, Bool, true, false, ◌&&◌, List, [], ◌∷◌, ◌++◌, length, take, drop, Some, None, refl, sym, ap, subst, ◌∙◌, arith, length-append, append-nil, nat_lt, nat_le, if◌then◌else◌}
 use Rattle.std.proofs.lemmas.List.{take-append-drop}
-use Rattle.event_callbacks.specs.Operations.{id_of}
-use Rattle.event_callbacks.specs.declared.operations.OpId.{OpId}
-use Rattle.event_callbacks.specs.declared.operations.Operation.{Operation}
-use Rattle.event_callbacks.specs.declared.operations.Operation.TheVariants.{Byte, Write}
-use Rattle.guest_lockstep.specs.Machine.{Machine, Move, Do, Take}
-use Rattle.guest_lockstep.specs.Recorded.{Counts, Recorded}
-use Rattle.guest_lockstep.specs.declared.input.Input.{Input}
+use Rattle.pair_threads.proofs.Words.{AllAre, AreAnswers, Byte, CallKept, Counts, DiskAnswer, Do, Entry, Input, IsAnswer, IsPrefix, IsTold, Leads, Logged, Machine, Mark, Move, OpId, Operation, PrimaryView, Recorded, Says, Take, Write, acceptances, all_more, by_port, count_entry, count_of, counted_at, entries, entry_of, id_of, inputs_of, is_read, keys, knew, notes_from, same_head, same_tail, typed_at}
 use Rattle.guest_lockstep.specs.declared.input.Input.TheVariants as input
-use Rattle.guest_lockstep.specs.declared.reads.Reads.TheVariants.{Logged}
-use Rattle.guest_lockstep.specs.Reach.{acceptances, keys}
-use Rattle.log_entry.specs.Entries.{count_of, entries, entry_of, inputs_of, is_read}
-use Rattle.log_entry.specs.declared.entry.Entry.{Entry}
-use Rattle.log_entry.specs.declared.entry.Entry.TheVariants.{Mark}
-use Rattle.pair_protocol.specs.Faithful.{IsPrefix}
 use Rattle.pair_protocol.specs.Node.{Note, covers, note_of, notes_after, same_name}
 use Rattle.pair_protocol.specs.Waiting.{reads_in, up_to_read, waits_for}
-use Rattle.pair_protocol.proofs.Traces.Moves.{count_entry}
 use Rattle.pair_protocol.proofs.Waiting.{logged_no_read}
-use Rattle.pair_rule.specs.declared.payload.DiskAnswer.{DiskAnswer}
 use Rattle.pair_rule.specs.declared.view.PrimaryCall.TheVariants.{Appended, Released}
-use Rattle.pair_rule.specs.declared.view.PrimaryView.{PrimaryView}
-use Rattle.pair_rule.specs.Kinds.{counted_at}
-use Rattle.pair_rule.specs.Knowledge.{AllAre}
-use Rattle.pair_rule.specs.Law.{IsTold, typed_at}
-use Rattle.pair_rule.specs.Shown.{notes_from}
-use Rattle.pair_rule.specs.Threads.{CallKept, knew}
-use Rattle.pair_rule.proofs.Filled.{all_more}
-use Rattle.pair_rule.proofs.LongerRuns.{same_head, same_tail}
-use Rattle.pair_threads.specs.Leading.{AreAnswers, IsAnswer, Leads, Says, by_port}
 
 -- ---- notes
 

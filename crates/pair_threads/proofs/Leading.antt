@@ -5,38 +5,16 @@ use mathlib.Core.Option.{some}
 use lib.ListN.{get_elem?}
 use Rattle.std.specs.Prelude.{Contains, slice_get}
 use Rattle.std.proofs.lemmas.List.Elements.{Contains-append_left, Contains-push}
-use Rattle.event_callbacks.specs.Operations.{id_of}
-use Rattle.event_callbacks.specs.declared.operations.OpId.{OpId}
-use Rattle.event_callbacks.specs.declared.operations.Operation.{Operation}
-use Rattle.event_callbacks.proofs.Names.{name_cases}
-use Rattle.guest_lockstep.specs.Machine.{Machine, Move, Do, Take}
-use Rattle.guest_lockstep.specs.Outstanding.{ComesAndGoes, completed_by}
-use Rattle.guest_lockstep.specs.Recorded.{Accepts, Counts, Recorded}
-use Rattle.guest_lockstep.specs.Lockstep.{step_refusal}
+use Rattle.pair_threads.proofs.Words.{Accepts, Among, AreAnswers, ComesAndGoes, Counts, DiskAnswer, Do, Entry, Idle, Input, IsAcknowledged, IsAnswer, IsGiven, Leads, Logged, Machine, Mark, Move, OpId, Operation, OutOfMemory, PrimaryView, Recorded, Take, among_last, among_more, completed_by, entries, entry_of, id_of, name_cases, operations, same_some, step_refusal, steps, with_release}
 use Rattle.guest_lockstep.specs.Running.{Quiet, Begin, More, RunsOn, AllTurns, Gives, IsRefused, fault_of}
 use Rattle.guest_lockstep.specs.declared.running.StopReason.TheVariants as reason
 use Rattle.guest_lockstep.specs.declared.running.Stopped.{Stopped}
-use Rattle.guest_lockstep.specs.declared.reads.Reads.TheVariants.{Logged}
 use Rattle.i8080_words.specs.declared.refusal.Fault.{Fault}
-use Rattle.i8080_words.specs.declared.refusal.Fault.TheVariants.{Idle, OutOfMemory}
-use Rattle.guest_lockstep.specs.declared.input.Input.{Input}
 use Rattle.guest_lockstep.specs.declared.input.Input.TheVariants as input
-use Rattle.guest_lockstep.specs.Reach.{operations, steps}
-use Rattle.log_entry.specs.Entries.{entries, entry_of}
-use Rattle.log_entry.specs.declared.entry.Entry.{Entry}
-use Rattle.log_entry.specs.declared.entry.Entry.TheVariants.{Mark}
-use Rattle.pair_protocol.specs.Lawful.{Among}
 use Rattle.pair_protocol.proofs.Traces.Moves as trace
-use Rattle.pair_protocol.proofs.Traces.Lists.{same_some}
-use Rattle.pair_rule.specs.Shown.{IsAcknowledged}
-use Rattle.pair_rule.specs.declared.payload.DiskAnswer.{DiskAnswer}
 use Rattle.pair_rule.specs.declared.payload.DiskAnswer.TheVariants as answer
-use Rattle.pair_rule.specs.declared.view.PrimaryView.{PrimaryView}
-use Rattle.pair_rule.specs.Knowledge.{with_release}
-use Rattle.pair_rule.proofs.Filled.{among_last, among_more}
 use Rattle.pair_rule.proofs.ShownNodes.{among_either, later_covered, longer_covered}
 use Rattle.recorder.proofs.Recorded.{Recorded-append, entries-append}
-use Rattle.pair_threads.specs.Leading.{AreAnswers, IsAnswer, IsGiven, Leads}
 
 -- ---- a given operation stands in the moves, and its mark comes before their last entry
 

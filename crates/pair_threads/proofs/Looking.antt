@@ -1,7 +1,7 @@
 -- A backup that wants a sector looks it up once, and then takes no packet until it has found it.
 use Rattle.std.proofs.Common.{◌≡◌, Bool, true, false, Option, Some, None, sym, subst}
 use Rattle.pair_rule.specs.declared.payload.NamedSector.{NamedSector}
-use Rattle.pair_rule.specs.declared.view.Core.{Core}
+use Rattle.pair_threads.proofs.Words.{Core}
 use Rattle.pair_threads.specs.BackupTurns.{FindsSector, LooksUp, Takes, TakesPacket}
 use Rattle.pair_threads.specs.declared.worker.Turn.{Turn}
 

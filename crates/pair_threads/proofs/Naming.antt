@@ -5,21 +5,12 @@ use Rattle.std.specs.Str.{bytes_eq}
 use Rattle.std.proofs.lemmas.Bool.{and_parts, eq-eqb, eqb-true, false≢true}
 use Rattle.std.proofs.lemmas.List.{get_or-set_other, get_or-set_same}
 use Rattle.std.proofs.lemmas.Slice.Eq.{bytes_eq-Decides}
-use Rattle.disk_dcdd.specs.Address.{same_address}
-use Rattle.disk_dcdd.specs.declared.address.SectorAddress.{SectorAddress}
+use Rattle.pair_threads.proofs.Words.{Among, Carries, DiskAnswer, Entry, Logged, Mark, Read, Rx, Sector, SectorAddress, SectorRead, Sent, Shared, Written, read_at, same_address, same_some, sector_entry}
 use Rattle.guest_lockstep.specs.declared.reads.Reads.{Reads}
-use Rattle.guest_lockstep.specs.declared.reads.Reads.TheVariants.{Logged, Shared}
-use Rattle.log_entry.specs.declared.entry.Entry.{Entry}
-use Rattle.log_entry.specs.declared.entry.Entry.TheVariants.{Mark, Rx, Sent, Sector, Written, Read}
-use Rattle.pair_protocol.specs.Lawful.{Among}
-use Rattle.pair_protocol.proofs.Traces.Lists.{same_some}
 use Rattle.pair_rule.specs.declared.payload.Carried.TheVariants.{Named}
-use Rattle.pair_rule.specs.declared.payload.DiskAnswer.{DiskAnswer}
 use Rattle.pair_rule.specs.declared.payload.DiskAnswer.TheVariants as answer
 use Rattle.pair_rule.specs.declared.payload.NamedSector.{NamedSector}
-use Rattle.pair_rule.specs.Knowledge.{Carries, read_at, sector_entry}
 use Rattle.pair_threads.specs.Naming.{HasTracks, is_on_track, is_read, name_for, named_sector, no_sector_waits, track_at, waits_on_track, was_read}
-use Rattle.shared_disk.specs.declared.disk.SectorRead.{SectorRead}
 use Rattle.shared_disk.proofs.RecordsBySector.{is_same}
 
 -- ---- lists

@@ -3,18 +3,7 @@ use Rattle.std.proofs.Common.{◌≡◌, ◌≢◌, inl, inr, ℕ, zero, suc, �
 use Rattle.std.specs.Prelude.{Contains}
 use Rattle.std.specs.List.{items_where_true}
 use Rattle.std.specs.List.Retain.{IsFiltered, ReturnsInTurn}
-use Rattle.event_callbacks.specs.declared.operations.OpId.{OpId}
-use Rattle.event_callbacks.specs.declared.operations.Operation.{Operation}
-use Rattle.event_callbacks.proofs.Names.{name_cases}
-use Rattle.guest_lockstep.specs.Lockstep.{HasRoom, IsInput, step_refusal}
-use Rattle.guest_lockstep.specs.Machine.{Machine, Move, refusal_of}
-use Rattle.guest_lockstep.specs.Outstanding.{ComesAndGoes}
-use Rattle.guest_lockstep.specs.Recorded.{Counts, Recorded}
-use Rattle.guest_lockstep.specs.declared.input.Input.{Input}
-use Rattle.guest_lockstep.specs.declared.reads.Reads.TheVariants.{Logged}
-use Rattle.log_entry.specs.Entries.{entry_of}
-use Rattle.pair_threads.specs.Leading.{IdlesIf, IsGiven, Leads, LeadsOn, Says, TakesOn, with_waiting}
-use Rattle.pair_threads.specs.declared.recording.Recording.{Recording}
+use Rattle.pair_threads.proofs.Words.{ComesAndGoes, Counts, HasRoom, IdlesIf, Input, IsGiven, IsInput, Leads, LeadsOn, Logged, Machine, Move, OpId, Operation, Recorded, Recording, Says, TakesOn, entry_of, name_cases, refusal_of, step_refusal, with_waiting}
 use Rattle.pair_threads.proofs.Leading.{takes}
 use Rattle.pair_threads.proofs.Telling.{says_input}
 

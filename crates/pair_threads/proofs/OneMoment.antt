@@ -1,18 +1,7 @@
 -- What holds of the views of one moment.
 use Rattle.std.proofs.Common.{◌≡◌, ℕ, ◌+◌, ◌≤◌, ◌==◌, Bool, true, false, cond, List, [], ◌∷◌, length, map, subst, arith}
-use Rattle.event_callbacks.specs.declared.operations.Operation.TheVariants.{Byte, Write}
-use Rattle.pair_protocol.specs.Lawful.{Among}
-use Rattle.pair_protocol.specs.World.{accepted_after}
-use Rattle.pair_rule.specs.declared.view.Arrived.{Arrived}
-use Rattle.pair_rule.specs.declared.view.PrimaryView.{PrimaryView}
-use Rattle.pair_rule.specs.declared.view.BackupView.{BackupView}
-use Rattle.pair_rule.specs.declared.view.Knowledge.{Knowledge}
-use Rattle.pair_rule.specs.declared.view.TerminalView.{TerminalView}
-use Rattle.pair_rule.specs.declared.view.DiskView.{DiskView}
-use Rattle.pair_rule.specs.Knowledge.{AllAre, IsReplied, Stands, StartsWith, last_or}
+use Rattle.pair_threads.proofs.Words.{AllAre, Among, Arrived, BackupView, Byte, DiskView, IsReplied, Knowledge, PrimaryView, Settled, Stands, StartsWith, TerminalView, Write, accepted_after, arrival_of, last_or}
 use Rattle.pair_rule.specs.Knowledge.{accepted_after as how_many}
-use Rattle.pair_rule.specs.Seats.{Settled}
-use Rattle.pair_rule.specs.Shown.{arrival_of}
 use Rattle.pair_rule.proofs.ListsThatGrow.{last_below}
 
 -- the backup has the first entries, and all that the primary has seen; each terminal has accepted what is counted; what

@@ -1,28 +1,12 @@
 -- Each sector that came under the head in a run carried what the machine's own disk had there, if each is an answer of a
 -- disk that answers a read by the bytes at boot or by a write of the run. And each write that is done was answered.
 use Rattle.std.proofs.Common.{◌≡◌, ℕ, suc, ◌≤◌, ◌⊎◌, inl, inr, List, [], ◌∷◌, ◌++◌, map, Option, None, refl, sym, ap, subst, ◌∙◌, arith, append_assoc}
-use Rattle.disk_dcdd.specs.Address.{address_of}
-use Rattle.disk_dcdd.specs.declared.address.SectorAddress.{SectorAddress}
-use Rattle.disk_dcdd.specs.declared.sector.SectorWrite.{SectorWrite}
-use Rattle.event_callbacks.specs.declared.operations.Operation.{Operation}
-use Rattle.event_callbacks.specs.declared.operations.Operation.TheVariants.{Write}
-use Rattle.guest_lockstep.specs.Machine.{Machine, Move, Do, Take, Runs, refusal_of}
-use Rattle.guest_lockstep.specs.Recorded.{Recorded}
-use Rattle.guest_lockstep.specs.declared.input.Input.{Input}
+use Rattle.pair_threads.proofs.Words.{Among, AreAnswers, DiskAnswer, Do, Input, IsAnswer, IsPrefix, IsUnwritten, IsWritten, Lawful, Machine, Move, Operation, Own, Owns, Recorded, Runs, SectorAddress, SectorRead, SectorWrite, Take, Write, address_of, among-prefix, bare, image, inputs, operations, operations-prefix, read_at, refusal_of, runs-append, same_some}
 use Rattle.guest_lockstep.specs.declared.input.Input.TheVariants as input
-use Rattle.guest_lockstep.specs.Reach.{Own, Owns, bare, image, inputs, operations}
 use Rattle.guest_lockstep.specs.declared.timed.Bare.TheVariants.{Written}
 use Rattle.guest_lockstep.specs.declared.timed.Timed.{Timed}
-use Rattle.pair_protocol.specs.Faithful.{IsPrefix}
-use Rattle.pair_protocol.specs.Lawful.{Among, IsUnwritten, IsWritten, Lawful}
 use Rattle.pair_protocol.proofs.Keeps.PrimaryMoves.{sector-passed}
-use Rattle.pair_protocol.proofs.Traces.Lists.{among-prefix, same_some}
-use Rattle.pair_protocol.proofs.Traces.Moves.{operations-prefix, runs-append}
-use Rattle.pair_rule.specs.Knowledge.{read_at}
-use Rattle.pair_rule.specs.declared.payload.DiskAnswer.{DiskAnswer}
 use Rattle.pair_rule.specs.declared.payload.DiskAnswer.TheVariants as answer
-use Rattle.pair_threads.specs.Leading.{AreAnswers, IsAnswer}
-use Rattle.shared_disk.specs.declared.disk.SectorRead.{SectorRead}
 
 -- a read found the bytes at boot under number 0, or those of a write that these moves gave
 pub record IsReadOf {S : Type 0} (M : Machine S) (moves : List Move) (r : SectorRead) : Type 0 where

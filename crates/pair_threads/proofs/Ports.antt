@@ -1,15 +1,8 @@
 -- A worker's guest after a key or an acceptance of a port, of which one more is said to be taken, and after an answer.
 use Rattle.std.proofs.Common.{◌≡◌, ◌≢◌, ℕ, zero, suc, ◌+◌, ◌<◌, ◌==◌, if◌then◌else◌, Bool, true, false, List, [], ◌∷◌, ◌++◌, take, Some, refl, sym, ap, subst, ◌∙◌, arith}
 use Rattle.std.specs.Prelude.{slice_get}
-use Rattle.guest_lockstep.specs.Machine.{Machine}
+use Rattle.pair_threads.proofs.Words.{DiskAnswer, HeardOn, IsLeading, Machine, PortInputs, PrimaryView, PrimaryWorker, Recording, TakesOn, WorkerLeads, by_port, keys_by, keys_taken, told_by}
 use Rattle.guest_lockstep.specs.declared.input.Input.TheVariants.{Rx, Sent}
-use Rattle.pair_rule.specs.declared.payload.DiskAnswer.{DiskAnswer}
-use Rattle.pair_rule.specs.declared.view.PrimaryView.{PrimaryView}
-use Rattle.pair_threads.specs.Leading.{HeardOn, IsLeading, TakesOn, by_port}
-use Rattle.pair_threads.specs.Primary.{WorkerLeads, keys_by, keys_taken, told_by}
-use Rattle.pair_threads.specs.declared.port_inputs.PortInputs.{PortInputs}
-use Rattle.pair_threads.specs.declared.primary.PrimaryWorker.{PrimaryWorker}
-use Rattle.pair_threads.specs.declared.recording.Recording.{Recording}
 use Rattle.pair_threads.proofs.Telling.{key_at_first, key_at_second, no_key, no_acceptance, one_at_first, one_at_second}
 use Rattle.pair_threads.proofs.Views.{is_among}
 

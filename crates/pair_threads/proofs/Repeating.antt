@@ -6,25 +6,16 @@ use Rattle.std.proofs.lemmas.Bool.{false≢true, true≢false}
 use Rattle.std.proofs.Math.Seq.{take-suc}
 use Rattle.std.proofs.lemmas.List.{take-append-le}
 use Rattle.std.proofs.lemmas.Option.{get_or_from_slice_get, slice_get_within}
-use Rattle.guest_lockstep.specs.Lockstep.{StepsUnless, step_refusal}
-use Rattle.guest_lockstep.specs.Machine.{Machine}
-use Rattle.guest_lockstep.specs.Recorded.{Counts}
+use Rattle.pair_threads.proofs.Words.{AsksIn, BackupWorker, Counts, Entry, FollowsFor, GoesOn, HasAsked, IsAt, IsStuck, Machine, MayAsk, OutOfMemory, Repeats, Seat, StepsUnless, count_of, last_count, ran_ahead, step_refusal}
 use Rattle.guest_lockstep.specs.Running.{AllTurns, Gives, IsRefused, Quiet, RunsOn}
 use Rattle.guest_lockstep.specs.declared.running.Stopped.{Stopped}
 use Rattle.guest_lockstep.proofs.QuietSteps.{quiet_count}
 use Rattle.i8080_words.specs.declared.refusal.Fault.{Fault}
-use Rattle.i8080_words.specs.declared.refusal.Fault.TheVariants.{OutOfMemory}
-use Rattle.log_entry.specs.Entries.{count_of, last_count}
-use Rattle.log_entry.specs.declared.entry.Entry.{Entry}
 use Rattle.replayer.specs.Following.{Follows, Reaches}
 use Rattle.replayer.specs.declared.following.Followed.{Followed}
 use Rattle.replayer.specs.declared.following.Followed.TheVariants.{Differs, Stepped}
 use Rattle.replayer.proofs.FollowedEntries.{following_is_recording}
-use Rattle.pair_rule.specs.Seats.{Seat}
-use Rattle.pair_threads.specs.Asking.{AsksIn, HasAsked, MayAsk}
 use Rattle.pair_threads.proofs.Asking.{asks_so}
-use Rattle.pair_threads.specs.Repeating.{FollowsFor, GoesOn, IsAt, IsStuck, Repeats, ran_ahead}
-use Rattle.pair_threads.specs.declared.backup.BackupWorker.{BackupWorker}
 use Rattle.pair_threads.specs.declared.plan.Plan.{Plan}
 use Rattle.pair_threads.specs.declared.repeater.Repeater.{Repeater}
 

@@ -1,19 +1,9 @@
 -- A primary's worker that goes on where a run was settled: its seat knows what is known then, and its ports have what was taken.
 use Rattle.std.proofs.Common.{◌≡◌, ℕ, Bool, true, List, [], take, sym, ap, subst, ◌∙◌, Vec, Global}
-use Rattle.disk_dcdd.specs.declared.address.SectorAddress.{SectorAddress}
-use Rattle.guest_lockstep.specs.Machine.{Machine}
-use Rattle.pair_rule.specs.declared.view.Core.{Core}
-use Rattle.pair_rule.specs.declared.view.Knowledge.{Knowledge}
+use Rattle.pair_threads.proofs.Words.{CallsKept, Core, Knowledge, Leads, Machine, PortInputs, PrimaryWorker, Record, Says, Seat, SectorAddress, WorkerKeeps, by_port, keys_taken, with_slot}
 use Rattle.pair_rule.specs.Boxes.{Primary}
-use Rattle.pair_rule.specs.Kinds.{with_slot}
 use Rattle.pair_rule.specs.Rules.{core_of}
-use Rattle.pair_rule.specs.Seats.{Seat}
-use Rattle.pair_threads.specs.declared.port_inputs.PortInputs.{PortInputs}
-use Rattle.pair_threads.specs.declared.primary.PrimaryWorker.{PrimaryWorker}
-use Rattle.pair_threads.specs.Leading.{Leads, Says, by_port}
-use Rattle.pair_threads.specs.Primary.{CallsKept, WorkerKeeps, keys_taken}
 use Rattle.pair_threads.specs.Resuming.{BeginsAt}
-use Rattle.shared_disk.specs.declared.store.Record.{Record}
 
 -- so many bytes of those typed at a port are taken, and so many acceptances
 abbrev pub HasTaken : PortInputs → Vec ℕ Global → ℕ → ℕ → Type 0

@@ -1,20 +1,10 @@
 -- The terminals' worker: a byte that is counted arrives, and is accepted if it is the next one.
 use Rattle.std.proofs.Common.{◌≡◌, ℕ, ◌==◌, Bool, true, false, List, [], ◌∷◌, ◌++◌, if◌then◌else◌, length, map, Option, Some, refl, sym, ap, subst, ◌∙◌, arith}
 use Rattle.std.specs.Prelude.{◌≢◌, not}
-use Rattle.event_callbacks.specs.declared.operations.Operation.{Operation}
-use Rattle.event_callbacks.specs.declared.operations.Operation.TheVariants.{Byte}
-use Rattle.pair_lines.specs.Lines.{HasShown, with_byte}
+use Rattle.pair_threads.proofs.Words.{Arrived, Byte, Core, HasShown, Knowledge, Operation, accepted_after, arrival_of, arrives, byte_arrived, bytes_accepted, with_byte, with_known}
 use Rattle.pair_lines.specs.declared.screen.Screen.{Screen}
-use Rattle.pair_protocol.specs.World.{accepted_after}
 use Rattle.pair_protocol.proofs.Promises.OneMore.{accepted-one}
 use Rattle.pair_rule.specs.declared.payload.PortByte.{PortByte}
-use Rattle.pair_rule.specs.declared.view.Arrived.{Arrived}
-use Rattle.pair_rule.specs.declared.view.Core.{Core}
-use Rattle.pair_rule.specs.Kinds.{with_known}
-use Rattle.pair_rule.specs.declared.view.Knowledge.{Knowledge}
-use Rattle.pair_rule.specs.Knowledge.{arrives, byte_arrived}
-use Rattle.pair_rule.specs.Shown.{arrival_of}
-use Rattle.pair_rule.specs.Threads.{bytes_accepted}
 use Rattle.pair_rule.proofs.ShownNodes.{map_more}
 use Rattle.pair_threads.specs.Screens.{HasInHand, next_byte, port_of}
 

@@ -4,34 +4,20 @@ use Rattle.std.proofs.Common.{◌≡◌, ℕ, ◌<◌, ◌⊎◌, Bool, true, fa
 use Rattle.std.proofs.lemmas.Bool.{ltb-true}
 use Rattle.std.specs.Prelude.{nat_lt}
 use Rattle.std.specs.Option.{option_map, option_map_or}
-use Rattle.disk_dcdd.specs.Address.{address_of, same_address}
-use Rattle.disk_dcdd.specs.declared.address.SectorAddress.{SectorAddress}
-use Rattle.disk_dcdd.specs.declared.sector.SectorWrite.{SectorWrite}
+use Rattle.pair_threads.proofs.Words.{AllAre, Among, Core, DiskAnswer, DiskView, Empties, Fills, FirstsAgree, FirstsAgreeOf, Has, IsDiskOf, IsFirst, IsStore, LooksAt, Record, SectorAddress, SectorRead, SectorRecord, SectorWrite, Serves, WasRead, address_of, all_more, at_boot, bytes_in, latest, put_by, record_after, same_address, same_some}
 use Rattle.shared_disk.specs.Arrivals.{after_meeting, after_put, read_at, read_of, record_of}
 use Rattle.shared_disk.specs.Records.{IsThere, IsUnwritten, record_at, with_record}
-use Rattle.shared_disk.specs.declared.disk.SectorRead.{SectorRead}
-use Rattle.shared_disk.specs.declared.store.Record.{Record}
 use Rattle.pair_threads.specs.Turns.{Leaves}
 use Rattle.pair_threads.specs.declared.worker.Turn.{Turn}
 use Rattle.pair_threads.specs.declared.worker.Turn.TheVariants.{Moved, Looks, Waits, Ends}
 use Rattle.shared_disk.proofs.RecordsBySector.{is_other, is_same, record_at-with_other, record_at-with_same}
-use Rattle.pair_protocol.specs.World.{SectorRecord, latest, record_after}
-use Rattle.pair_protocol.proofs.Traces.Lists.{same_some}
 use Rattle.pair_protocol.proofs.Promises.OneMore.{latest-one}
 use Rattle.pair_rule.specs.declared.mailbox.Mailbox.TheVariants.{Answers, Lookups, Requests, Sectors}
-use Rattle.pair_rule.specs.declared.payload.DiskAnswer.{DiskAnswer}
 use Rattle.pair_rule.specs.declared.payload.DiskAnswer.TheVariants as answer
 use Rattle.pair_rule.specs.declared.payload.DiskRequest.{DiskRequest}
 use Rattle.pair_rule.specs.declared.payload.DiskRequest.TheVariants as ask
 use Rattle.pair_rule.specs.declared.payload.Payload.TheVariants.{Answer, Lookup, Request, Sector}
-use Rattle.pair_rule.specs.declared.view.Core.{Core}
-use Rattle.pair_rule.specs.declared.view.DiskView.{DiskView}
-use Rattle.pair_protocol.specs.Lawful.{Among}
 use Rattle.pair_rule.specs.Knowledge as knowledge
-use Rattle.pair_rule.specs.Knowledge.{AllAre, FirstsAgree, FirstsAgreeOf, WasRead, put_by}
-use Rattle.pair_rule.specs.Seats.{Empties, Fills}
-use Rattle.pair_rule.proofs.Filled.{all_more}
-use Rattle.pair_threads.specs.Stores.{Has, IsDiskOf, IsFirst, IsStore, LooksAt, Serves, at_boot, bytes_in}
 
 -- ---- a write arrives
 

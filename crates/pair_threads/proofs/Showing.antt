@@ -1,9 +1,8 @@
 -- The worker of the terminals shows what they accept, from what it began with on.
 use Rattle.std.proofs.Common.{◌≡◌, ℕ, List, [], ◌∷◌, sym, subst}
-use Rattle.pair_lines.specs.Lines.{HasShown, IsSameStart}
+use Rattle.pair_threads.proofs.Words.{EachScreen, HasShown, IsSameStart}
 use Rattle.pair_lines.specs.declared.screen.Screen.{Screen}
 use Rattle.pair_lines.proofs.Same.{same_start, same_start_on}
-use Rattle.pair_threads.specs.Ending.{EachScreen}
 use Rattle.pair_threads.specs.Showing.{ShowsAll, ShowsOn}
 use Rattle.pair_threads.specs.declared.terminal.TerminalWorker.{TerminalWorker}
 

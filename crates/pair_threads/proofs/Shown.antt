@@ -1,40 +1,15 @@
 -- What the workers end with is what steps of the threads led to: the table has its steps, and each worker kept what its calls
 -- promise.
 use Rattle.std.proofs.Common.{◌≡◌, ◌≤◌, ℕ, Bool, List, [], ◌∷◌, length, map, Option, None, refl, sym, ap, subst, ◌∙◌, arith}
-use Rattle.guest_lockstep.specs.Machine.{Machine, booted_from}
-use Rattle.guest_lockstep.specs.declared.reads.Reads.TheVariants.{Logged}
-use Rattle.guest_lockstep.proofs.Booted.{Recorded-booted}
-use Rattle.log_entry.specs.Entries.{entries}
-use Rattle.log_entry.specs.declared.entry.Entry.{Entry}
-use Rattle.pair_protocol.specs.Lawful.{Lawful}
-use Rattle.pair_protocol.specs.World.{accepted_after}
+use Rattle.pair_threads.proofs.Words.{AllAre, BackupView, BackupWorker, CallKept, DiskAnswer, DiskView, Entry, IsAt, IsFirst, IsStore, Lawful, Logged, Machine, NoneUnderWay, PrimaryView, PrimaryWorker, Record, Recorded-booted, Settled, TerminalView, ThreadRun, Who, WorkerKeeps, WorkerLeads, accepted_after, all_map, arrival_of, booted_from, bytes_in, entries, last_or, winner_named, winner_of, with_waiting}
 use Rattle.pair_protocol.proofs.Promises.Growth.{row_grows}
 use Rattle.pair_protocol.proofs.RowActions.{row_changes}
 use Rattle.pair_protocol.proofs.Promises.Runs.{always_faithful, changes_reach}
-use Rattle.pair_rule.specs.declared.payload.DiskAnswer.{DiskAnswer}
 use Rattle.pair_rule.specs.declared.payload.DiskAnswer.TheVariants as answer
-use Rattle.pair_rule.specs.declared.view.DiskView.{DiskView}
-use Rattle.pair_rule.specs.declared.view.PrimaryView.{PrimaryView}
-use Rattle.pair_rule.specs.declared.view.BackupView.{BackupView}
-use Rattle.pair_rule.specs.declared.view.TerminalView.{TerminalView}
-use Rattle.pair_rule.specs.Knowledge.{AllAre, last_or, winner_of}
-use Rattle.pair_rule.specs.Seats.{Settled}
-use Rattle.pair_rule.specs.Shown.{arrival_of}
 use Rattle.pair_rule.specs.Steps.{ReadsBoot}
-use Rattle.pair_rule.specs.Threads.{CallKept, ThreadRun}
-use Rattle.pair_rule.proofs.Filled.{all_map}
 use Rattle.pair_rule.proofs.KeptSteps.{kept_steps}
 use Rattle.pair_rule.proofs.Threads.{runs_shown}
-use Rattle.pair_threads.specs.declared.backup.BackupWorker.{BackupWorker}
-use Rattle.pair_threads.specs.declared.gate.Who.{Who}
-use Rattle.pair_threads.specs.declared.primary.PrimaryWorker.{PrimaryWorker}
-use Rattle.pair_threads.specs.Ending.{NoneUnderWay, winner_named}
-use Rattle.pair_threads.specs.Leading.{with_waiting}
-use Rattle.pair_threads.specs.Primary.{WorkerKeeps, WorkerLeads}
-use Rattle.pair_threads.specs.Repeating.{IsAt}
 use Rattle.pair_threads.specs.Shown.{IsOfRun}
-use Rattle.pair_threads.specs.Stores.{IsFirst, IsStore, bytes_in}
-use Rattle.shared_disk.specs.declared.store.Record.{Record}
 
 module _ {B S : Type 0} (state : B → S) (N : Machine S) (exact : Bool) (boot : S)
     (first : List Record) (lawful : Lawful (booted_from N boot (bytes_in first))) (p : PrimaryWorker B) (b : BackupWorker B)

@@ -1,23 +1,10 @@
 -- What the inputs of a primary's list say: a mark says nothing, an input its key and its acceptance.
 use Rattle.std.proofs.Common.{◌≡◌, ◌==◌, ℕ, zero, suc, ◌+◌, false, cond, List, [], ◌∷◌, ◌++◌, refl, sym, ap, ◌∙◌, arith, append-nil}
 use Rattle.std.proofs.lemmas.Bool.{ne_eqb}
-use Rattle.guest_lockstep.specs.declared.input.Input.{Input}
+use Rattle.pair_threads.proofs.Words.{Among, DiskAnswer, Entry, HeardOn, Input, IsAnswer, LeadsOn, Logged, Machine, Mark, Recording, Says, SectorRead, TakesOn, acceptances, acceptances-append, accepted_at, bare, by_port, entry_of, inputs_of, inputs_of-append, key_at, keys, keys-append, read_at}
 use Rattle.guest_lockstep.specs.declared.input.Input.TheVariants as input
-use Rattle.guest_lockstep.specs.Machine.{Machine}
-use Rattle.guest_lockstep.specs.declared.reads.Reads.TheVariants.{Logged}
-use Rattle.guest_lockstep.specs.Reach.{accepted_at, acceptances, bare, key_at, keys}
 use Rattle.guest_lockstep.specs.declared.timed.Bare.TheVariants.{Rx, Sent}
-use Rattle.log_entry.specs.Entries.{entry_of, inputs_of}
-use Rattle.log_entry.specs.declared.entry.Entry.{Entry}
-use Rattle.log_entry.specs.declared.entry.Entry.TheVariants.{Mark}
-use Rattle.pair_protocol.proofs.Traces.Moves.{inputs_of-append, acceptances-append, keys-append}
-use Rattle.pair_protocol.specs.Lawful.{Among}
-use Rattle.pair_rule.specs.Knowledge.{read_at}
-use Rattle.pair_rule.specs.declared.payload.DiskAnswer.{DiskAnswer}
 use Rattle.pair_rule.specs.declared.payload.DiskAnswer.TheVariants as answer
-use Rattle.pair_threads.specs.Leading.{HeardOn, IsAnswer, LeadsOn, Says, TakesOn, by_port}
-use Rattle.pair_threads.specs.declared.recording.Recording.{Recording}
-use Rattle.shared_disk.specs.declared.disk.SectorRead.{SectorRead}
 
 module _ (list : List Entry) (taken : ℕ → List ℕ) (accepted : ℕ → ℕ) (says : Says list taken accepted) where
   keys_more : (e : Entry) (port : ℕ) → keys port (inputs_of (list ++ e ∷ [])) ≡ taken port ++ keys port (inputs_of (e ∷ []))

@@ -1,24 +1,13 @@
 -- Keys that are typed while a generation runs: what is typed only grows, by what came from the keyboard, and what a worker has
 -- promised of the keys holds of more of them too.
 use Rattle.std.proofs.Common.{◌≡◌, ℕ, zero, suc, ◌++◌, List, [], Option, None, refl, sym, ap, subst, ◌∙◌, append-nil, append_assoc, Vec, Global}
-use Rattle.guest_lockstep.specs.Machine.{Machine, booted_from}
-use Rattle.log_entry.specs.declared.entry.Entry.{Entry}
-use Rattle.log_entry.specs.declared.entry.Entry.TheVariants.{Mark, Rx, Sent, Sector, Written, Read}
-use Rattle.pair_lines.specs.Lines.{Hears, found, heard}
+use Rattle.pair_threads.proofs.Words.{CallKept, CallsKept, Entry, Hears, IsPrefix, IsTold, Knowledge, Machine, Mark, PortInputs, PrimaryWorker, Read, Rx, Sector, Sent, Written, all_map, booted_from, found, heard, knew, typed_at}
 use Rattle.pair_lines.specs.declared.keyboard.Keyboard.{Keyboard}
 use Rattle.pair_lines.specs.declared.lines.Lines.{Lines}
 use Rattle.pair_lines.proofs.Same.{none_heard, same_end, same_end_on}
-use Rattle.pair_protocol.specs.Faithful.{IsPrefix}
-use Rattle.pair_rule.specs.Law.{IsTold, typed_at}
-use Rattle.pair_rule.specs.Threads.{CallKept, knew}
 use Rattle.pair_rule.specs.declared.view.PrimaryCall.{PrimaryCall}
 use Rattle.pair_rule.specs.declared.view.PrimaryCall.TheVariants.{Appended, Released}
-use Rattle.pair_rule.specs.declared.view.Knowledge.{Knowledge}
-use Rattle.pair_rule.proofs.Filled.{all_map}
-use Rattle.pair_threads.specs.Primary.{CallsKept}
 use Rattle.pair_threads.specs.Typing.{HasListened, IsOver, IsTyped, Notes, typed_with}
-use Rattle.pair_threads.specs.declared.primary.PrimaryWorker.{PrimaryWorker}
-use Rattle.pair_threads.specs.declared.port_inputs.PortInputs.{PortInputs}
 use Rattle.pair_threads.specs.declared.workers.GenerationEnd.{GenerationEnd}
 
 -- nothing was typed meanwhile

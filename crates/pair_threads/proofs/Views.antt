@@ -1,42 +1,19 @@
 -- What each call of its seat leaves of a primary's view, and that its guest still leads under it.
 use Rattle.std.proofs.Common.{◌≡◌, ℕ, zero, suc, ◌+◌, ◌≤◌, inl, inr, List, [], ◌∷◌, ◌++◌, length, Some, None, refl, sym, ap, subst, ◌∙◌, arith, length-append, take, Vec, Global, vec_len}
 use Rattle.std.specs.Prelude.{◌-◌, slice_get}
-use Rattle.disk_dcdd.specs.declared.address.SectorAddress.{SectorAddress}
-use Rattle.disk_dcdd.specs.declared.sector.SectorWrite.{SectorWrite}
-use Rattle.event_callbacks.specs.declared.operations.OpId.{OpId}
+use Rattle.pair_threads.proofs.Words.{Among, AreAnswers, CallsKept, ComesAndGoes, Core, Counts, Counts-booted, DiskAnswer, Do, Empties, Entry, Fills, HasAsked, IdlesIf, IsAcknowledged, IsLeading, Leads, Machine, Move, OpId, Operation, PortInputs, PrimaryView, PrimaryWorker, Recorded-booted, Recording, Says, Seat, SectorAddress, SectorWrite, Take, WorkerKeeps, WorkerLeads, Works, Write, appended, booted_from, by_port, id_of, keys_by, keys_taken, told_by, with_known, with_waiting}
 use Rattle.event_callbacks.specs.declared.operations.OpId.TheVariants as id
-use Rattle.event_callbacks.specs.declared.operations.Operation.{Operation}
-use Rattle.event_callbacks.specs.declared.operations.Operation.TheVariants.{Write}
-use Rattle.event_callbacks.specs.Operations.{id_of}
-use Rattle.guest_lockstep.specs.Machine.{Machine, Move, Do, Take, booted_from}
-use Rattle.guest_lockstep.proofs.Booted.{Counts-booted, Recorded-booted}
-use Rattle.log_entry.specs.declared.entry.Entry.{Entry}
-use Rattle.guest_lockstep.specs.Outstanding.{ComesAndGoes}
-use Rattle.guest_lockstep.specs.Recorded.{Counts}
-use Rattle.pair_protocol.specs.Lawful.{Among}
 use Rattle.pair_rule.specs.declared.mailbox.Mailbox.TheVariants.{Requests, Answers}
-use Rattle.pair_rule.specs.declared.payload.DiskAnswer.{DiskAnswer}
 use Rattle.pair_rule.specs.declared.payload.DiskRequest.{DiskRequest}
 use Rattle.pair_rule.specs.declared.payload.DiskRequest.TheVariants as ask
 use Rattle.pair_rule.specs.declared.payload.Payload.TheVariants.{Out, Request, Answer}
-use Rattle.pair_rule.specs.declared.view.Core.{Core}
-use Rattle.pair_rule.specs.declared.view.PrimaryView.{PrimaryView}
 use Rattle.pair_rule.specs.Boxes.{port_box}
-use Rattle.pair_rule.specs.Kinds.{with_known}
 use Rattle.pair_rule.specs.Knowledge as knowledge
-use Rattle.pair_rule.specs.Knowledge.{appended}
-use Rattle.pair_rule.specs.Seats.{Empties, Fills, Seat}
-use Rattle.pair_rule.specs.Shown.{IsAcknowledged}
-use Rattle.pair_threads.specs.Asking.{HasAsked}
-use Rattle.pair_threads.specs.Leading.{AreAnswers, IdlesIf, IsLeading, Leads, Says, by_port, with_waiting}
-use Rattle.pair_threads.specs.Primary.{CallsKept, MayAsk, WorkerKeeps, WorkerLeads, Works, keys_by, keys_taken, told_by}
+use Rattle.pair_threads.specs.Primary.{MayAsk}
 use Rattle.pair_threads.specs.Typing.{HasHeard, HasListened, IsTyped, Notes, typed_with}
-use Rattle.pair_threads.specs.declared.port_inputs.PortInputs.{PortInputs}
 use Rattle.pair_threads.proofs.Typing.{calls_more, typed_on}
 use Rattle.std.proofs.lemmas.List.{take-append-le}
 use Rattle.pair_threads.specs.declared.plan.Plan.{Plan}
-use Rattle.pair_threads.specs.declared.primary.PrimaryWorker.{PrimaryWorker}
-use Rattle.pair_threads.specs.declared.recording.Recording.{Recording}
 use Rattle.pair_threads.proofs.KeptCalls.{append_kept, release_kept}
 use Rattle.pair_threads.proofs.Leading as moving
 

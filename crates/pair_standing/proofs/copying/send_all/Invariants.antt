@@ -1,7 +1,6 @@
 -- What has arrived after the rounds so far, and that it is not all.
 use Rattle.std.proofs.Common.{◌≡◌, false}
-use Rattle.clone_state.specs.Assembly.{is_whole}
-use Rattle.pair_standing.specs.Copying.{after_rounds, sent_of}
+use Rattle.pair_standing.proofs.Words.{after_rounds, is_whole, sent_of}
 use Rattle.pair_standing.proofs.copying.send_all.Given as goal
 
 abbrev pub invariant-loop-round : goal.invariant-loop-round

@@ -1,6 +1,6 @@
 -- What has arrived after the parts so far.
 use Rattle.std.proofs.Common.{◌≡◌}
-use Rattle.pair_standing.specs.Copying.{after_parts, sent_of}
+use Rattle.pair_standing.proofs.Words.{after_parts, sent_of}
 use Rattle.pair_standing.proofs.copying.send_round.Given as goal
 
 abbrev pub invariant-loop-index : goal.invariant-loop-index

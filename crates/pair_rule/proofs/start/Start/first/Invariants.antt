@@ -1,4 +1,4 @@
-use Rattle.pair_rule.specs.Rules.{first_known}
+use Rattle.pair_rule.proofs.Words.{first_known}
 use Rattle.pair_rule.proofs.start.Start.first.Given as goal
 
 abbrev pub ghost-new : goal.ghost-new

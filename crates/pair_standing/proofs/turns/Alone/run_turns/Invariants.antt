@@ -1,6 +1,5 @@
 -- So far it went on alone.
-use Rattle.pair_standing.specs.Alone.{GoesAlone, seen}
-use Rattle.pair_standing.specs.Finishing.{held}
+use Rattle.pair_standing.proofs.Words.{GoesAlone, held, seen}
 use Rattle.pair_standing.proofs.turns.Alone.run_turns.Given as goal
 
 abbrev pub invariant-loop-turn : goal.invariant-loop-turn

@@ -1,5 +1,5 @@
 -- So far it went on.
-use Rattle.pair_standing.specs.Finishing.{GoesOn, held}
+use Rattle.pair_standing.proofs.Words.{GoesOn, held}
 use Rattle.pair_standing.proofs.winner.Winner.give_all.Given as goal
 
 abbrev pub invariant-loop : goal.invariant-loop

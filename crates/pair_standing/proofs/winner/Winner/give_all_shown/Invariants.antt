@@ -1,6 +1,5 @@
 -- So far it went on, and what was accepted is shown.
-use Rattle.pair_standing.specs.Alone.{Shows}
-use Rattle.pair_standing.specs.Finishing.{GoesOn, held}
+use Rattle.pair_standing.proofs.Words.{GoesOn, Shows, held}
 use Rattle.pair_standing.proofs.winner.Winner.give_all_shown.Given as goal
 
 abbrev pub invariant-loop : goal.invariant-loop

@@ -1,7 +1,7 @@
 -- So far it went on, no write below this number is outstanding, and the terminals have what they had.
 use Rattle.std.proofs.Common.{◌≡◌, ℕ, ◌<◌, None}
 use Rattle.event_callbacks.specs.declared.operations.OpId.TheVariants as id
-use Rattle.pair_standing.specs.Finishing.{GoesOn, held}
+use Rattle.pair_standing.proofs.Words.{GoesOn, held}
 use Rattle.pair_standing.proofs.winner.Winner.write_all.Given as goal
 
 abbrev pub invariant-loop-number : goal.invariant-loop-number

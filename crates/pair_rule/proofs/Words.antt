@@ -1,0 +1,69 @@
+-- The words of the proofs, passed on together: what the definitions here and in the crates below are called.
+pub use Rattle.atomic_table.proofs.Lists.{at_last, at_longer, at_set, set_else, set_here}
+pub use Rattle.atomic_table.specs.Table.{Act, Allows, Final, Joins, Seen, Splits, State, Valid, carried_after, chain, gives, homes_after, keeps, rest, takes}
+pub use Rattle.disk_dcdd.specs.Address.{address_of, same_address}
+pub use Rattle.disk_dcdd.specs.declared.address.SectorAddress.{SectorAddress}
+pub use Rattle.disk_dcdd.specs.declared.sector.SectorWrite.{SectorWrite}
+pub use Rattle.event_callbacks.specs.Operations.{id_of}
+pub use Rattle.event_callbacks.specs.declared.operations.OpId.{OpId}
+pub use Rattle.event_callbacks.specs.declared.operations.Operation.{Operation}
+pub use Rattle.event_callbacks.specs.declared.operations.Operation.TheVariants.{Byte, Write}
+pub use Rattle.guest_lockstep.specs.Machine.{Do, Machine, Move, Runs, Take, refusal_of, sector_refusal}
+pub use Rattle.guest_lockstep.specs.Reach.{Own, Owns, Reach, acceptances, bare, image, inputs, keys, operations, output, steps}
+pub use Rattle.guest_lockstep.specs.Recorded.{Counts, Recorded}
+pub use Rattle.guest_lockstep.specs.Running.{Begin, More, Quiet}
+pub use Rattle.guest_lockstep.specs.declared.input.Input.{Input}
+pub use Rattle.guest_lockstep.specs.declared.reads.Reads.TheVariants.{Logged}
+pub use Rattle.guest_lockstep.specs.declared.timed.Bare.TheVariants.{Written}
+pub use Rattle.guest_lockstep.specs.declared.timed.Timed.{Timed}
+pub use Rattle.i8080_words.specs.declared.refusal.Fault.TheVariants.{BadAck, Idle, LogFull, Lost, NotCovered, NotDue, SectorBusy, Spent, StaleRead, Unknown, WrongNumber}
+pub use Rattle.log_entry.specs.Entries.{count_of, entries, entry_of, input_of, inputs_of, last_count, marks}
+pub use Rattle.log_entry.specs.declared.entry.Entry.{Entry}
+pub use Rattle.log_entry.specs.declared.entry.Entry.TheVariants.{Mark, Read, Rx}
+pub use Rattle.pair_events.specs.declared.event.Event.{Event}
+pub use Rattle.pair_events.specs.declared.event.Event.TheVariants.{Acknowledge, Arrive, DeliverAcknowledgement, DeliverLog, Get, GetReply, Put, PutReply, Release, Send, Step, Stop, Suspect, TakeKey, TellSent, TypeByte}
+pub use Rattle.pair_protocol.proofs.Keeps.Disk.{AsBefore, Came, Kept, LatestIs, OfPut, Replaced, latest_all, latest_ge, latest_is, replaced, same_address-is}
+pub use Rattle.pair_protocol.proofs.Keeps.PrimaryMoves.{sector-passed}
+pub use Rattle.pair_protocol.proofs.Traces.Lists.{among-left, among-prefix, among-split, and_parts, map-append, prefix-refl, same_some}
+pub use Rattle.pair_protocol.proofs.Traces.Moves.{acceptances-append, count_entry, entries-append, input_entry, inputs-append, inputs_of-append, inputs_of-entries, keys-append, operations-append, operations-prefix, owns-append, owns-prefix, put-prefix, runs-append, steps-append, timed_entry}
+pub use Rattle.pair_protocol.proofs.Traces.Recorded.{recorded-append, recorded-prefix, recorded-rest, recorded-runs}
+pub use Rattle.pair_protocol.specs.Change.{AtBoot, Reached}
+pub use Rattle.pair_protocol.specs.Copying.{Copying, IsCopying, no_copies}
+pub use Rattle.pair_protocol.specs.Faithful.{Faithful, IsAllBut, IsPrefix, MayHave}
+pub use Rattle.pair_protocol.specs.Lawful.{Among, IsDone, IsUnwritten, IsWritten, Lawful, top}
+pub use Rattle.pair_protocol.specs.Laws.{ChangesReach, NeedsNoCopies, ReachedGrows, ReachedIsFaithful, RowIsChanges}
+pub use Rattle.pair_protocol.specs.Node.{Node, Note, covers, halts, hears, holds, note_of, notes_after, primary_takes, same_name, wins}
+pub use Rattle.pair_protocol.specs.Refusals.{acknowledge_refusal, ask_refusal, at_acknowledgement, at_log_entry, at_node, at_sector_read, at_write_done, byte_refusal, fault_if, first_of, get_refusal, is_number, is_other, log_size, no_such, refusal, release_refusal, send_refusal, step_refusal, stop_refusal, take_key_refusal, tell_sent_refusal, write_refusal}
+pub use Rattle.pair_protocol.specs.Reply.{Accepted, Dropped, HeldIs, MessageIs, New, Old, Ran, Refused, Reply, Taken, TypedAt, Won}
+pub use Rattle.pair_protocol.specs.Row.{Accepts, Refuses, Row}
+pub use Rattle.pair_protocol.specs.World.{Acknowledgement, ImagePart, LogEntry, Message, Released, SectorRecord, Winner, World, WriteDone, accepted, accepted_in, latest, opening, record_after, sector_record, terminal, terminal_in, winner_in, with_arrival, with_message, with_node, with_put, with_read, with_winner}
+pub use Rattle.shared_disk.specs.declared.disk.SectorRead.{SectorRead}
+pub use Rattle.pair_rule.specs.Boxes.{Backup, Boxed, Boxes, Disk, Homes, Laid, Link, Primary, Terminal, Who, box_index, emptier, empty_word, filler, filler_met, full_word, is_full, number_of, seat_index, side, slot_of}
+pub use Rattle.pair_rule.specs.Histories.{AsksNot, IsReply, MayAppend, MayPut, PlainRun, PlainStep}
+pub use Rattle.pair_rule.specs.Kinds.{Emptied, Filled, Mine, Swapped, WasIn, appends, contests_backup, contests_primary, counted_at, counts, counts_at, emptied, empties, filled, fills, found_empty, gives_last_slot, holds_entries, know_of, mixed, nobody, only, part_of, sees, sees_count, sees_count_at, side_at, spent_view, takes_first_slot, which, with_core, with_known, with_part, with_slot, without}
+pub use Rattle.pair_rule.specs.Knowledge.{Agrees, AgreesOf, AllAre, CanFill, Carries, Decided, Finds, FirstsAgree, FirstsAgreeOf, Fits, HasWrite, IsAsked, IsByteOf, IsEntryOf, IsNext, IsReplied, PortStands, Replies, Rising, Stands, StartsWith, WasRead, WhereSome, accepted_after, accepted_at, accepted_with, after_empty, after_fill, after_sector, appended, arrives, backup_asked, byte_arrived, completed, grown, held, is_of, last_or, longer_by, named_by, primary_asked, put_by, read_at, saw, saw_count, sector_entry, wanted_then, winner_after, winner_of, with_carried, with_entry, with_release, with_request, words_of}
+pub use Rattle.pair_rule.specs.Law.{AnswersLookup, AnswersRead, AppendEvents, Appends, Arrives, AsksRead, BackupLoses, BackupWins, Completes, CountsNone, HasAnswer, HasLonger, HasPort, HasRun, Holds, IsCovered, IsTold, Keeps, Misses, PrimaryLoses, PrimaryWins, Puts, Releases, Runnable, SeeEvents, Sees, SeesCount, SilentStep, SilentStepsShow, StartsShown, StepsAreEvents, StepsAreFaithful, Takes, TakesByte0, TakesByte1, TakesLookup, TakesRequest, ThreadStep, Wants, typed_at, with_released}
+pub use Rattle.pair_rule.specs.Rules.{CountedBy, CountsAs, Facts, Has, IsStart, Moment, Rule, Same, SamePart, Sized, core_of, first_known, has, new_side, view_of}
+pub use Rattle.pair_rule.specs.Seats.{Empties, Fills, HasSwapsLeft, LeavesRoom, Opened, all_below, entry_by, most_swaps, numbers, with_sector, zeros}
+pub use Rattle.pair_rule.specs.Shown.{First, Happens, IsAcknowledged, IsSentBy, Leads, Nothing, Sent, Shows, ShowsVisible, Visible, arrival_of, backup_node, backup_role, backup_runs, hand_of, notes_from, primary_node, primary_role, primary_runs, terminals_of, visible, winners_of}
+pub use Rattle.pair_rule.specs.Steps.{BackupAsks, IsStep, PrimaryAsks, Promised, ReadsBoot, Stays, TableStep, TableStepsAreSteps}
+pub use Rattle.pair_rule.specs.Threads.{AreKept, ByteIsAcknowledged, Goes, IsAnswered, IsShown, KeptStepsAreThreads, ListIsTold, Opens, PortIsTold, PrimaryIsTold, Promises, ThreadRun, ThreadsAreFaithful, bytes_accepted, knew}
+pub use Rattle.pair_rule.specs.declared.mailbox.Mailbox.{Mailbox}
+pub use Rattle.pair_rule.specs.declared.mailbox.Mailbox.TheVariants.{Answers, Bytes0, Bytes1, Inbox, Lookups, Outbox, Requests, Sectors}
+pub use Rattle.pair_rule.specs.declared.payload.Carried.{Carried}
+pub use Rattle.pair_rule.specs.declared.payload.Carried.TheVariants.{Named, Whole}
+pub use Rattle.pair_rule.specs.declared.payload.DiskAnswer.{DiskAnswer}
+pub use Rattle.pair_rule.specs.declared.payload.DiskRequest.{DiskRequest}
+pub use Rattle.pair_rule.specs.declared.payload.NamedSector.{NamedSector}
+pub use Rattle.pair_rule.specs.declared.payload.Packet.{Packet}
+pub use Rattle.pair_rule.specs.declared.payload.Payload.{Payload}
+pub use Rattle.pair_rule.specs.declared.payload.Payload.TheVariants.{Answer, Log, Lookup, Out, Request, Sector}
+pub use Rattle.pair_rule.specs.declared.view.Arrived.{Arrived}
+pub use Rattle.pair_rule.specs.declared.view.BackupView.{BackupView}
+pub use Rattle.pair_rule.specs.declared.view.Core.{Core}
+pub use Rattle.pair_rule.specs.declared.view.DiskView.{DiskView}
+pub use Rattle.pair_rule.specs.declared.view.Knowledge.{Knowledge}
+pub use Rattle.pair_rule.specs.declared.view.PrimaryView.{PrimaryView}
+pub use Rattle.pair_rule.specs.declared.view.SeatView.{SeatView}
+pub use Rattle.pair_rule.specs.declared.view.Side.{Side}
+pub use Rattle.pair_rule.specs.declared.view.TerminalView.{TerminalView}
