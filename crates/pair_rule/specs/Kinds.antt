@@ -1,5 +1,5 @@
 -- What each step tells its caller.
-use Rattle.std.specs.Prelude.{◌≡◌, ℕ, zero, suc, ◌+◌, ◌<◌, ◌≤◌, Bool, true, false, List, [], ◌∷◌, length, Option, Some, None, ◌==◌, slice_set, slice_index_or}
+use Rattle.std.specs.Prelude.{◌≡◌, ℕ, ◌+◌, ◌<◌, ◌≤◌, Bool, true, false, List, [], ◌∷◌, length, Option, Some, None, ◌==◌, slice_set, slice_index_or}
 use mathlib.Core.Option.{some}
 use lib.ListN.{get_elem?}
 use Rattle.atomic_table.specs.Table.{Me, rest}
@@ -16,6 +16,7 @@ use Rattle.pair_rule.specs.declared.payload.Carried.TheVariants.{Whole}
 use Rattle.log_entry.specs.declared.entry.Entry.{Entry}
 use Rattle.pair_rule.specs.declared.payload.Payload.TheVariants.{Log}
 use Rattle.pair_rule.specs.Knowledge.{Fits, accepted_at, last_or, winner_of, after_fill, after_empty, appended, saw, held, primary_asked, backup_asked, byte_arrived, saw_count}
+pub use Rattle.pair_rule.specs.Knowledge.{counted_at}
 pub use Rattle.pair_rule.specs.Rules.{side_at}
 use Rattle.pair_rule.specs.Rules.{Moment, first_view}
 
@@ -127,11 +128,6 @@ contests_backup m r n =
 -- the byte in hand arrives, and what is accepted is counted
 abbrev pub counts : ℕ → Mine → ℕ → Mine → Type 0
 counts port m r n = (n.1 ≡ m.1) × (n.0 ≡ with_core m.0 (with_known (byte_arrived port) m.0.core))
-
--- what the primary saw counted at a port
-abbrev pub counted_at : ℕ → Knowledge → ℕ
-counted_at zero k = k.primary.counted0
-counted_at (suc port) k = k.primary.counted1
 
 -- at the moment of the step this many bytes of the port were accepted
 abbrev pub WasAccepted : ℕ → Knowledge → ℕ → Type 0

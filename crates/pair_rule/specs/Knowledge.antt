@@ -49,6 +49,11 @@ abbrev pub accepted_at : ℕ → Knowledge → ℕ
 accepted_at zero k = accepted_after 0 k.terminal.arrivals0
 accepted_at (suc port) k = accepted_after 0 k.terminal.arrivals1
 
+-- what the primary saw counted at a port
+abbrev pub counted_at : ℕ → Knowledge → ℕ
+counted_at zero k = k.primary.counted0
+counted_at (suc port) k = k.primary.counted1
+
 -- who won: 0 for none, 1 the primary, 2 the backup
 abbrev pub winner_of : ℕ → ℕ → ℕ
 winner_of zero backup = backup

@@ -37,9 +37,8 @@ use Rattle.pair_rule.specs.declared.payload.Packet.{Packet}
 use Rattle.pair_rule.specs.declared.payload.Payload.TheVariants as payload
 use Rattle.pair_rule.specs.declared.payload.Payload.TheVariants.{Log, Out, Request, Answer, Lookup}
 use Rattle.pair_rule.specs.declared.view.Knowledge.{Knowledge}
-use Rattle.pair_rule.specs.Kinds.{counted_at}
-use Rattle.pair_rule.specs.Knowledge.{completed, last_or, read_at, Stands, held, saw, saw_count, primary_asked, backup_asked, byte_arrived, appended, after_empty, after_fill, with_release}
-use Rattle.pair_rule.specs.Rules.{first_known}
+use Rattle.pair_rule.specs.Knowledge.{completed, counted_at, last_or, read_at, Stands, held, saw, saw_count, primary_asked, backup_asked, byte_arrived, appended, after_empty, after_fill, with_release}
+use Rattle.pair_rule.specs.Histories.{first_known}
 pub use Rattle.pair_rule.specs.Histories.{MayAppend}
 use Rattle.pair_rule.specs.Shown.{notes_from, hand_of, Shows, Leads, Happens}
 

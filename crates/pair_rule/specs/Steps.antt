@@ -13,9 +13,8 @@ use Rattle.pair_rule.specs.declared.payload.Payload.{Payload}
 use Rattle.pair_rule.specs.declared.payload.Payload.TheVariants.{Out, Request, Answer, Sector}
 use Rattle.pair_rule.specs.declared.view.Knowledge.{Knowledge}
 use Rattle.pair_rule.specs.Boxes.{Primary, Backup, filler, emptier}
-use Rattle.pair_rule.specs.Knowledge.{Agrees, AgreesOf, CanFill, Finds, Fits, Stands, accepted_at, after_empty, after_fill, appended, backup_asked, byte_arrived, held, last_or, primary_asked, read_at, saw, saw_count, winner_of}
+use Rattle.pair_rule.specs.Knowledge.{Agrees, AgreesOf, CanFill, Finds, Fits, Replies, Stands, accepted_at, after_empty, after_fill, appended, backup_asked, byte_arrived, held, last_or, primary_asked, read_at, saw, saw_count, winner_of}
 use Rattle.pair_rule.specs.Law.{HasLonger, HasRun, IsCovered, IsTold, MayAppend, SilentStep, ThreadStep}
-use Rattle.pair_rule.specs.Seats.{Replies}
 pub use Rattle.pair_rule.specs.Histories.{AsksNot}
 
 -- an operation is given away only if it is covered

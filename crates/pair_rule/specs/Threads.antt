@@ -24,10 +24,9 @@ use Rattle.pair_rule.specs.declared.view.Knowledge.{Knowledge}
 use Rattle.pair_rule.specs.declared.view.PrimaryView.{PrimaryView}
 use Rattle.pair_rule.specs.declared.view.PrimaryCall.{PrimaryCall}
 use Rattle.pair_rule.specs.declared.view.PrimaryCall.TheVariants.{Appended, Released}
-use Rattle.pair_rule.specs.Histories.{PlainRun}
+use Rattle.pair_rule.specs.Histories.{PlainRun, first_known}
 use Rattle.pair_rule.specs.Knowledge.{AllAre, Stands}
 use Rattle.pair_rule.specs.Law.{HasLonger, IsTold, Runnable, typed_at}
-use Rattle.pair_rule.specs.Rules.{first_known}
 use Rattle.pair_rule.specs.Shown.{Happens, IsAcknowledged, Shows, arrival_of}
 use Rattle.pair_rule.specs.Steps.{MayRelease, ReadsBoot, TableStep}
 
