@@ -1,4 +1,4 @@
--- The words of the proofs, passed on together: what the definitions here and in the crates below are called.
+-- What the proofs cite of the definitions here, and of the crates below, passed on together.
 pub use Rattle.disk_dcdd.specs.Address.{address_of, has_sector, index_of, is_on_disk, same_address}
 pub use Rattle.disk_dcdd.specs.Command.{commanded_drive, commanded_sector, drive_at_boot, has_bit, loaded, moves_head, selected_by, started, stepped_in, stepped_out, unloaded, where_set}
 pub use Rattle.disk_dcdd.specs.Completion.{is_busy_on, is_head_loaded, is_outstanding, is_sector_busy, is_sector_due, is_selected}

@@ -1,4 +1,4 @@
--- The words of the proofs, passed on together: what the definitions here and in the crates below are called.
+-- What the proofs cite of the definitions here, and of the crates below, passed on together.
 pub use Rattle.disk_dcdd.specs.Controller.{Follows, IsDrives, IsIssued, IsUnderHead}
 pub use Rattle.disk_dcdd.specs.Drive.{Drives}
 pub use Rattle.disk_dcdd.specs.Sector.{is_at, place_of}

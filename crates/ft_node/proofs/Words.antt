@@ -1,4 +1,4 @@
--- The words of the proofs, passed on together: what the definitions here and in the crates below are called.
+-- What the proofs cite of the definitions here, and of the crates below, passed on together.
 pub use Rattle.clone_state.specs.Assembly.{Gathering, Slots, after_forgetting, after_part, answer_to, is_missing, is_whole, machine_in, part_answer, with_part, without_part}
 pub use Rattle.clone_state.specs.Copies.{CopiesAs, image_parts, refused_as}
 pub use Rattle.clone_state.specs.Parts.{PartMessage, guest_in, message_at, part_count}

@@ -1,4 +1,4 @@
--- The words of the proofs, passed on together: what the definitions here and in the crates below are called.
+-- What the proofs cite of the definitions here, and of the crates below, passed on together.
 pub use Rattle.arbiter_core.specs.Winners.{after_asking, winner_of}
 pub use Rattle.arbiter_core.specs.declared.arbiter.Asking.{Asking}
 pub use Rattle.arbiter_core.specs.declared.arbiter.Won.{Won}

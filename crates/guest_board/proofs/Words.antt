@@ -1,4 +1,4 @@
--- The words of the proofs, passed on together: what the definitions here and in the crates below are called.
+-- What the proofs cite of the definitions here, and of the crates below, passed on together.
 pub use Rattle.disk_dcdd.specs.Completion.{after_written, answered, is_outstanding}
 pub use Rattle.disk_dcdd.specs.Sector.{may_fill, place_of, with_byte_filled}
 pub use Rattle.disk_dcdd.specs.declared.sector.Place.{Place}

@@ -1,4 +1,4 @@
--- The words of the proofs, passed on together: what the definitions here and in the crates below are called.
+-- What the proofs cite of the definitions here, and of the crates below, passed on together.
 pub use Rattle.atomic_table.proofs.Lists.{at_last, at_longer, at_set, set_else, set_here}
 pub use Rattle.atomic_table.specs.Table.{Act, Allows, Final, Joins, Seen, Splits, State, Valid, carried_after, chain, gives, homes_after, keeps, rest, takes}
 pub use Rattle.disk_dcdd.specs.Address.{address_of, same_address}

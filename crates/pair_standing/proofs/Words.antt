@@ -1,4 +1,4 @@
--- The words of the proofs, passed on together: what the definitions here and in the crates below are called.
+-- What the proofs cite of the definitions here, and of the crates below, passed on together.
 pub use Rattle.clone_state.specs.Assembly.{Gathering, Slots, after_part, gathered, is_missing, is_whole, machine_in, nothing_gathered, whole_answer, with_part}
 pub use Rattle.disk_dcdd.specs.Address.{address_of}
 pub use Rattle.disk_dcdd.specs.declared.address.SectorAddress.{SectorAddress}
