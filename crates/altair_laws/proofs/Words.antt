@@ -19,7 +19,8 @@ pub use Rattle.event_callbacks.specs.Operations.{Operations, id_of, operation_at
 pub use Rattle.event_callbacks.specs.declared.operations.OpId.{OpId}
 pub use Rattle.event_callbacks.specs.declared.operations.Operation.{Operation}
 pub use Rattle.event_callbacks.specs.declared.operations.Operation.TheVariants.{Byte, Write}
-pub use Rattle.guest_board.specs.Guest.{address_under, after_rx, after_sector, after_sent, after_written, altair, due_byte, guest_at_boot, is_idle, is_spent, may_take_sector, next, oldest_byte, step_from, step_of, stepped, take_from, wired, wired_after, with_completed, with_given}
+pub use Rattle.guest_board.specs.Guest.{address_under, after_rx, after_sector, after_sent, after_written, altair, due_byte, guest_at_boot, is_idle, is_spent, may_take_sector, next, oldest_byte, step_from, stepped, take_from, wired, with_completed, with_given}
+unfoldable pub use Rattle.guest_board.specs.Guest.{step_of, wired_after}
 pub use Rattle.guest_board.specs.Ports.{Wired, after_access, after_byte, after_disk_data, after_out, after_serial_data, device_at, devices_after_in, with_disk, with_port, write_given}
 pub use Rattle.guest_board.specs.declared.setup.Setup.{Setup}
 pub use Rattle.guest_lockstep.specs.Machine.{Do, Machine, Move, Runs, Take}
@@ -32,5 +33,6 @@ pub use Rattle.i8080_words.specs.declared.registers.Processor.{Processor}
 pub use Rattle.pair_protocol.proofs.Passed.{or-false}
 pub use Rattle.pair_protocol.proofs.Traces.Lists.{among-left, among-right, among-split}
 pub use Rattle.pair_protocol.proofs.Traces.Moves.{acceptances_of-append, inputs-append, keys_of-append, operations-append, output-append, runs-split, steps-append}
-pub use Rattle.pair_protocol.specs.Lawful.{Among, IsUnwritten, IsWritten, Lawful, Reaches, top}
+pub use Rattle.pair_protocol.specs.Lawful.{Among, IsUnwritten, IsWritten, Lawful, Reaches}
+unfoldable pub use Rattle.pair_protocol.specs.Lawful.{top}
 pub use Rattle.altair_laws.specs.Stands.{AltairStands, AreBytes, AreWhole, AreWholeWrites, AreWrites, IsLast, IsPending, IsWhole, IsWithin}

@@ -1,5 +1,6 @@
 -- What the proofs cite of the definitions here, and of the crates below, passed on together.
-pub use Rattle.clone_state.specs.Assembly.{Gathering, Slots, after_forgetting, after_part, answer_to, is_missing, is_whole, machine_in, part_answer, with_part, without_part}
+pub use Rattle.clone_state.specs.Assembly.{Gathering, Slots, answer_to, is_missing, is_whole, machine_in, with_part, without_part}
+unfoldable pub use Rattle.clone_state.specs.Assembly.{after_forgetting, after_part, part_answer}
 pub use Rattle.clone_state.specs.Copies.{CopiesAs, image_parts, refused_as}
 pub use Rattle.clone_state.specs.Parts.{PartMessage, guest_in, message_at, part_count}
 pub use Rattle.disk_dcdd.specs.Completion.{answered}
@@ -23,7 +24,8 @@ pub use Rattle.output_rule.specs.Covering.{Covering, IsCovering, after_acknowled
 pub use Rattle.pair_protocol.specs.Copying.{Copying}
 pub use Rattle.pair_protocol.specs.Effects.{Advances, Again, AtEnd, AwaitsBytes, Comes, Completes, Ends, Goes, GotPart, Held, IsBehind, MovesSome, NeedsMoves, NoMemory, NoTurns, NoneLeft, OneInput, OneMark, OneRead, OneStep, Replays, Short, Took, Waits, after_drain, stepped, took, wanted}
 pub use Rattle.pair_protocol.specs.Node.{Alone, Backup, Draining, Joining, Node, Note, Primary, Role, acts_as, begun, covers, fetches, gathered, gets_part, goes_live, halts, hears, holds, is_role, joins, note_of, notes_after, primary_steps, primary_takes, with_first}
-pub use Rattle.pair_protocol.specs.Refusals.{begin_pair_refusal, deliver_acknowledgement_refusal, deliver_log_refusal, fault_if, first_of, generation_refusal, get_reply_refusal, has_part, is_number, keys_spent, last_generation, log_full, log_size, log_spent, part_comes_refusal, put_reply_refusal, release_refusal, role_refusal, send_part_refusal, serves, step_refusal, stop_refusal, take_key_refusal, tell_sent_refusal}
+pub use Rattle.pair_protocol.specs.Refusals.{begin_pair_refusal, deliver_acknowledgement_refusal, deliver_log_refusal, fault_if, first_of, generation_refusal, get_reply_refusal, has_part, is_number, keys_spent, log_full, log_size, log_spent, part_comes_refusal, put_reply_refusal, release_refusal, role_refusal, send_part_refusal, serves, step_refusal, stop_refusal, take_key_refusal, tell_sent_refusal}
+unfoldable pub use Rattle.pair_protocol.specs.Refusals.{last_generation}
 pub use Rattle.pair_protocol.specs.Waiting.{reads_in, up_to_read, waits_for}
 pub use Rattle.recorder.specs.Recording.{AdvancesSome, AdvancesUnless, Offers, advance_refusal, logged, refusal_behind}
 pub use Rattle.ft_node.specs.Calls.{BeginsPair, Begun, Call, DeliversAcknowledgement, DeliversLog, Ever, Expects, Freshens, GetsPart, Gives, HasTakenKeys, IsLast, Makes, SendsPart, SpellsPart, Unless, last_refusal, next_after, part_refusal, parts_with, reply_of, unfit}

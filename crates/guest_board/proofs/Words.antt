@@ -19,7 +19,8 @@ pub use Rattle.i8080_words.specs.declared.refusal.Fault.{Fault}
 pub use Rattle.i8080_words.specs.declared.refusal.Fault.TheVariants.{Idle, NotDue, OutOfMemory, Spent}
 pub use Rattle.i8080_words.specs.declared.registers.Processor.{Processor}
 pub use Rattle.i8080_words.specs.declared.registers.Stepped.{Stepped}
-pub use Rattle.guest_board.specs.Guest.{after_rx, due_byte, is_idle, is_spent, is_spent_at, line_of, next, oldest_byte, step_from, step_of, wired, wired_after, with_completed, with_given}
+pub use Rattle.guest_board.specs.Guest.{after_rx, due_byte, is_idle, is_spent, is_spent_at, line_of, next, oldest_byte, step_from, wired, with_completed, with_given}
+unfoldable pub use Rattle.guest_board.specs.Guest.{step_of, wired_after}
 pub use Rattle.guest_board.specs.Inputs.{some_altair, unless_due}
 pub use Rattle.guest_board.specs.Ports.{Wired, after_access, after_byte, after_disk_data, after_out, after_serial_data, device_at, devices_after_in, memory_byte, port_byte, with_disk, with_port, write_given}
 pub use Rattle.guest_board.specs.Stepping.{IsAnswer, answer_by, by_name, counted, exec_answer, given_by, guest_after, name_by, next_versions, refusal_at, versions_after_answer}

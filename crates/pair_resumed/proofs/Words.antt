@@ -13,7 +13,8 @@ pub use Rattle.pair_protocol.proofs.Traces.Lists.{among-left, among-prefix, amon
 pub use Rattle.pair_protocol.proofs.Traces.Moves.{acceptances_of-append, count_entry, entries-append, inputs-append, inputs_of-entries, keys-prefix, operations-append, operations-prefix, output-append, steps-append}
 pub use Rattle.pair_protocol.proofs.Traces.Recorded.{recorded-append, recorded-runs}
 pub use Rattle.pair_protocol.specs.Faithful.{IsPrefix}
-pub use Rattle.pair_protocol.specs.Lawful.{Among, IsDone, IsUnwritten, IsWritten, Lawful, top}
+pub use Rattle.pair_protocol.specs.Lawful.{Among, IsDone, IsUnwritten, IsWritten, Lawful}
+unfoldable pub use Rattle.pair_protocol.specs.Lawful.{top}
 pub use Rattle.pair_protocol.specs.World.{SectorRecord, accepted_after, latest, sector_record}
 pub use Rattle.pair_rule.proofs.Filled.{all_map, all_more}
 pub use Rattle.pair_rule.specs.Knowledge.{Agrees, AgreesOf, AllAre, CanFill, FirstsAgree, FirstsAgreeOf, HasWrite, Stands, accepted_at, after_empty, after_fill, appended, arrives, byte_arrived, held, last_or, saw, saw_count, with_release}

@@ -30,7 +30,8 @@ pub use Rattle.pair_protocol.proofs.Traces.Recorded.{recorded-append, recorded-p
 pub use Rattle.pair_protocol.specs.Change.{AtBoot, Reached}
 pub use Rattle.pair_protocol.specs.Copying.{Copying, IsCopying, no_copies}
 pub use Rattle.pair_protocol.specs.Faithful.{Faithful, IsAllBut, IsPrefix, MayHave}
-pub use Rattle.pair_protocol.specs.Lawful.{Among, IsDone, IsUnwritten, IsWritten, Lawful, top}
+pub use Rattle.pair_protocol.specs.Lawful.{Among, IsDone, IsUnwritten, IsWritten, Lawful}
+unfoldable pub use Rattle.pair_protocol.specs.Lawful.{top}
 pub use Rattle.pair_protocol.specs.Laws.{ChangesReach, NeedsNoCopies, ReachedGrows, ReachedIsFaithful, RowIsChanges}
 pub use Rattle.pair_protocol.specs.Node.{Node, Note, covers, halts, hears, holds, note_of, notes_after, primary_takes, same_name, wins}
 pub use Rattle.pair_protocol.specs.Refusals.{acknowledge_refusal, ask_refusal, at_acknowledgement, at_log_entry, at_node, at_sector_read, at_write_done, byte_refusal, fault_if, first_of, get_refusal, is_number, is_other, log_size, no_such, refusal, release_refusal, send_refusal, step_refusal, stop_refusal, take_key_refusal, tell_sent_refusal, write_refusal}

@@ -1,5 +1,6 @@
 -- What the proofs cite of the definitions here, and of the crates below, passed on together.
-pub use Rattle.clone_state.specs.Assembly.{Gathering, Slots, after_part, gathered, is_missing, is_whole, machine_in, nothing_gathered, whole_answer, with_part}
+pub use Rattle.clone_state.specs.Assembly.{Gathering, Slots, gathered, is_missing, is_whole, machine_in, nothing_gathered, whole_answer, with_part}
+unfoldable pub use Rattle.clone_state.specs.Assembly.{after_part}
 pub use Rattle.disk_dcdd.specs.Address.{address_of}
 pub use Rattle.disk_dcdd.specs.declared.address.SectorAddress.{SectorAddress}
 pub use Rattle.disk_dcdd.specs.declared.sector.SectorWrite.{SectorWrite}
@@ -31,6 +32,7 @@ pub use Rattle.shared_disk.specs.Arrivals.{after_put, read_at, read_of}
 pub use Rattle.shared_disk.specs.Records.{IsThere, record_at}
 pub use Rattle.shared_disk.specs.declared.store.Record.{Record}
 pub use Rattle.pair_standing.specs.Alone.{GoesAlone, MovesAlone, RunsAlone, Seen, Shows, ShowsOver, TakesKey, Typed, Types, seen, typed_of, with_typed}
-pub use Rattle.pair_standing.specs.Copying.{AllCame, IsMadeByItsImage, Sent, SomeIsLost, after_fate, after_parts, after_rounds, fate_in, message_of, sent_of}
+pub use Rattle.pair_standing.specs.Copying.{AllCame, IsMadeByItsImage, Sent, SomeIsLost, after_fate, fate_in, message_of, sent_of}
+unfoldable pub use Rattle.pair_standing.specs.Copying.{after_parts, after_rounds}
 pub use Rattle.pair_standing.specs.Finishing.{GoesOn, Held, IsLeft, after_byte, held, with_byte}
 pub use Rattle.pair_standing.specs.Standing.{AltairsAreDue, OutstandingIsDue, Stands}
