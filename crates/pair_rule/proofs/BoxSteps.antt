@@ -2,13 +2,13 @@
 use Rattle.std.proofs.Common.{◌≡◌, ℕ, ◌+◌, ◌<◌, Bool, true, false, List, [], ◌∷◌, ◌++◌, get_or, set, sym, refl, ap, ◌∙◌, subst, arith, Option, Some, None}
 use mathlib.Core.Option.{some}
 use lib.ListN.{get_elem?}
-use Rattle.pair_rule.proofs.Words.{Allows, AsksNot, Boxed, CanFill, Core, Emptied, Facts, Filled, Fits, Mailbox, MayPut, Mine, Payload, Rule, Same, SeatView, Side, WhereSome, Who, after_empty, after_fill, box_index, chain, emptied, emptier, empties, empty_word, filled, filler, filler_met, fills, found_empty, full_word, gives, has, is_full, new_side, number_of, seat_index, side, side_at, slot_of, takes, with_core, words_of}
+use Rattle.pair_rule.proofs.Words.{Allows, AsksNot, Boxed, CanFill, Core, Emptied, Facts, Filled, Fits, Mailbox, MayPut, Mine, Payload, Rule, Same, SeatView, Side, WhereSome, Who, box_index, chain, emptied, emptier, empties, empty_word, filled, filler, fills, found_empty, full_word, gives, has, is_full, new_side, number_of, seat_index, side_at, slot_of, takes, with_core, words_of}
 use Rattle.pair_rule.specs.Histories as plain
 use Rattle.pair_rule.proofs.Histories.{asks_same, may_put}
 use Rattle.pair_rule.proofs.Slots.{swapped, found, within, or_both}
 use Rattle.pair_rule.proofs.SlotSwaps.{apart, inside}
-use Rattle.pair_rule.proofs.Parts.{nothing, one_box, steps}
-use Rattle.pair_rule.proofs.BoxSwaps.{Table, Goes, word_at, word_set, by_fill, by_empty, fill_both, fill_rest, empty_both, empty_rest, at_here, at_fill, box, fill_facts, empty_facts, found_facts}
+use Rattle.pair_rule.proofs.Parts.{Owned, one_box, owned_fill, owned_empty, owned_find, steps}
+use Rattle.pair_rule.proofs.BoxSwaps.{Table, Goes, word_at, word_set, at_here, at_fill, box, fill_facts, empty_facts, found_facts}
 use Rattle.pair_rule.proofs.Filled.{local_fill, local_empty, fill_keeps, can_same}
 use Rattle.pair_rule.proofs.Emptied.{empty_keeps}
 use Rattle.pair_rule.proofs.ReadsAgree.{agrees_by}
@@ -42,17 +42,16 @@ module _ (g : ℕ) (s : Table) (r : Rule g s) (id : ℕ) (v : SeatView) (at : ge
     found_word = ap (λ z. get_or z (5 + box_index b) 0) r.words ∙ word_at b core.known r.boxes
 
     -- what a swap of the box's word leaves, where the facts go on to hold of a core with the same words
-    swap_goes : (n : Who) (x : Option Payload) (c' core' : Core) (told : ℕ → Mine → Type 0) → has v n
+    swap_goes : (n : Who) (x : Option Payload) (turn : Core → Core) (told : ℕ → Mine → Type 0) → Owned n turn → has v n
         → get_elem? core.hands (seat_index n) ≡ some hand
-        → words_of core'.known ≡ words_of core.known → ((t : Who) → Same t v.core core → Same t c' core')
-        → ((t : Who) (z : Core) → (t ≡ n → ⊥) → Same t z core → Same t z core')
-        → Facts g (set r.boxes (box_index b) new) (swapped s.homes hand x (slot_of word)) core'
+        → words_of (turn core).known ≡ words_of core.known
+        → Facts g (set r.boxes (box_index b) new) (swapped s.homes hand x (slot_of word)) (turn core)
         → (y : Option Payload) → get_elem? s.homes (slot_of word) ≡ some (some y)
-        → (slot_of word < 13 → told word (with_core v c', (slot_of word, y) ∷ []))
+        → (slot_of word < 13 → told word (with_core v (turn v.core), (slot_of word, y) ∷ []))
         → Goes g s.words s.homes s.views (5 + box_index b) id (v, (hand, x) ∷ []) (λ _. new) told
-    swap_goes n x c' core' told mine held_here words both rest facts y lying tells =
+    swap_goes n x turn told o mine held_here words facts y lying tells =
         let f = r.facts in let a = at_here g r.boxes s.homes core f b hand in (
-          with_core v c',
+          with_core v (turn v.core),
           chain gives (takes (slot_of word) y),
           (
             tt,
@@ -62,15 +61,15 @@ module _ (g : ℕ) (s : Table) (r : Rule g s) (id : ℕ) (v : SeatView) (at : ge
                 lying,
           ),
           record {
-            core = core';
+            core = turn core;
             boxes = set r.boxes (box_index b) new;
             words = ap (λ z. set z (5 + box_index b) new) r.words ∙ word_set b core.known r.boxes new ∙ ap
                 (λ z. z ++ set r.boxes (box_index b) new) (sym words);
             at = r.at;
-            seats = λ t. steps s.views core core' n t r.at id v c' r.seats at mine (both t) (rest t);
+            seats = λ t. steps s.views core n t r.at id v turn o f.sized r.seats at mine;
             facts = facts;
           },
-          subst (λ z. told z (with_core v c', (slot_of word, y) ∷ [])) (sym found_word)
+          subst (λ z. told z (with_core v (turn v.core), (slot_of word, y) ∷ [])) (sym found_word)
               (tells (let near = within s.homes (slot_of word) (some y) lying in let deep = f.laid.deep in let eight =
               f.eight in let five = f.sized.hands in omega arith)),
         )
@@ -88,16 +87,9 @@ module _ (g : ℕ) (s : Table) (r : Rule g s) (id : ℕ) (v : SeatView) (at : ge
         let may' = may_put b q v.core.known core.known o.known may in
         let k = fill_keeps core.known f.stands b q could (agrees_by core.known f.ran b q may'.reply) in
         let l = local_fill b q in
-        let y : Side → Side = λ z. side (z.number + 1) (filler_met (is_full word) word z.met) (Some q) in
         let full = f.laid.full (box_index b) word (at_here g r.boxes s.homes core f b hand) in
-        swap_goes (filler b) (Some q) (filled b q word v.core) (filled b q word core)
-        (fills (5 + box_index b) (v, (hand, Some q) ∷ [])) mine (sym o.hand ∙ hands) k.0.words
-        (λ t e. subst (λ (z : Side). Same t (by_fill (filler b) (slot_of word) (after_fill b q) l b (λ _. y z) v.core)
-        (filled b q word core)) (sym sides)
-        (fill_both (filler b) (slot_of word) (after_fill b q) l v.core core f.sized o b
-        (y (side_at core.fills (box_index b))) t e))
-        (λ t z ne e. fill_rest (filler b) (slot_of word) (after_fill b q) l b
-        (y (side_at core.fills (box_index b))) t z core refl ne e)
+        swap_goes (filler b) (Some q) (filled b q word) (fills (5 + box_index b) (v, (hand, Some q) ∷ []))
+        (owned_fill b q word l) mine (sym o.hand ∙ hands) k.0.words
         (subst (λ z. Facts g (set r.boxes (box_index b) z) (swapped s.homes hand (Some q) (slot_of word)) (filled b q word core))
         (sym (is ∙ ap (λ (z : Side). full_word (z.number + 1) hand) sides))
         (fill_facts g r.boxes s.homes core f b hand q (sym o.hand ∙ hands) (sym o.has_slot ∙ has_slot) l k.0 k.1
@@ -126,18 +118,11 @@ module _ (g : ℕ) (s : Table) (r : Rule g s) (id : ℕ) (v : SeatView) (at : ge
         (f.fitting b (side_at core.fills (box_index b)) (at_fill g r.boxes s.homes core f b hand)) in
         let k = empty_keeps core.known f.stands b q fit in
         let l = local_empty b q in
-        let y : Side → Side = λ z. side (z.number + 1) (number_of word) (Some q) in
         let met : (side_at v.core.empties (box_index b)).met < number_of word =
         (let e : (side_at v.core.empties (box_index b)).met ≡ (side_at core.empties (box_index b)).met =
         ap (λ (z : Side). z.met) sides in let c = box.1 in let d = box.0 in omega arith) in
-        swap_goes (emptier b) x (emptied b q word v.core) (emptied b q word core)
-        (empties (5 + box_index b) (v, (hand, x) ∷ [])) mine (sym o.hand ∙ hands) k.words
-        (λ t e. subst (λ (z : Side). Same t (by_empty (emptier b) (slot_of word) (after_empty b q) l b (λ _. y z) v.core)
-        (emptied b q word core)) (sym sides)
-        (empty_both (emptier b) (slot_of word) (after_empty b q) l v.core core f.sized o b
-        (y (side_at core.empties (box_index b))) t e))
-        (λ t z ne e. empty_rest (emptier b) (slot_of word) (after_empty b q) l b
-        (y (side_at core.empties (box_index b))) t z core refl ne e)
+        swap_goes (emptier b) x (emptied b q word) (empties (5 + box_index b) (v, (hand, x) ∷ []))
+        (owned_empty b q word l) mine (sym o.hand ∙ hands) k.words
         (subst (λ z. Facts g (set r.boxes (box_index b) z) (swapped s.homes hand x (slot_of word)) (emptied b q word core))
         (sym (is ∙ ap (λ (z : Side). empty_word (z.number + 1) hand) sides))
         (empty_facts g r.boxes s.homes core f b hand q x (sym o.hand ∙ hands) (sym o.has_slot ∙ has_slot) l k fit
@@ -154,15 +139,8 @@ module _ (g : ℕ) (s : Table) (r : Rule g s) (id : ℕ) (v : SeatView) (at : ge
     empty_goes x asks mine hands has_slot is false said box =
         let f = r.facts in let o = own (emptier b) mine in let sides : side_at v.core.empties (box_index b) ≡ side_at core.empties
         (box_index b) = or_both v.core.empties core.empties (box_index b) new_side (o.empties b refl) in
-        let l = nothing (emptier b) in
-        let y : Side → Side = λ z. side (z.number + 1) z.met z.last in
-        swap_goes (emptier b) x (found_empty b word v.core) (found_empty b word core)
-        (empties (5 + box_index b) (v, (hand, x) ∷ [])) mine (sym o.hand ∙ hands) refl
-        (λ t e. subst (λ (z : Side). Same t (by_empty (emptier b) (slot_of word) (λ k. k) l b (λ _. y z) v.core)
-        (found_empty b word core)) (sym sides)
-        (empty_both (emptier b) (slot_of word) (λ k. k) l v.core core f.sized o b (y (side_at core.empties (box_index b))) t e))
-        (λ t z ne e. empty_rest (emptier b) (slot_of word) (λ k. k) l b
-        (y (side_at core.empties (box_index b))) t z core refl ne e)
+        swap_goes (emptier b) x (found_empty b word) (empties (5 + box_index b) (v, (hand, x) ∷ []))
+        (owned_find b word) mine (sym o.hand ∙ hands) refl
         (subst (λ z. Facts g (set r.boxes (box_index b) z) (swapped s.homes hand x (slot_of word)) (found_empty b word core))
         (sym (is ∙ ap (λ (z : Side). empty_word (z.number + 1) hand) sides))
         (found_facts g r.boxes s.homes core f b hand x (sym o.hand ∙ hands) (sym o.has_slot ∙ has_slot) box))

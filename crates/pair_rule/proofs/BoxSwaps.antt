@@ -2,11 +2,11 @@
 use Rattle.std.proofs.Common.{◌≡◌, ◌≢◌, ℕ, ◌+◌, ◌<◌, true, false, List, ◌++◌, set, get_or, sym, refl, ap, ◌∙◌, subst, ⊎_elim, arith, length-set, Option, Some, None}
 use mathlib.Core.Option.{some, some-injective}
 use lib.ListN.{get_elem?}
-use Rattle.pair_rule.proofs.Words.{Act, Answers, Boxed, Boxes, Bytes0, Bytes1, Core, Facts, Fits, Homes, Inbox, Knowledge, Laid, Lookups, Mailbox, Mine, Outbox, Payload, PlainRun, Requests, Rule, Same, SeatView, Sectors, Side, Sized, Stands, State, Valid, WhereSome, Who, after_empty, after_fill, at_set, box_index, carried_after, emptied, emptier, empty_word, filled, filler, filler_met, found_empty, full_word, homes_after, is_full, new_side, number_of, seat_index, set_else, set_here, side, side_at, slot_of, words_of}
+use Rattle.pair_rule.proofs.Words.{Act, Boxed, Boxes, Core, Facts, Fits, Homes, Knowledge, Laid, Mailbox, Mine, Outbox, Payload, PlainRun, Rule, SeatView, Side, Stands, State, Valid, WhereSome, Who, after_empty, after_fill, at_set, box_index, carried_after, emptied, emptier, empty_word, filled, filler, filler_met, found_empty, full_word, homes_after, is_full, new_side, number_of, seat_index, set_else, set_here, side, side_at, slot_of, words_of}
 use Rattle.pair_rule.proofs.Slots as slots
 use Rattle.pair_rule.proofs.Slots.{swapped, given, box_stays, slot_full, slot_empty, set_both, at_or}
 use Rattle.pair_rule.proofs.SlotSwaps.{laid_swap, box_else, apart, inside}
-use Rattle.pair_rule.proofs.Parts.{Local, nothing, one_seat, one_box, few_boxes}
+use Rattle.pair_rule.proofs.Parts.{Local, one_box, few_boxes, owned_fill, owned_empty, owned_find}
 use Rattle.pair_rule.proofs.Counting.{empty_counted, fill_counted, found_counted}
 
 abbrev pub Table : Type 0
@@ -23,24 +23,12 @@ Goes g ws hs vs i id me f told =
 pub word_at : (b : Mailbox) (k : Knowledge) (boxes : List ℕ)
     → get_or (words_of k ++ boxes) (5 + box_index b) 0 ≡ get_or boxes (box_index b) 0
 word_at Outbox k boxes = refl
-word_at Inbox k boxes = refl
-word_at Bytes0 k boxes = refl
-word_at Bytes1 k boxes = refl
-word_at Requests k boxes = refl
-word_at Answers k boxes = refl
-word_at Lookups k boxes = refl
-word_at Sectors k boxes = refl
+word_at _ k boxes = refl
 
 pub word_set : (b : Mailbox) (k : Knowledge) (boxes : List ℕ) (x : ℕ)
     → set (words_of k ++ boxes) (5 + box_index b) x ≡ words_of k ++ set boxes (box_index b) x
 word_set Outbox k boxes x = refl
-word_set Inbox k boxes x = refl
-word_set Bytes0 k boxes x = refl
-word_set Bytes1 k boxes x = refl
-word_set Requests k boxes x = refl
-word_set Answers k boxes x = refl
-word_set Lookups k boxes x = refl
-word_set Sectors k boxes x = refl
+word_set _ k boxes x = refl
 
 -- a change of what is known that keeps what stands, the words, and what lies in boxes
 pub record Keeps (turn : Knowledge → Knowledge) (k : Knowledge) : Type 0 where
@@ -55,89 +43,6 @@ pub last_fits : (last : Option Payload) (P Q : Payload → Type 0) → ((x : Pay
     → WhereSome last Q
 last_fits None P Q f i = i
 last_fits (Some x) P Q f i = f x i
-
--- a change of one side of one box, of a hand, and of what is known, at one seat
-module _ (s : Who) (hand : ℕ) (turn : Knowledge → Knowledge) (l : Local s turn) where
-  -- the side is one that the seat fills, or one that it empties
-  abbrev pub by_fill : Mailbox → (Core → Side) → Core → Core
-  by_fill b new c = record c {
-    hands = set c.hands (seat_index s) hand;
-    fills = set c.fills (box_index b) (new c);
-    known = turn c.known;
-  }
-
-  abbrev pub by_empty : Mailbox → (Core → Side) → Core → Core
-  by_empty b new c = record c {
-    hands = set c.hands (seat_index s) hand;
-    empties = set c.empties (box_index b) (new c);
-    known = turn c.known;
-  }
-
-  fill_sized : (b : Mailbox) (x : Side) (c : Core) → Sized c → Sized (by_fill b (λ _. x) c)
-  fill_sized b x c z = record {
-    hands = length-set c.hands (seat_index s) hand ∙ z.hands;
-    has_slot = z.has_slot;
-    fills = length-set c.fills (box_index b) x ∙ z.fills;
-    empties = z.empties;
-  }
-
-  empty_sized : (b : Mailbox) (x : Side) (c : Core) → Sized c → Sized (by_empty b (λ _. x) c)
-  empty_sized b x c z = record {
-    hands = length-set c.hands (seat_index s) hand ∙ z.hands;
-    has_slot = z.has_slot;
-    fills = z.fills;
-    empties = length-set c.empties (box_index b) x ∙ z.empties;
-  }
-
-  module _ (c d : Core) (sized : Sized d) (own : Same s c d) where
-    pub fill_both : (b : Mailbox) (x : Side) (n : Who) → Same n c d → Same n (by_fill b (λ _. x) c) (by_fill b (λ _. x) d)
-    fill_both b x n e = record {
-      sized = fill_sized b x c e.sized;
-      generation = l.generation c.known ∙ e.generation ∙ sym (l.generation d.known);
-      hand = set_both c.hands d.hands (seat_index s) (seat_index n) hand (e.sized.hands ∙ sym sized.hands) e.hand;
-      has_slot = e.has_slot;
-      fills = λ k is. set_both c.fills d.fills (box_index b) (box_index k) x (e.sized.fills ∙ sym sized.fills) (e.fills k is);
-      empties = e.empties;
-      known = l.both n c.known d.known own.known e.known;
-    }
-
-    pub empty_both : (b : Mailbox) (x : Side) (n : Who) → Same n c d → Same n (by_empty b (λ _. x) c) (by_empty b (λ _. x) d)
-    empty_both b x n e = record {
-      sized = empty_sized b x c e.sized;
-      generation = l.generation c.known ∙ e.generation ∙ sym (l.generation d.known);
-      hand = set_both c.hands d.hands (seat_index s) (seat_index n) hand (e.sized.hands ∙ sym sized.hands) e.hand;
-      has_slot = e.has_slot;
-      fills = e.fills;
-      empties = λ k is. set_both c.empties d.empties (box_index b) (box_index k) x (e.sized.empties ∙ sym sized.empties)
-          (e.empties k is);
-      known = l.both n c.known d.known own.known e.known;
-    }
-
-  pub fill_rest : (b : Mailbox) (x : Side) (n : Who) (c d : Core) → filler b ≡ s → (n ≡ s → ⊥) → Same n c d
-      → Same n c (by_fill b (λ _. x) d)
-  fill_rest b x n c d is ne e = record {
-    sized = e.sized;
-    generation = e.generation ∙ sym (l.generation d.known);
-    hand = e.hand ∙ sym (set_else d.hands (seat_index s) (seat_index n) hand (λ q. ne (one_seat n s q)));
-    has_slot = e.has_slot;
-    fills = λ k at. e.fills k at ∙ sym (set_else d.fills (box_index b) (box_index k) x
-        (λ q. ne (sym at ∙ ap filler (one_box k b q) ∙ is)));
-    empties = e.empties;
-    known = l.rest n c.known d.known ne e.known;
-  }
-
-  pub empty_rest : (b : Mailbox) (x : Side) (n : Who) (c d : Core) → emptier b ≡ s → (n ≡ s → ⊥) → Same n c d
-      → Same n c (by_empty b (λ _. x) d)
-  empty_rest b x n c d is ne e = record {
-    sized = e.sized;
-    generation = e.generation ∙ sym (l.generation d.known);
-    hand = e.hand ∙ sym (set_else d.hands (seat_index s) (seat_index n) hand (λ q. ne (one_seat n s q)));
-    has_slot = e.has_slot;
-    fills = e.fills;
-    empties = λ k at. e.empties k at ∙ sym
-        (set_else d.empties (box_index b) (box_index k) x (λ q. ne (sym at ∙ ap emptier (one_box k b q) ∙ is)));
-    known = l.rest n c.known d.known ne e.known;
-  }
 
 module _ (g : ℕ) (boxes : List ℕ) (homes : Homes) (c : Core) (f : Facts g boxes homes c) (b : Mailbox) (hand : ℕ) where
   abbrev pub here : ℕ
@@ -219,7 +124,7 @@ module _ (g : ℕ) (boxes : List ℕ) (homes : Homes) (c : Core) (f : Facts g bo
       slot_full n hand near in
       let y : Side = side n (filler_met (is_full here) here (side_at c.fills (box_index b)).met) (Some q) in record {
         generation = l.generation c.known ∙ f.generation;
-        sized = fill_sized (filler b) (slot_of here) (after_fill b q) l b y c f.sized;
+        sized = (owned_fill b q here l).sized c f.sized;
         eight = length-set boxes (box_index b) new ∙ f.eight;
         laid = laid_after (filler b) (Some q) at new is has_slot;
         boxed = fill_boxes (filler b) (Some q) at new is y
@@ -255,7 +160,7 @@ module _ (g : ℕ) (boxes : List ℕ) (homes : Homes) (c : Core) (f : Facts g bo
       slot_empty n hand near in
       let y : Side = side n (number_of here) (Some q) in record {
         generation = l.generation c.known ∙ f.generation;
-        sized = empty_sized (emptier b) (slot_of here) (after_empty b q) l b y c f.sized;
+        sized = (owned_empty b q here l).sized c f.sized;
         eight = length-set boxes (box_index b) new ∙ f.eight;
         laid = laid_after (emptier b) x at new is has_slot;
         boxed = empty_boxes (emptier b) x at new is y
@@ -278,7 +183,7 @@ module _ (g : ℕ) (boxes : List ℕ) (homes : Homes) (c : Core) (f : Facts g bo
       slot_empty n hand near in
       let y : Side = side n (side_at c.empties (box_index b)).met (side_at c.empties (box_index b)).last in record {
         generation = f.generation;
-        sized = empty_sized (emptier b) (slot_of here) (λ k. k) (nothing (emptier b)) b y c f.sized;
+        sized = (owned_find b here).sized c f.sized;
         eight = length-set boxes (box_index b) new ∙ f.eight;
         laid = laid_after (emptier b) x at new is has_slot;
         boxed = empty_boxes (emptier b) x at new is y

@@ -1,6 +1,6 @@
 -- Each swap at the boxes between primary and disk is counted in what the seat knows.
 use Rattle.std.proofs.Common.{◌≡◌, ◌≢◌, ℕ, ◌+◌, ◌<◌, List, [], ◌∷◌, length, set, ap, ◌∙◌, arith, length-append}
-use Rattle.pair_rule.proofs.Words.{Answer, Answers, Byte, Bytes0, Bytes1, CountedBy, Fits, Inbox, Knowledge, Log, Lookup, Lookups, Mailbox, Out, Outbox, Payload, Request, Requests, Sector, Sectors, Side, Write, after_empty, after_fill, box_index, new_side, set_else, set_here}
+use Rattle.pair_rule.proofs.Words.{Answer, Answers, Byte, Bytes0, Bytes1, CountedBy, Fits, Inbox, Knowledge, Log, Lookup, Lookups, Mailbox, Out, Outbox, Payload, Request, Requests, Sector, Sectors, Side, after_empty, after_fill, box_index, new_side, set_else, set_here}
 use Rattle.pair_rule.specs.Rules.{side_at}
 use Rattle.pair_rule.proofs.Slots.{or_both, or_of}
 
@@ -40,20 +40,8 @@ module _ (fills empties : List Side) (k : Knowledge) (z : CountedBy fills emptie
   fill_counted eight Inbox q y more fit = fill_else 1 y (λ e. omega (arith, e)) (λ e. omega (arith, e))
   fill_counted eight Bytes0 (Out (Byte to number byte)) y more fit =
       fill_else 2 y (λ e. omega (arith, e)) (λ e. omega (arith, e))
-  fill_counted eight Bytes0 (Out (Write w)) y more fit = absurd fit
-  fill_counted eight Bytes0 (Log p) y more fit = absurd fit
-  fill_counted eight Bytes0 (Request r) y more fit = absurd fit
-  fill_counted eight Bytes0 (Answer a) y more fit = absurd fit
-  fill_counted eight Bytes0 (Lookup x) y more fit = absurd fit
-  fill_counted eight Bytes0 (Sector x) y more fit = absurd fit
   fill_counted eight Bytes1 (Out (Byte to number byte)) y more fit =
       fill_else 3 y (λ e. omega (arith, e)) (λ e. omega (arith, e))
-  fill_counted eight Bytes1 (Out (Write w)) y more fit = absurd fit
-  fill_counted eight Bytes1 (Log p) y more fit = absurd fit
-  fill_counted eight Bytes1 (Request r) y more fit = absurd fit
-  fill_counted eight Bytes1 (Answer a) y more fit = absurd fit
-  fill_counted eight Bytes1 (Lookup x) y more fit = absurd fit
-  fill_counted eight Bytes1 (Sector x) y more fit = absurd fit
   fill_counted eight Requests (Request r) y more fit = record {
     asked_before = z.asked_before;
     given_before = z.given_before;
@@ -63,11 +51,6 @@ module _ (fills empties : List Side) (k : Knowledge) (z : CountedBy fills emptie
     given_is = ap (λ (x : Side). z.given_before + x.number) (elsewhere fills 4 5 y (λ e. omega (arith, e))) ∙ z.given_is;
     came = z.came;
   }
-  fill_counted eight Requests (Log p) y more fit = absurd fit
-  fill_counted eight Requests (Out o) y more fit = absurd fit
-  fill_counted eight Requests (Answer a) y more fit = absurd fit
-  fill_counted eight Requests (Lookup x) y more fit = absurd fit
-  fill_counted eight Requests (Sector x) y more fit = absurd fit
   fill_counted eight Answers (Answer a) y more fit = record {
     asked_before = z.asked_before;
     given_before = z.given_before;
@@ -77,52 +60,18 @@ module _ (fills empties : List Side) (k : Knowledge) (z : CountedBy fills emptie
         let l = length-append k.disk.given (a ∷ []) in omega (arith, h, g, l, more));
     came = z.came;
   }
-  fill_counted eight Answers (Log p) y more fit = absurd fit
-  fill_counted eight Answers (Out o) y more fit = absurd fit
-  fill_counted eight Answers (Request r) y more fit = absurd fit
-  fill_counted eight Answers (Lookup x) y more fit = absurd fit
-  fill_counted eight Answers (Sector x) y more fit = absurd fit
   fill_counted eight Lookups (Lookup x) y more fit = fill_else 6 y (λ e. omega (arith, e)) (λ e. omega (arith, e))
-  fill_counted eight Lookups (Log p) y more fit = absurd fit
-  fill_counted eight Lookups (Out o) y more fit = absurd fit
-  fill_counted eight Lookups (Request r) y more fit = absurd fit
-  fill_counted eight Lookups (Answer a) y more fit = absurd fit
-  fill_counted eight Lookups (Sector x) y more fit = absurd fit
   fill_counted eight Sectors (Sector x) y more fit = fill_else 7 y (λ e. omega (arith, e)) (λ e. omega (arith, e))
-  fill_counted eight Sectors (Log p) y more fit = absurd fit
-  fill_counted eight Sectors (Out o) y more fit = absurd fit
-  fill_counted eight Sectors (Request r) y more fit = absurd fit
-  fill_counted eight Sectors (Answer a) y more fit = absurd fit
-  fill_counted eight Sectors (Lookup x) y more fit = absurd fit
+  fill_counted eight _ _ y more fit = absurd fit
 
   -- a box is emptied of something new
   pub empty_counted : length empties ≡ 8 → (b : Mailbox) (q : Payload) (y : Side)
       → (side_at empties (box_index b)).met < y.met → Fits b k q
       → CountedBy fills (set empties (box_index b) y) (after_empty b q k)
   empty_counted eight Outbox (Log p) y more fit = empty_else 0 y (λ e. omega (arith, e)) (λ e. omega (arith, e))
-  empty_counted eight Outbox (Out o) y more fit = absurd fit
-  empty_counted eight Outbox (Request r) y more fit = absurd fit
-  empty_counted eight Outbox (Answer a) y more fit = absurd fit
-  empty_counted eight Outbox (Lookup x) y more fit = absurd fit
-  empty_counted eight Outbox (Sector x) y more fit = absurd fit
   empty_counted eight Inbox (Log p) y more fit = empty_else 1 y (λ e. omega (arith, e)) (λ e. omega (arith, e))
-  empty_counted eight Inbox (Out o) y more fit = absurd fit
-  empty_counted eight Inbox (Request r) y more fit = absurd fit
-  empty_counted eight Inbox (Answer a) y more fit = absurd fit
-  empty_counted eight Inbox (Lookup x) y more fit = absurd fit
-  empty_counted eight Inbox (Sector x) y more fit = absurd fit
   empty_counted eight Bytes0 (Out o) y more fit = empty_else 2 y (λ e. omega (arith, e)) (λ e. omega (arith, e))
-  empty_counted eight Bytes0 (Log p) y more fit = absurd fit
-  empty_counted eight Bytes0 (Request r) y more fit = absurd fit
-  empty_counted eight Bytes0 (Answer a) y more fit = absurd fit
-  empty_counted eight Bytes0 (Lookup x) y more fit = absurd fit
-  empty_counted eight Bytes0 (Sector x) y more fit = absurd fit
   empty_counted eight Bytes1 (Out o) y more fit = empty_else 3 y (λ e. omega (arith, e)) (λ e. omega (arith, e))
-  empty_counted eight Bytes1 (Log p) y more fit = absurd fit
-  empty_counted eight Bytes1 (Request r) y more fit = absurd fit
-  empty_counted eight Bytes1 (Answer a) y more fit = absurd fit
-  empty_counted eight Bytes1 (Lookup x) y more fit = absurd fit
-  empty_counted eight Bytes1 (Sector x) y more fit = absurd fit
   empty_counted eight Requests (Request r) y more fit = record {
     asked_before = z.asked_before;
     given_before = z.given_before;
@@ -133,11 +82,6 @@ module _ (fills empties : List Side) (k : Knowledge) (z : CountedBy fills emptie
     came = (let e = ap (λ (x : Side). x.met) (elsewhere empties 4 5 y (λ e. omega (arith, e))) in let a = z.came in
         omega (arith, e, a));
   }
-  empty_counted eight Requests (Log p) y more fit = absurd fit
-  empty_counted eight Requests (Out o) y more fit = absurd fit
-  empty_counted eight Requests (Answer a) y more fit = absurd fit
-  empty_counted eight Requests (Lookup x) y more fit = absurd fit
-  empty_counted eight Requests (Sector x) y more fit = absurd fit
   empty_counted eight Answers (Answer a) y more fit = record {
     asked_before = z.asked_before;
     given_before = z.given_before;
@@ -148,33 +92,13 @@ module _ (fills empties : List Side) (k : Knowledge) (z : CountedBy fills emptie
     came = (let e = ap (λ (x : Side). x.met) (here empties 5 y (omega (arith, eight))) in let t = z.came in
         let l = length-append k.primary.answers (a ∷ []) in omega (arith, e, t, l, more));
   }
-  empty_counted eight Answers (Log p) y more fit = absurd fit
-  empty_counted eight Answers (Out o) y more fit = absurd fit
-  empty_counted eight Answers (Request r) y more fit = absurd fit
-  empty_counted eight Answers (Lookup x) y more fit = absurd fit
-  empty_counted eight Answers (Sector x) y more fit = absurd fit
   empty_counted eight Lookups (Lookup x) y more fit = empty_else 6 y (λ e. omega (arith, e)) (λ e. omega (arith, e))
-  empty_counted eight Lookups (Log p) y more fit = absurd fit
-  empty_counted eight Lookups (Out o) y more fit = absurd fit
-  empty_counted eight Lookups (Request r) y more fit = absurd fit
-  empty_counted eight Lookups (Answer a) y more fit = absurd fit
-  empty_counted eight Lookups (Sector x) y more fit = absurd fit
   empty_counted eight Sectors (Sector x) y more fit = empty_else 7 y (λ e. omega (arith, e)) (λ e. omega (arith, e))
-  empty_counted eight Sectors (Log p) y more fit = absurd fit
-  empty_counted eight Sectors (Out o) y more fit = absurd fit
-  empty_counted eight Sectors (Request r) y more fit = absurd fit
-  empty_counted eight Sectors (Answer a) y more fit = absurd fit
-  empty_counted eight Sectors (Lookup x) y more fit = absurd fit
+  empty_counted eight _ _ y more fit = absurd fit
 
   -- a box is found empty
   pub found_counted : length empties ≡ 8 → (b : Mailbox) (y : Side) → y.met ≡ (side_at empties (box_index b)).met
       → CountedBy fills (set empties (box_index b) y) k
-  found_counted eight Outbox y same = empty_else 0 y (λ e. omega (arith, e)) (λ e. omega (arith, e))
-  found_counted eight Inbox y same = empty_else 1 y (λ e. omega (arith, e)) (λ e. omega (arith, e))
-  found_counted eight Bytes0 y same = empty_else 2 y (λ e. omega (arith, e)) (λ e. omega (arith, e))
-  found_counted eight Bytes1 y same = empty_else 3 y (λ e. omega (arith, e)) (λ e. omega (arith, e))
-  found_counted eight Lookups y same = empty_else 6 y (λ e. omega (arith, e)) (λ e. omega (arith, e))
-  found_counted eight Sectors y same = empty_else 7 y (λ e. omega (arith, e)) (λ e. omega (arith, e))
   found_counted eight Requests y same = record {
     asked_before = z.asked_before;
     given_before = z.given_before;
@@ -195,3 +119,4 @@ module _ (fills empties : List Side) (k : Knowledge) (z : CountedBy fills emptie
     came = (let e = ap (λ (x : Side). x.met) (here empties 5 y (omega (arith, eight))) in let a = z.came in
         omega (arith, e, a, same));
   }
+  found_counted eight b y same = empty_else (box_index b) y (λ e. omega (arith, e)) (λ e. omega (arith, e))

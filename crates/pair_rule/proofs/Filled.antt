@@ -2,11 +2,11 @@
 use Rattle.std.proofs.Common.{◌≡◌, ℕ, ◌+◌, List, [], ◌∷◌, ◌++◌, length, sym, refl, ◌∙◌, subst, inl, inr, Option, Some, None}
 use mathlib.Core.Option.{some}
 use lib.ListN.{get_elem?}
-use Rattle.pair_rule.proofs.Words.{Agrees, AgreesOf, AllAre, Among, Answer, Answers, Arrived, Byte, Bytes0, Bytes1, CanFill, Carries, DiskAnswer, DiskRequest, DiskView, Entry, Fits, Inbox, IsAsked, IsByteOf, IsEntryOf, IsNext, IsReplied, Knowledge, Log, Lookup, Lookups, Mailbox, NamedSector, Operation, Out, Outbox, Packet, Payload, PortStands, PrimaryView, Request, Requests, SamePart, Sector, SectorAddress, SectorRead, SectorWrite, Sectors, Stands, WhereSome, Write, after_empty, after_fill, after_sector, at_longer, emptier, filler, grown, put_by, with_release, with_request}
+use Rattle.pair_rule.proofs.Words.{Agrees, Backup, Disk, Link, Primary, Terminal, AgreesOf, AllAre, Among, Answer, Answers, Arrived, Byte, Bytes0, Bytes1, CanFill, Carries, DiskAnswer, DiskRequest, DiskView, Entry, Fits, Inbox, IsAsked, IsByteOf, IsEntryOf, IsNext, IsReplied, Knowledge, Log, Lookup, Lookups, Mailbox, NamedSector, Operation, Out, Outbox, Packet, Payload, PortStands, PrimaryView, Request, Requests, SamePart, Sector, SectorAddress, SectorRead, SectorWrite, Sectors, Stands, WhereSome, Write, after_empty, after_fill, after_sector, at_longer, emptier, filler, grown, put_by, with_release, with_request}
 use Rattle.pair_rule.specs.declared.payload.DiskRequest.TheVariants as ask
 use Rattle.pair_rule.specs.declared.payload.DiskAnswer.TheVariants as answer
 use Rattle.pair_rule.specs.declared.view.PrimaryCall.{PrimaryCall}
-use Rattle.pair_rule.proofs.Parts.{Local, nothing, on_primary, on_link, on_backup, on_terminal, on_disk}
+use Rattle.pair_rule.proofs.Parts.{Local, nothing, on_part}
 use Rattle.pair_rule.proofs.BoxSwaps.{Keeps, keeps_all}
 use Rattle.pair_rule.proofs.Agree.{agree_answer, agree_found, carries_all, entry_given, next_given}
 pub use Rattle.pair_rule.proofs.Elements.{all_map, all_more, among_last, among_more, if_map}
@@ -50,94 +50,23 @@ AgreesBy _ k _ = Unit {0}
 -- ---- whose each change is
 
 pub local_fill : (b : Mailbox) (q : Payload) → Local (filler b) (after_fill b q)
-local_fill Outbox q = nothing _
-local_fill Inbox q = nothing _
-local_fill Bytes0 (Out o) = on_primary (with_release o)
-local_fill Bytes0 (Log p) = nothing _
-local_fill Bytes0 (Request r) = nothing _
-local_fill Bytes0 (Answer a) = nothing _
-local_fill Bytes0 (Lookup x) = nothing _
-local_fill Bytes0 (Sector x) = nothing _
-local_fill Bytes1 (Out o) = on_primary (with_release o)
-local_fill Bytes1 (Log p) = nothing _
-local_fill Bytes1 (Request r) = nothing _
-local_fill Bytes1 (Answer a) = nothing _
-local_fill Bytes1 (Lookup x) = nothing _
-local_fill Bytes1 (Sector x) = nothing _
-local_fill Requests (Request r) = on_primary (with_request r)
-local_fill Requests (Log p) = nothing _
-local_fill Requests (Out o) = nothing _
-local_fill Requests (Answer a) = nothing _
-local_fill Requests (Lookup x) = nothing _
-local_fill Requests (Sector x) = nothing _
-local_fill Answers (Answer a) = on_disk (λ d. record d { puts = put_by d.taken d.puts; given = d.given ++ a ∷ [] })
-local_fill Answers (Log p) = nothing _
-local_fill Answers (Out o) = nothing _
-local_fill Answers (Request r) = nothing _
-local_fill Answers (Lookup x) = nothing _
-local_fill Answers (Sector x) = nothing _
-local_fill Lookups (Log p) = nothing _
-local_fill Lookups (Out o) = nothing _
-local_fill Lookups (Request r) = nothing _
-local_fill Lookups (Answer a) = nothing _
-local_fill Lookups (Lookup x) = nothing _
-local_fill Lookups (Sector x) = nothing _
-local_fill Sectors (Sector x) = on_disk (λ d. record d { found = d.found ++ x ∷ [] })
-local_fill Sectors (Log p) = nothing _
-local_fill Sectors (Out o) = nothing _
-local_fill Sectors (Request r) = nothing _
-local_fill Sectors (Answer a) = nothing _
-local_fill Sectors (Lookup x) = nothing _
+local_fill Bytes0 (Out o) = on_part Primary (with_release o)
+local_fill Bytes1 (Out o) = on_part Primary (with_release o)
+local_fill Requests (Request r) = on_part Primary (with_request r)
+local_fill Answers (Answer a) = on_part Disk (λ d. record d { puts = put_by d.taken d.puts; given = d.given ++ a ∷ [] })
+local_fill Sectors (Sector x) = on_part Disk (λ d. record d { found = d.found ++ x ∷ [] })
+local_fill _ _ = nothing _
 
 pub local_empty : (b : Mailbox) (q : Payload) → Local (emptier b) (after_empty b q)
-local_empty Outbox (Log p) = on_link (λ _. Some p)
-local_empty Outbox (Out o) = nothing _
-local_empty Outbox (Request r) = nothing _
-local_empty Outbox (Answer a) = nothing _
-local_empty Outbox (Lookup x) = nothing _
-local_empty Outbox (Sector x) = nothing _
-local_empty Inbox (Log p) = on_backup (λ b. grown b p)
-local_empty Inbox (Out o) = nothing _
-local_empty Inbox (Request r) = nothing _
-local_empty Inbox (Answer a) = nothing _
-local_empty Inbox (Lookup x) = nothing _
-local_empty Inbox (Sector x) = nothing _
-local_empty Bytes0 (Out o) = on_terminal (λ t. record t { hand0 = Some o })
-local_empty Bytes0 (Log p) = nothing _
-local_empty Bytes0 (Request r) = nothing _
-local_empty Bytes0 (Answer a) = nothing _
-local_empty Bytes0 (Lookup x) = nothing _
-local_empty Bytes0 (Sector x) = nothing _
-local_empty Bytes1 (Out o) = on_terminal (λ t. record t { hand1 = Some o })
-local_empty Bytes1 (Log p) = nothing _
-local_empty Bytes1 (Request r) = nothing _
-local_empty Bytes1 (Answer a) = nothing _
-local_empty Bytes1 (Lookup x) = nothing _
-local_empty Bytes1 (Sector x) = nothing _
-local_empty Requests (Request r) = on_disk (λ d. record d { taken = Some r; takes = d.takes + 1 })
-local_empty Requests (Log p) = nothing _
-local_empty Requests (Out o) = nothing _
-local_empty Requests (Answer a) = nothing _
-local_empty Requests (Lookup x) = nothing _
-local_empty Requests (Sector x) = nothing _
-local_empty Answers (Answer a) = on_primary (λ p. record p { answers = p.answers ++ a ∷ [] })
-local_empty Answers (Log p) = nothing _
-local_empty Answers (Out o) = nothing _
-local_empty Answers (Request r) = nothing _
-local_empty Answers (Lookup x) = nothing _
-local_empty Answers (Sector x) = nothing _
-local_empty Lookups (Lookup x) = on_disk (λ d. record d { sought = Some x })
-local_empty Lookups (Log p) = nothing _
-local_empty Lookups (Out o) = nothing _
-local_empty Lookups (Request r) = nothing _
-local_empty Lookups (Answer a) = nothing _
-local_empty Lookups (Sector x) = nothing _
-local_empty Sectors (Sector x) = on_backup (λ b. after_sector b x)
-local_empty Sectors (Log p) = nothing _
-local_empty Sectors (Out o) = nothing _
-local_empty Sectors (Request r) = nothing _
-local_empty Sectors (Answer a) = nothing _
-local_empty Sectors (Lookup x) = nothing _
+local_empty Outbox (Log p) = on_part Link (λ _. Some p)
+local_empty Inbox (Log p) = on_part Backup (λ b. grown b p)
+local_empty Bytes0 (Out o) = on_part Terminal (λ t. record t { hand0 = Some o })
+local_empty Bytes1 (Out o) = on_part Terminal (λ t. record t { hand1 = Some o })
+local_empty Requests (Request r) = on_part Disk (λ d. record d { taken = Some r; takes = d.takes + 1 })
+local_empty Answers (Answer a) = on_part Primary (λ p. record p { answers = p.answers ++ a ∷ [] })
+local_empty Lookups (Lookup x) = on_part Disk (λ d. record d { sought = Some x })
+local_empty Sectors (Sector x) = on_part Backup (λ b. after_sector b x)
+local_empty _ _ = nothing _
 
 -- ---- what stands goes on to stand: where boxes are filled
 
@@ -176,29 +105,10 @@ module _ (k : Knowledge) (s : Stands k) where
 
   released_fits : (more : List Operation) (b : Mailbox) (x : Payload) → Fits b k x
       → Fits b (record k { primary = record k.primary { released = k.primary.released ++ more } }) x
-  released_fits more Outbox x f = f
-  released_fits more Inbox x f = f
   released_fits more Bytes0 (Out o) f = byte_more 0 k.primary.released more o f
-  released_fits more Bytes0 (Log p) f = f
-  released_fits more Bytes0 (Request r) f = f
-  released_fits more Bytes0 (Answer a) f = f
-  released_fits more Bytes0 (Lookup x) f = f
-  released_fits more Bytes0 (Sector x) f = f
   released_fits more Bytes1 (Out o) f = byte_more 1 k.primary.released more o f
-  released_fits more Bytes1 (Log p) f = f
-  released_fits more Bytes1 (Request r) f = f
-  released_fits more Bytes1 (Answer a) f = f
-  released_fits more Bytes1 (Lookup x) f = f
-  released_fits more Bytes1 (Sector x) f = f
   released_fits more Requests (Request r) f = asked_more k.primary.released more r f
-  released_fits more Requests (Log p) f = f
-  released_fits more Requests (Out o) f = f
-  released_fits more Requests (Answer a) f = f
-  released_fits more Requests (Lookup x) f = f
-  released_fits more Requests (Sector x) f = f
-  released_fits more Answers x f = f
-  released_fits more Lookups x f = f
-  released_fits more Sectors x f = f
+  released_fits more _ _ f = f
 
   release_keeps : (o : Operation) → Keeps (λ k. record k { primary = with_release o k.primary }) k
   release_keeps o = record {
@@ -255,28 +165,9 @@ module _ (k : Knowledge) (s : Stands k) where
 
   answered_fits : (a : DiskAnswer) (b : Mailbox) (x : Payload) → Fits b k x → Fits b (answered a) x
   answered_fits a Answers (Answer x) f = among_more x k.disk.given (a ∷ []) f
-  answered_fits a Answers (Log p) f = f
-  answered_fits a Answers (Out o) f = f
-  answered_fits a Answers (Request r) f = f
-  answered_fits a Answers (Lookup x) f = f
-  answered_fits a Answers (Sector x) f = f
   answered_fits a Outbox (Log p) f = entry_given k.generation k.primary.list k.disk.given (a ∷ []) p f
-  answered_fits a Outbox (Out o) f = f
-  answered_fits a Outbox (Request r) f = f
-  answered_fits a Outbox (Answer x) f = f
-  answered_fits a Outbox (Lookup x) f = f
-  answered_fits a Outbox (Sector x) f = f
   answered_fits a Inbox (Log p) f = entry_given k.generation k.primary.list k.disk.given (a ∷ []) p f
-  answered_fits a Inbox (Out o) f = f
-  answered_fits a Inbox (Request r) f = f
-  answered_fits a Inbox (Answer x) f = f
-  answered_fits a Inbox (Lookup x) f = f
-  answered_fits a Inbox (Sector x) f = f
-  answered_fits a Bytes0 x f = f
-  answered_fits a Bytes1 x f = f
-  answered_fits a Requests x f = f
-  answered_fits a Lookups x f = f
-  answered_fits a Sectors x f = f
+  answered_fits a _ _ f = f
 
   -- the disk answered a lookup
   abbrev found : SectorRead → Knowledge
@@ -299,18 +190,7 @@ module _ (k : Knowledge) (s : Stands k) where
 
   found_fits : (r : SectorRead) (b : Mailbox) (x : Payload) → Fits b k x → Fits b (found r) x
   found_fits r Sectors (Sector x) f = among_more x k.disk.found (r ∷ []) f
-  found_fits r Sectors (Log p) f = f
-  found_fits r Sectors (Out o) f = f
-  found_fits r Sectors (Request x) f = f
-  found_fits r Sectors (Answer a) f = f
-  found_fits r Sectors (Lookup x) f = f
-  found_fits r Outbox x f = f
-  found_fits r Inbox x f = f
-  found_fits r Bytes0 x f = f
-  found_fits r Bytes1 x f = f
-  found_fits r Requests x f = f
-  found_fits r Answers x f = f
-  found_fits r Lookups x f = f
+  found_fits r _ _ f = f
 
   abbrev MayFill : Mailbox → Payload → Type 0
   MayFill b q = Keeps (after_fill b q) k × Fits b (after_fill b q k) q
@@ -320,40 +200,13 @@ module _ (k : Knowledge) (s : Stands k) where
     keeps_all k s,
     (can.0, (can.1.0, can.1.1, carries_all k.primary.answers k.disk.given s.disk.answers p.carried can.1.0 can.1.2)),
   )
-  fill_keeps Outbox (Out o) can agrees = absurd can
-  fill_keeps Outbox (Request r) can agrees = absurd can
-  fill_keeps Outbox (Answer a) can agrees = absurd can
-  fill_keeps Outbox (Lookup x) can agrees = absurd can
-  fill_keeps Outbox (Sector x) can agrees = absurd can
   fill_keeps Inbox (Log p) can agrees = (keeps_all k s, subst (λ x. WhereSome x (IsEntryOf k.generation k.primary.list k.disk.given)) can s.log.in_link)
-  fill_keeps Inbox (Out o) can agrees = absurd can
-  fill_keeps Inbox (Request r) can agrees = absurd can
-  fill_keeps Inbox (Answer a) can agrees = absurd can
-  fill_keeps Inbox (Lookup x) can agrees = absurd can
-  fill_keeps Inbox (Sector x) can agrees = absurd can
   fill_keeps Bytes0 (Out (Byte to number byte)) can agrees =
       (release_keeps (Byte to number byte), (can, among_last (Byte to number byte) k.primary.released))
-  fill_keeps Bytes0 (Out (Write w)) can agrees = absurd can
-  fill_keeps Bytes0 (Log p) can agrees = absurd can
-  fill_keeps Bytes0 (Request r) can agrees = absurd can
-  fill_keeps Bytes0 (Answer a) can agrees = absurd can
-  fill_keeps Bytes0 (Lookup x) can agrees = absurd can
-  fill_keeps Bytes0 (Sector x) can agrees = absurd can
   fill_keeps Bytes1 (Out (Byte to number byte)) can agrees =
       (release_keeps (Byte to number byte), (can, among_last (Byte to number byte) k.primary.released))
-  fill_keeps Bytes1 (Out (Write w)) can agrees = absurd can
-  fill_keeps Bytes1 (Log p) can agrees = absurd can
-  fill_keeps Bytes1 (Request r) can agrees = absurd can
-  fill_keeps Bytes1 (Answer a) can agrees = absurd can
-  fill_keeps Bytes1 (Lookup x) can agrees = absurd can
-  fill_keeps Bytes1 (Sector x) can agrees = absurd can
   fill_keeps Requests (Request (ask.Write w)) can agrees = (release_keeps (Write w), among_last (Write w) k.primary.released)
   fill_keeps Requests (Request (ask.Read a)) can agrees = (asks_keeps a, tt)
-  fill_keeps Requests (Log p) can agrees = absurd can
-  fill_keeps Requests (Out o) can agrees = absurd can
-  fill_keeps Requests (Answer a) can agrees = absurd can
-  fill_keeps Requests (Lookup x) can agrees = absurd can
-  fill_keeps Requests (Sector x) can agrees = absurd can
   fill_keeps Answers (Answer a) can agrees = (
     record {
       stands = answered_stands a can agrees;
@@ -362,26 +215,12 @@ module _ (k : Knowledge) (s : Stands k) where
     },
     among_last a k.disk.given,
   )
-  fill_keeps Answers (Log p) can agrees = absurd can
-  fill_keeps Answers (Out o) can agrees = absurd can
-  fill_keeps Answers (Request r) can agrees = absurd can
-  fill_keeps Answers (Lookup x) can agrees = absurd can
-  fill_keeps Answers (Sector x) can agrees = absurd can
   fill_keeps Lookups (Lookup x) can agrees = (keeps_all k s, tt)
-  fill_keeps Lookups (Log p) can agrees = absurd can
-  fill_keeps Lookups (Out o) can agrees = absurd can
-  fill_keeps Lookups (Request r) can agrees = absurd can
-  fill_keeps Lookups (Answer a) can agrees = absurd can
-  fill_keeps Lookups (Sector x) can agrees = absurd can
   fill_keeps Sectors (Sector x) can agrees = (
     record { stands = found_stands x agrees; words = refl; fits = found_fits x },
     among_last x k.disk.found,
   )
-  fill_keeps Sectors (Log p) can agrees = absurd can
-  fill_keeps Sectors (Out o) can agrees = absurd can
-  fill_keeps Sectors (Request r) can agrees = absurd can
-  fill_keeps Sectors (Answer a) can agrees = absurd can
-  fill_keeps Sectors (Lookup x) can agrees = absurd can
+  fill_keeps _ _ can agrees = absurd can
 
 -- whether it may be filled is known to the seat that fills it
 pub can_same : (b : Mailbox) (q : Payload) (k l : Knowledge) → k.generation ≡ l.generation → SamePart (filler b) k l
@@ -390,52 +229,6 @@ can_same Outbox (Log p) k l g e can = (
   can.0 ∙ g,
   subst (λ (z : PrimaryView). (x : Entry) × (get_elem? z.list p.index ≡ some x) × Carries z.answers p.carried x) e can.1,
 )
-can_same Outbox (Out o) k l g e can = can
-can_same Outbox (Request r) k l g e can = can
-can_same Outbox (Answer a) k l g e can = can
-can_same Outbox (Lookup x) k l g e can = can
-can_same Outbox (Sector x) k l g e can = can
 can_same Inbox (Log p) k l g e can = sym e ∙ can
-can_same Inbox (Out o) k l g e can = can
-can_same Inbox (Request r) k l g e can = can
-can_same Inbox (Answer a) k l g e can = can
-can_same Inbox (Lookup x) k l g e can = can
-can_same Inbox (Sector x) k l g e can = can
-can_same Bytes0 (Out (Byte to number byte)) k l g e can = can
-can_same Bytes0 (Out (Write w)) k l g e can = can
-can_same Bytes0 (Log p) k l g e can = can
-can_same Bytes0 (Request r) k l g e can = can
-can_same Bytes0 (Answer a) k l g e can = can
-can_same Bytes0 (Lookup x) k l g e can = can
-can_same Bytes0 (Sector x) k l g e can = can
-can_same Bytes1 (Out (Byte to number byte)) k l g e can = can
-can_same Bytes1 (Out (Write w)) k l g e can = can
-can_same Bytes1 (Log p) k l g e can = can
-can_same Bytes1 (Request r) k l g e can = can
-can_same Bytes1 (Answer a) k l g e can = can
-can_same Bytes1 (Lookup x) k l g e can = can
-can_same Bytes1 (Sector x) k l g e can = can
-can_same Requests (Request r) k l g e can = can
-can_same Requests (Log p) k l g e can = can
-can_same Requests (Out o) k l g e can = can
-can_same Requests (Answer a) k l g e can = can
-can_same Requests (Lookup x) k l g e can = can
-can_same Requests (Sector x) k l g e can = can
 can_same Answers (Answer a) k l g e can = subst (λ (d : DiskView). IsReplied (put_by d.taken d.puts) a) e can
-can_same Answers (Log p) k l g e can = can
-can_same Answers (Out o) k l g e can = can
-can_same Answers (Request r) k l g e can = can
-can_same Answers (Lookup x) k l g e can = can
-can_same Answers (Sector x) k l g e can = can
-can_same Lookups (Log p) k l g e can = can
-can_same Lookups (Out o) k l g e can = can
-can_same Lookups (Request r) k l g e can = can
-can_same Lookups (Answer a) k l g e can = can
-can_same Lookups (Lookup x) k l g e can = can
-can_same Lookups (Sector x) k l g e can = can
-can_same Sectors (Log p) k l g e can = can
-can_same Sectors (Out o) k l g e can = can
-can_same Sectors (Request r) k l g e can = can
-can_same Sectors (Answer a) k l g e can = can
-can_same Sectors (Lookup x) k l g e can = can
-can_same Sectors (Sector x) k l g e can = can
+can_same _ _ k l g e can = can

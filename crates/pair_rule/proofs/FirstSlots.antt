@@ -1,42 +1,14 @@
 -- A seat takes its first slot, and gives its last one back.
-use Rattle.std.proofs.Common.{◌≡◌, ℕ, Bool, true, false, List, [], ◌∷◌, get_or, set, sym, refl, ap, ◌∙◌, subst, length-set, Option, None}
+use Rattle.std.proofs.Common.{◌≡◌, ℕ, Bool, true, false, List, [], ◌∷◌, get_or, set, sym, refl, ap, ◌∙◌, subst, Option, None}
 use mathlib.Core.Option as maybe
 use mathlib.Core.Option.{some, none, some-injective}
 use lib.ListN.{get_elem?}
-use Rattle.pair_rule.proofs.Words.{Act, Allows, Core, Facts, Homes, Laid, Mine, Payload, Rule, Same, SeatView, Sized, Valid, Who, box_index, carried_after, gives, gives_last_slot, has, homes_after, seat_index, set_else, takes, takes_first_slot, with_core, with_slot}
-use Rattle.pair_rule.proofs.Slots.{set_both, box_stays}
+use Rattle.pair_rule.proofs.Words.{Act, Allows, Core, Facts, Homes, Laid, Mine, Payload, Rule, SeatView, Valid, Who, box_index, carried_after, gives, gives_last_slot, has, homes_after, seat_index, takes, takes_first_slot, with_core, with_slot}
+use Rattle.pair_rule.proofs.Slots.{box_stays}
 use Rattle.pair_rule.proofs.SlotSwaps.{laid_first, laid_last, home_else}
-use Rattle.pair_rule.proofs.Parts.{one_seat, steps}
+use Rattle.pair_rule.proofs.Parts.{owned_slot, steps}
 use Rattle.pair_rule.proofs.BoxSwaps.{Table, Goes}
 use Rattle.pair_rule.proofs.BoxSteps.{own}
-
-slot_both : (s t : Who) (b : Bool) (c d : Core) → Sized d → Same t c d → Same t (with_slot s b c) (with_slot s b d)
-slot_both s t b c d z e = record {
-  sized =
-      record {
-        hands = e.sized.hands;
-        has_slot = length-set c.has_slot (seat_index s) b ∙ e.sized.has_slot;
-        fills = e.sized.fills;
-        empties = e.sized.empties;
-      };
-  generation = e.generation;
-  hand = e.hand;
-  has_slot = set_both c.has_slot d.has_slot (seat_index s) (seat_index t) b (e.sized.has_slot ∙ sym z.has_slot) e.has_slot;
-  fills = e.fills;
-  empties = e.empties;
-  known = e.known;
-}
-
-slot_rest : (s t : Who) (b : Bool) (c d : Core) → (t ≡ s → ⊥) → Same t c d → Same t c (with_slot s b d)
-slot_rest s t b c d ne e = record {
-  sized = e.sized;
-  generation = e.generation;
-  hand = e.hand;
-  has_slot = e.has_slot ∙ sym (set_else d.has_slot (seat_index s) (seat_index t) b (λ q. ne (one_seat t s q)));
-  fills = e.fills;
-  empties = e.empties;
-  known = e.known;
-}
 
 module _ (g : ℕ) (boxes : List ℕ) (homes : Homes) (c : Core) (f : Facts g boxes homes c) (s : Who) (h : ℕ)
     (at : get_elem? c.hands (seat_index s) ≡ some h) where
@@ -44,12 +16,7 @@ module _ (g : ℕ) (boxes : List ℕ) (homes : Homes) (c : Core) (f : Facts g bo
       → Laid boxes c.hands (set c.has_slot (seat_index s) b) (set homes h y) → Facts g boxes (set homes h y) (with_slot s b c)
   slot_facts b y laid = record {
     generation = f.generation;
-    sized = record {
-      hands = f.sized.hands;
-      has_slot = length-set c.has_slot (seat_index s) b ∙ f.sized.has_slot;
-      fills = f.sized.fills;
-      empties = f.sized.empties;
-    };
+    sized = (owned_slot s b).sized c f.sized;
     eight = f.eight;
     laid = laid;
     boxed = λ j w p q aw ap' aq. box_stays w homes (set homes h y) p q
@@ -75,8 +42,7 @@ module _ (g : ℕ) (s : Table) (r : Rule g s) (id : ℕ) (v : SeatView) (at : ge
       boxes = r.boxes;
       words = ap (λ z. set z 0 (get_or z 0 0)) r.words;
       at = r.at;
-      seats = λ t. steps s.views r.core (with_slot n b r.core) n t r.at id v (with_slot n b v.core) r.seats at mine
-          (slot_both n t b v.core r.core r.facts.sized) (λ x ne e. slot_rest n t b x r.core ne e);
+      seats = λ t. steps s.views r.core n t r.at id v (with_slot n b) (owned_slot n b) r.facts.sized r.seats at mine;
       facts = facts;
     },
     tells,

@@ -3,7 +3,7 @@ use Rattle.std.proofs.Common.{◌≡◌, ℕ, zero, suc, ◌+◌, ◌<◌, ◌�
 use mathlib.Core.Option.{some, some-injective, some-ne-none}
 use lib.ListN.{get_elem?}
 use Rattle.atomic_table.specs.Table.{opening}
-use Rattle.pair_rule.proofs.Words.{Answers, Backup, Boxed, Bytes0, Bytes1, Disk, Fits, Homes, Inbox, IsStart, Knowledge, Link, Lookups, Mailbox, Outbox, Primary, Requests, Rule, Same, SamePart, SeatView, Sectors, Side, Sized, Stands, Terminal, WhereSome, Who, box_index, core_of, first_known, has, is_full, new_side, slot_of, view_of, winner_of}
+use Rattle.pair_rule.proofs.Words.{Boxed, Fits, Homes, IsStart, Knowledge, Mailbox, Outbox, Primary, Rule, Same, SeatView, Side, Sized, Stands, WhereSome, Who, box_index, core_of, first_known, has, is_full, new_side, slot_of, view_of, winner_of}
 use Rattle.pair_rule.specs.Histories.{Opens}
 use Rattle.pair_rule.proofs.Agree.{AllAgree}
 
@@ -15,65 +15,26 @@ abbrev boxes0 : List ℕ
 boxes0 = 0 ∷ 1 ∷ 2 ∷ 3 ∷ 4 ∷ 5 ∷ 6 ∷ 7 ∷ []
 
 slot0 : (j w : ℕ) → get_elem? boxes0 j ≡ some w → (slot_of w ≡ j) × (get_elem? homes0 (slot_of w) ≡ some (some None))
-slot0 zero w e = subst (λ w. (slot_of w ≡ 0) × (get_elem? homes0 (slot_of w) ≡ some (some None))) (some-injective 0 w e)
-    (refl, refl)
-slot0 (suc zero) w e = subst (λ w. (slot_of w ≡ 1) × (get_elem? homes0 (slot_of w) ≡ some (some None))) (some-injective 1 w e)
-    (refl, refl)
-slot0 (suc (suc zero)) w e = subst (λ w. (slot_of w ≡ 2) × (get_elem? homes0 (slot_of w) ≡ some (some None)))
-    (some-injective 2 w e) (refl, refl)
-slot0 (suc (suc (suc zero))) w e = subst (λ w. (slot_of w ≡ 3) × (get_elem? homes0 (slot_of w) ≡ some (some None)))
-    (some-injective 3 w e) (refl, refl)
-slot0 (suc (suc (suc (suc zero)))) w e = subst (λ w. (slot_of w ≡ 4) × (get_elem? homes0 (slot_of w) ≡ some (some None)))
-    (some-injective 4 w e) (refl, refl)
-slot0 (suc (suc (suc (suc (suc zero))))) w e = subst (λ w. (slot_of w ≡ 5) × (get_elem? homes0 (slot_of w) ≡ some (some None)))
-    (some-injective 5 w e) (refl, refl)
-slot0 (suc (suc (suc (suc (suc (suc zero)))))) w e =
-    subst (λ w. (slot_of w ≡ 6) × (get_elem? homes0 (slot_of w) ≡ some (some None))) (some-injective 6 w e) (refl, refl)
-slot0 (suc (suc (suc (suc (suc (suc (suc zero))))))) w e =
-    subst (λ w. (slot_of w ≡ 7) × (get_elem? homes0 (slot_of w) ≡ some (some None))) (some-injective 7 w e) (refl, refl)
 slot0 (suc (suc (suc (suc (suc (suc (suc (suc j)))))))) w e = absurd (some-ne-none w (sym e))
+slot0 j w e = subst (λ w. (slot_of w ≡ j) × (get_elem? homes0 (slot_of w) ≡ some (some None))) (some-injective _ w e) (refl, refl)
 
 abbrev hands0 : List ℕ
 hands0 = 8 ∷ 9 ∷ 10 ∷ 11 ∷ 12 ∷ []
 
 hand0 : (s h : ℕ) → get_elem? hands0 s ≡ some h → (h ≡ 8 + s) × (h < 13) × (get_elem? homes0 h ≡ some (some None))
-hand0 zero h e = subst (λ h. (h ≡ 8) × (h < 13) × (get_elem? homes0 h ≡ some (some None))) (some-injective 8 h e)
-    (refl, omega arith, refl)
-hand0 (suc zero) h e = subst (λ h. (h ≡ 9) × (h < 13) × (get_elem? homes0 h ≡ some (some None))) (some-injective 9 h e)
-    (refl, omega arith, refl)
-hand0 (suc (suc zero)) h e = subst (λ h. (h ≡ 10) × (h < 13) × (get_elem? homes0 h ≡ some (some None))) (some-injective 10 h e)
-    (refl, omega arith, refl)
-hand0 (suc (suc (suc zero))) h e = subst (λ h. (h ≡ 11) × (h < 13) × (get_elem? homes0 h ≡ some (some None)))
-    (some-injective 11 h e) (refl, omega arith, refl)
-hand0 (suc (suc (suc (suc zero)))) h e =
-    subst (λ h. (h ≡ 12) × (h < 13) × (get_elem? homes0 h ≡ some (some None))) (some-injective 12 h e) (refl, omega arith, refl)
 hand0 (suc (suc (suc (suc (suc s))))) h e = absurd (some-ne-none h (sym e))
+hand0 s h e = subst (λ h. (h ≡ 8 + s) × (h < 13) × (get_elem? homes0 h ≡ some (some None))) (some-injective _ h e)
+    (refl, omega arith, refl)
 
 box0 : (b : Mailbox) → (get_elem? boxes0 (box_index b) ≡ some (box_index b)) ×
     (get_elem? (core_of (first_known 0)).fills (box_index b) ≡ some new_side) × Boxed (box_index b) homes0 new_side new_side
     (is_full (box_index b))
 box0 Outbox = (refl, refl, (refl, refl, (None, refl)))
-box0 Inbox = (refl, refl, (refl, refl, (None, refl)))
-box0 Bytes0 = (refl, refl, (refl, refl, (None, refl)))
-box0 Bytes1 = (refl, refl, (refl, refl, (None, refl)))
-box0 Requests = (refl, refl, (refl, refl, (None, refl)))
-box0 Answers = (refl, refl, (refl, refl, (None, refl)))
-box0 Lookups = (refl, refl, (refl, refl, (None, refl)))
-box0 Sectors = (refl, refl, (refl, refl, (None, refl)))
+box0 _ = (refl, refl, (refl, refl, (None, refl)))
 
 first_has : (k : Knowledge) (n : Who) → has (view_of k) n
 first_has k Primary = refl
-first_has k Link = refl
-first_has k Backup = refl
-first_has k Terminal = refl
-first_has k Disk = refl
-
-same_all : (n : Who) (k : Knowledge) → SamePart n k k
-same_all Primary k = refl
-same_all Link k = refl
-same_all Backup k = refl
-same_all Terminal k = refl
-same_all Disk k = refl
+first_has k _ = refl
 
 first_sized : (k : Knowledge) → Sized (core_of k)
 first_sized k = record { hands = refl; has_slot = refl; fills = refl; empties = refl }
@@ -127,7 +88,7 @@ opens g n a0 a1 k start = let v : SeatView = view_of k in record {
         has_slot = refl;
         fills = λ b e. refl;
         empties = λ b e. refl;
-        known = same_all n k;
+        known = refl;
       },
     );
   };

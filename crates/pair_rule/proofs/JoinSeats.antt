@@ -1,12 +1,12 @@
 -- Seats are joined into the primary's, and what is known at the end is of one moment.
 use Rattle.std.proofs.Common.{◌≡◌, ◌≢◌, ℕ, ◌≤◌, eqb, Bool, true, false, List, ◌++◌, length, set, sym, refl, ap, ◌∙◌, subst, ⊎_elim, arith, length-set, eq-eqb, ne_eqb, Option}
-use mathlib.Core.Option.{some, some-injective}
+use mathlib.Core.Option.{some}
 use mathlib.Core.Logic.{dite}
 use native.Mathlib.Decide.{ℕ_discrete}
 use lib.ListN.{get_elem?}
-use Rattle.pair_rule.proofs.Words.{Answers, Backup, Boxed, Bytes0, Bytes1, Core, Disk, Facts, Final, Has, Homes, Inbox, Joins, Knowledge, Link, Lookups, Mailbox, Outbox, Payload, PlainRun, Primary, Requests, Rule, Same, SamePart, SeatView, Sectors, Seen, Side, Sized, Stands, Terminal, Who, at_set, box_index, emptier, filler, has, is_full, know_of, mixed, new_side, part_of, seat_index, set_else, set_here, side_at, spent_view, which, with_part, words_of}
+use Rattle.pair_rule.proofs.Words.{Answers, Backup, Boxed, Core, Disk, Facts, Final, Has, Homes, Joins, Knowledge, Link, Mailbox, Outbox, Payload, PlainRun, Primary, Requests, Rule, Same, SamePart, SeatView, Seen, Side, Sized, Stands, Terminal, Who, at_set, box_index, emptier, filler, has, is_full, know_of, mixed, new_side, part_of, seat_index, set_else, set_here, side_at, spent_view, which, with_part, words_of}
 use Rattle.pair_rule.proofs.Slots.{at_or}
-use Rattle.pair_rule.proofs.Parts.{one_seat, few_boxes, few_seats, set_there}
+use Rattle.pair_rule.proofs.Parts.{Local, has_set, on_part, one_seat, few_boxes, few_seats, set_there}
 use Rattle.pair_rule.proofs.BoxSwaps.{Table, box, here as box_word}
 use Rattle.pair_rule.proofs.BoxSteps.{own}
 use Rattle.pair_rule.proofs.SplitSeats.{no_true, nobody_has}
@@ -15,13 +15,7 @@ at_mixed : (who : Mailbox → Who) (s : Who) (own rest : List Side) (b : Mailbox
     → get_elem? (mixed who s own rest) (box_index b) ≡ some
     (which (eqb (seat_index (who b)) (seat_index s)) (side_at own (box_index b)) (side_at rest (box_index b)))
 at_mixed who s own rest Outbox = refl
-at_mixed who s own rest Inbox = refl
-at_mixed who s own rest Bytes0 = refl
-at_mixed who s own rest Bytes1 = refl
-at_mixed who s own rest Requests = refl
-at_mixed who s own rest Answers = refl
-at_mixed who s own rest Lookups = refl
-at_mixed who s own rest Sectors = refl
+at_mixed who s own rest _ = refl
 
 mixed_own : (who : Mailbox → Who) (s : Who) (own rest : List Side) (b : Mailbox) → length own ≡ 8 → who b ≡ s
     → get_elem? (mixed who s own rest) (box_index b) ≡ get_elem? own (box_index b)
@@ -37,47 +31,16 @@ mixed_rest who s own rest b eight ne = at_mixed who s own rest b ∙ ap
     (ne_eqb (seat_index (who b)) (seat_index s) ne) ∙ sym
     (at_or rest (box_index b) new_side (let few = few_boxes b in omega arith))
 
-know_gen : (s : Who) (own rest : Knowledge) → (know_of s own rest).generation ≡ rest.generation
-know_gen Primary own rest = refl
-know_gen Link own rest = refl
-know_gen Backup own rest = refl
-know_gen Terminal own rest = refl
-know_gen Disk own rest = refl
+know_local : (s : Who) (own : Knowledge) → Local s (know_of s own)
+know_local Primary own = on_part Primary (λ _. own.primary)
+know_local Link own = on_part Link (λ _. own.link)
+know_local Backup own = on_part Backup (λ _. own.backup)
+know_local Terminal own = on_part Terminal (λ _. own.terminal)
+know_local Disk own = on_part Disk (λ _. own.disk)
 
-know_own : (s : Who) (own rest core : Knowledge) → SamePart s own core → SamePart s (know_of s own rest) core
-know_own Primary own rest core e = e
-know_own Link own rest core e = e
-know_own Backup own rest core e = e
-know_own Terminal own rest core e = e
-know_own Disk own rest core e = e
-
-know_rest : (s n : Who) (own rest core : Knowledge) → (seat_index n ≢ seat_index s) → SamePart n rest core
-    → SamePart n (know_of s own rest) core
-know_rest Primary Primary own rest core ne e = absurd (ne refl)
-know_rest Primary Link own rest core ne e = e
-know_rest Primary Backup own rest core ne e = e
-know_rest Primary Terminal own rest core ne e = e
-know_rest Primary Disk own rest core ne e = e
-know_rest Link Primary own rest core ne e = e
-know_rest Link Link own rest core ne e = absurd (ne refl)
-know_rest Link Backup own rest core ne e = e
-know_rest Link Terminal own rest core ne e = e
-know_rest Link Disk own rest core ne e = e
-know_rest Backup Primary own rest core ne e = e
-know_rest Backup Link own rest core ne e = e
-know_rest Backup Backup own rest core ne e = absurd (ne refl)
-know_rest Backup Terminal own rest core ne e = e
-know_rest Backup Disk own rest core ne e = e
-know_rest Terminal Primary own rest core ne e = e
-know_rest Terminal Link own rest core ne e = e
-know_rest Terminal Backup own rest core ne e = e
-know_rest Terminal Terminal own rest core ne e = absurd (ne refl)
-know_rest Terminal Disk own rest core ne e = e
-know_rest Disk Primary own rest core ne e = e
-know_rest Disk Link own rest core ne e = e
-know_rest Disk Backup own rest core ne e = e
-know_rest Disk Terminal own rest core ne e = e
-know_rest Disk Disk own rest core ne e = absurd (ne refl)
+know_own : (s : Who) (own rest : Knowledge) → SamePart s (know_of s own rest) own
+know_own Primary own rest = refl
+know_own _ own rest = refl
 
 module _ (s : Who) (own rest core : Core) (z : Sized rest) (same : rest.known.generation ≡ core.known.generation) where
   part_sized : Sized (part_of s own rest)
@@ -91,26 +54,26 @@ module _ (s : Who) (own rest core : Core) (z : Sized rest) (same : rest.known.ge
   part_own : Same s own core → Same s (part_of s own rest) core
   part_own e = let few = few_seats s in record {
     sized = part_sized;
-    generation = know_gen s own.known rest.known ∙ same;
+    generation = (know_local s own.known).generation rest.known ∙ same;
     hand = set_here rest.hands (seat_index s) _ (let a = z.hands in omega arith) ∙ sym
         (at_or own.hands (seat_index s) 0 (let a = e.sized.hands in omega arith)) ∙ e.hand;
     has_slot = set_here rest.has_slot (seat_index s) _ (let a = z.has_slot in omega arith) ∙ sym
         (at_or own.has_slot (seat_index s) false (let a = e.sized.has_slot in omega arith)) ∙ e.has_slot;
     fills = λ b is. mixed_own filler s own.fills rest.fills b e.sized.fills is ∙ e.fills b is;
     empties = λ b is. mixed_own emptier s own.empties rest.empties b e.sized.empties is ∙ e.empties b is;
-    known = know_own s own.known rest.known core.known e.known;
+    known = know_own s own.known rest.known ∙ e.known;
   }
 
   part_rest : (n : Who) → (seat_index n ≢ seat_index s) → Same n rest core → Same n (part_of s own rest) core
   part_rest n ne e = record {
     sized = part_sized;
-    generation = know_gen s own.known rest.known ∙ same;
+    generation = (know_local s own.known).generation rest.known ∙ same;
     hand = set_else rest.hands (seat_index s) (seat_index n) _ ne ∙ e.hand;
     has_slot = set_else rest.has_slot (seat_index s) (seat_index n) _ ne ∙ e.has_slot;
     fills = λ b is. mixed_rest filler s own.fills rest.fills b z.fills (λ q. ne (ap seat_index (sym is) ∙ q)) ∙ e.fills b is;
     empties = λ b is. mixed_rest emptier s own.empties rest.empties b z.empties (λ q. ne (ap seat_index (sym is) ∙ q))
         ∙ e.empties b is;
-    known = know_rest s n own.known rest.known core.known ne e.known;
+    known = (know_local s own.known).rest n rest.known (λ q. ne (ap seat_index q)) ∙ e.known;
   }
 
 module _ (views : List SeatView) (core : Core) (at : Who → ℕ) (seats : (n : Who)
@@ -148,38 +111,11 @@ module _ (views : List SeatView) (core : Core) (at : Who → ℕ) (seats : (n : 
   }
 
   join_other : (n : Who) → (seat_index n ≢ seat_index s) → Has after core n (at n)
-  join_other n ne = let h = seats n in let keeps : get_elem? joined.mine (seat_index n) ≡ get_elem? v.mine (seat_index n) =
-      set_else v.mine (seat_index s) (seat_index n) true ne in
-      let not_i : at n ≢ i = λ q. let z =
-      h.here in no_true (single n ne)
-      (subst (λ (x : SeatView). has x n) (some-injective z.0 w (sym z.1 ∙ ap (get_elem? views) q ∙ there)) z.2) in record {
-        here = dite (ℕ_discrete (at n) id)
-            (λ e. (
-              joined,
-              set_else (set views id joined) i (at n) spent_view not_i ∙ ap (get_elem? (set views id joined)) e
-                  ∙ set_there views id v joined here,
-              keeps ∙ (let q = h.here in subst (λ (x : SeatView). has x n)
-                  (some-injective q.0 v (sym q.1 ∙ ap (get_elem? views) e ∙ here)) q.2),
-            ))
-            (λ ne'. (
-              h.here.0,
-              set_else (set views id joined) i (at n) spent_view not_i ∙ set_else views id (at n) joined ne'
-                  ∙ h.here.1,
-              h.here.2,
-            ));
-        only = λ j x ex hx. ⊎_elim
-            (λ (t : (j ≡ i) × (spent_view ≡ x)). no_true (nobody_has n) (subst (λ (z : SeatView). has z n) (sym t.1) hx))
-            (λ (t : (j ≢ i) × (get_elem? (set views id joined) j ≡ some x)). ⊎_elim
-            (λ (u : (j ≡ id) × (joined ≡ x)). let o =
-            h.only id v here (sym keeps ∙ subst (λ (z : SeatView). has z n) (sym u.1) hx) in (
-              u.0 ∙ o.0,
-              subst (λ (z : SeatView). Same n z.core core) u.1
-                  (part_rest s w.core v.core core lead.sized lead.generation n ne o.1),
-            ))
-            (λ (u : (j ≢ id) × (get_elem? views j ≡ some x)). h.only j x u.1 hx)
-            (at_set views id j joined x t.1))
-            (at_set (set views id joined) i j spent_view x ex);
-      }
+  join_other n ne = has_set (set views id joined) core core n (at n) i w spent_view
+      (has_set views core core n (at n) id v joined (seats n) here (set_else v.mine (seat_index s) (seat_index n) true ne)
+      (λ had e. part_rest s w.core v.core core lead.sized lead.generation n ne e) (λ x off e. e))
+      (set_else views id i joined apart ∙ there) (nobody_has n ∙ sym (single n ne)) (λ had e. no_true (single n ne) had)
+      (λ x off e. e)
 
   join_seat : (n : Who) → (k : ℕ) × Has after core n k
   join_seat n = dite (ℕ_discrete (seat_index n) (seat_index s))

@@ -1,8 +1,8 @@
 -- Steps of the table that keep all promises are steps of the threads: each call of the primary is there with what it knew
 -- then, and the disk's answers only grow.
 use Rattle.std.proofs.Common.{ℕ, zero, suc, List, [], ◌∷◌, ◌++◌}
-use Rattle.pair_rule.proofs.Words.{AllAre, Answer, Answers, AreKept, Bytes0, Bytes1, CanFill, Entry, Goes, Inbox, IsTold, KeptStepsAreThreads, Knowledge, Log, Lookup, Lookups, Machine, Mailbox, Mark, MayPut, Opens, Out, Outbox, Payload, PlainRun, PlainStep, Read, ReadsBoot, Request, Requests, Rx, Sector, Sectors, TableStep, after_empty, after_fill, knew}
-use Rattle.log_entry.specs.declared.entry.Entry.TheVariants.{Sent, Sector, Written}
+use Rattle.pair_rule.proofs.Words.{AllAre, Answer, Answers, AreKept, Bytes0, Bytes1, CanFill, Entry, Goes, Inbox, IsTold, KeptStepsAreThreads, Knowledge, Log, Lookup, Lookups, Machine, Mailbox, MayPut, Opens, Out, Outbox, Payload, PlainRun, PlainStep, ReadsBoot, Request, Requests, Sector, Sectors, TableStep, after_empty, after_fill, knew}
+use Rattle.log_entry.specs.declared.entry.Entry.TheVariants.{Sent, Sector}
 use Rattle.pair_rule.specs.declared.payload.DiskAnswer.TheVariants as answer
 use Rattle.pair_rule.specs.declared.payload.DiskRequest.TheVariants as ask
 use Rattle.pair_rule.specs.Histories as plain
@@ -24,13 +24,8 @@ module _ {S : Type 0} (M : Machine S) (typed0 typed1 : List ℕ) (k : Knowledge)
   told_same : (s : S) (e : Entry)
       → IsTold M typed0 typed1 (knew k.primary.list 0 k.primary.counted0 k.primary.counted1 k.primary.answers) s e
       → IsTold M typed0 typed1 k s e
-  told_same s (Mark count) t = t
-  told_same s (Rx count port byte) t = t
   told_same s (Sent count zero) t = t
-  told_same s (Sent count (suc port)) t = t
-  told_same s (Written count number) t = t
-  told_same s (Sector count drive sector number bytes) t = t
-  told_same s (Read count drive sector number) t = t
+  told_same s _ t = t
 
   -- a step that kept its promise, after steps that kept theirs
   abbrev Kept : Knowledge → Type 0
@@ -39,35 +34,15 @@ module _ {S : Type 0} (M : Machine S) (typed0 typed1 : List ℕ) (k : Knowledge)
   kept_fill : (b : Mailbox) (q : Payload) → MayPut b k q → CanFill b k q
       → AreKept M typed0 typed1 (after_fill b q k).primary.calls (after_fill b q k).disk.given (after_fill b q k).disk.found → Kept (after_fill b q k)
   kept_fill Outbox (Log p) may can kept = (table.Fills Outbox (Log p) may.asks_not can tt, kept)
-  kept_fill Outbox (Out o) may can kept = absurd can
-  kept_fill Outbox (Request r) may can kept = absurd can
-  kept_fill Outbox (Answer a) may can kept = absurd can
-  kept_fill Outbox (Lookup x) may can kept = absurd can
-  kept_fill Outbox (Sector x) may can kept = absurd can
   kept_fill Inbox (Log p) may can kept = (table.Fills Inbox (Log p) may.asks_not can tt, kept)
-  kept_fill Inbox (Out o) may can kept = absurd can
-  kept_fill Inbox (Request r) may can kept = absurd can
-  kept_fill Inbox (Answer a) may can kept = absurd can
-  kept_fill Inbox (Lookup x) may can kept = absurd can
-  kept_fill Inbox (Sector x) may can kept = absurd can
   kept_fill Bytes0 (Out o) may can kept = (
     table.Fills Bytes0 (Out o) may.asks_not can kept.calls_kept.0,
     record { calls_kept = kept.calls_kept.1; reads_kept = kept.reads_kept; found_kept = kept.found_kept },
   )
-  kept_fill Bytes0 (Log p) may can kept = absurd can
-  kept_fill Bytes0 (Request r) may can kept = absurd can
-  kept_fill Bytes0 (Answer a) may can kept = absurd can
-  kept_fill Bytes0 (Lookup x) may can kept = absurd can
-  kept_fill Bytes0 (Sector x) may can kept = absurd can
   kept_fill Bytes1 (Out o) may can kept = (
     table.Fills Bytes1 (Out o) may.asks_not can kept.calls_kept.0,
     record { calls_kept = kept.calls_kept.1; reads_kept = kept.reads_kept; found_kept = kept.found_kept },
   )
-  kept_fill Bytes1 (Log p) may can kept = absurd can
-  kept_fill Bytes1 (Request r) may can kept = absurd can
-  kept_fill Bytes1 (Answer a) may can kept = absurd can
-  kept_fill Bytes1 (Lookup x) may can kept = absurd can
-  kept_fill Bytes1 (Sector x) may can kept = absurd can
   kept_fill Requests (Request (ask.Write w)) may can kept = (
     table.Fills Requests (Request (ask.Write w)) may.asks_not can kept.calls_kept.0,
     record { calls_kept = kept.calls_kept.1; reads_kept = kept.reads_kept; found_kept = kept.found_kept },
@@ -76,11 +51,6 @@ module _ {S : Type 0} (M : Machine S) (typed0 typed1 : List ℕ) (k : Knowledge)
     table.Fills Requests (Request (ask.Read a)) may.asks_not can tt,
     record { calls_kept = kept.calls_kept; reads_kept = kept.reads_kept; found_kept = kept.found_kept },
   )
-  kept_fill Requests (Log p) may can kept = absurd can
-  kept_fill Requests (Out o) may can kept = absurd can
-  kept_fill Requests (Answer a) may can kept = absurd can
-  kept_fill Requests (Lookup x) may can kept = absurd can
-  kept_fill Requests (Sector x) may can kept = absurd can
   kept_fill Answers (Answer a) may can kept = (
     table.Fills Answers (Answer a) may.asks_not can (
       may.reply.0,
@@ -89,17 +59,7 @@ module _ {S : Type 0} (M : Machine S) (typed0 typed1 : List ℕ) (k : Knowledge)
     ),
     record { calls_kept = kept.calls_kept; reads_kept = all_front k.disk.given a (ReadsBoot M) kept.reads_kept; found_kept = kept.found_kept },
   )
-  kept_fill Answers (Log p) may can kept = absurd can
-  kept_fill Answers (Out o) may can kept = absurd can
-  kept_fill Answers (Request r) may can kept = absurd can
-  kept_fill Answers (Lookup x) may can kept = absurd can
-  kept_fill Answers (Sector x) may can kept = absurd can
   kept_fill Lookups (Lookup x) may can kept = (table.Fills Lookups (Lookup x) may.asks_not can tt, kept)
-  kept_fill Lookups (Log p) may can kept = absurd can
-  kept_fill Lookups (Out o) may can kept = absurd can
-  kept_fill Lookups (Request r) may can kept = absurd can
-  kept_fill Lookups (Answer a) may can kept = absurd can
-  kept_fill Lookups (Sector x) may can kept = absurd can
   kept_fill Sectors (Sector x) may can kept = (
     table.Fills Sectors (Sector x) may.asks_not can (
       may.reply.0,
@@ -112,64 +72,21 @@ module _ {S : Type 0} (M : Machine S) (typed0 typed1 : List ℕ) (k : Knowledge)
       found_kept = all_front k.disk.found x (λ r. ReadsBoot M (answer.Read r)) kept.found_kept;
     },
   )
-  kept_fill Sectors (Log p) may can kept = absurd can
-  kept_fill Sectors (Out o) may can kept = absurd can
-  kept_fill Sectors (Request r) may can kept = absurd can
-  kept_fill Sectors (Answer a) may can kept = absurd can
-  kept_fill Sectors (Lookup x) may can kept = absurd can
+  kept_fill _ _ may can kept = absurd can
 
   -- whatever is taken out of a box, the calls and the answers stay
   still_kept : (b : Mailbox) (q : Payload)
       → AreKept M typed0 typed1 (after_empty b q k).primary.calls (after_empty b q k).disk.given (after_empty b q k).disk.found
       → AreKept M typed0 typed1 k.primary.calls k.disk.given k.disk.found
   still_kept Outbox (Log p) kept = kept
-  still_kept Outbox (Out o) kept = kept
-  still_kept Outbox (Request r) kept = kept
-  still_kept Outbox (Answer a) kept = kept
-  still_kept Outbox (Lookup x) kept = kept
-  still_kept Outbox (Sector x) kept = kept
   still_kept Inbox (Log p) kept = kept
-  still_kept Inbox (Out o) kept = kept
-  still_kept Inbox (Request r) kept = kept
-  still_kept Inbox (Answer a) kept = kept
-  still_kept Inbox (Lookup x) kept = kept
-  still_kept Inbox (Sector x) kept = kept
-  still_kept Bytes0 (Log p) kept = kept
   still_kept Bytes0 (Out o) kept = kept
-  still_kept Bytes0 (Request r) kept = kept
-  still_kept Bytes0 (Answer a) kept = kept
-  still_kept Bytes0 (Lookup x) kept = kept
-  still_kept Bytes0 (Sector x) kept = kept
-  still_kept Bytes1 (Log p) kept = kept
   still_kept Bytes1 (Out o) kept = kept
-  still_kept Bytes1 (Request r) kept = kept
-  still_kept Bytes1 (Answer a) kept = kept
-  still_kept Bytes1 (Lookup x) kept = kept
-  still_kept Bytes1 (Sector x) kept = kept
-  still_kept Requests (Log p) kept = kept
-  still_kept Requests (Out o) kept = kept
   still_kept Requests (Request r) kept = kept
-  still_kept Requests (Answer a) kept = kept
-  still_kept Requests (Lookup x) kept = kept
-  still_kept Requests (Sector x) kept = kept
-  still_kept Answers (Log p) kept = kept
-  still_kept Answers (Out o) kept = kept
-  still_kept Answers (Request r) kept = kept
-  still_kept Answers (Lookup x) kept = kept
-  still_kept Answers (Sector x) kept = kept
-  still_kept Lookups (Log p) kept = kept
-  still_kept Lookups (Out o) kept = kept
-  still_kept Lookups (Request r) kept = kept
-  still_kept Lookups (Answer a) kept = kept
   still_kept Lookups (Lookup x) kept = kept
-  still_kept Lookups (Sector x) kept = kept
-  still_kept Sectors (Log p) kept = kept
-  still_kept Sectors (Out o) kept = kept
-  still_kept Sectors (Request r) kept = kept
-  still_kept Sectors (Answer a) kept = kept
-  still_kept Sectors (Lookup x) kept = kept
   still_kept Sectors (Sector x) kept = kept
   still_kept Answers (Answer a) kept = kept
+  still_kept _ _ kept = kept
 
   kept_step : (new : Knowledge) → PlainStep k new → AreKept M typed0 typed1 new.primary.calls new.disk.given new.disk.found → Kept new
   kept_step new (plain.Fills b q may can) kept = kept_fill b q may can kept

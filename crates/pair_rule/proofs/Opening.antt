@@ -1,68 +1,54 @@
 -- The seats of a new table.
-use Rattle.std.proofs.Common.{◌≡◌, ℕ, ◌<◌, true, false, [], ◌∷◌, set, sym, refl, ap, ◌∙◌, subst, length-set, None}
+use Rattle.std.proofs.Common.{◌≡◌, ℕ, ◌+◌, true, false, Bool, List, ◌∷◌, sym, refl, ap, ◌∙◌, subst, arith, length-set, None}
 use mathlib.Core.Option.{some}
 use lib.ListN.{get_elem?}
 use Rattle.atomic_table.specs.Seated.{TableId}
-use Rattle.pair_rule.proofs.Words.{Allows, Backup, Core, Disk, Knowledge, Link, Mine, Opened, Primary, Rule, SeatView, Terminal, Who, core_of, has, nobody, numbers, seat_index, takes_first_slot, view_of, with_core, with_slot, without, zeros}
-use Rattle.pair_rule.specs.Seats.{Holds}
-use Rattle.pair_rule.proofs.Parts.{set_there}
+use Rattle.pair_rule.proofs.Words.{Allows, Core, Knowledge, Mine, Opened, Primary, Rule, SeatView, Who, core_of, has, nobody, numbers, seat_index, takes_first_slot, with_core, with_slot, zeros}
+use Rattle.pair_rule.specs.Seats.{Holds, IsNew}
+use Rattle.pair_rule.proofs.Parts.{few_seats, set_there}
+use Rattle.pair_rule.proofs.SplitSeats.{nobody_has}
 use Rattle.pair_rule.proofs.FirstSlots.{first_slot_allowed}
 
--- the primary's view after the splits
-abbrev pub cut1 : Knowledge → SeatView
-cut1 k = without Link (view_of k)
+-- the slot of a seat at the start
+home : (s : Who) (k : Knowledge) → get_elem? (core_of k).hands (seat_index s) ≡ some (8 + seat_index s)
+home Primary k = refl
+home _ k = refl
 
-abbrev pub cut2 : Knowledge → SeatView
-cut2 k = without Backup (cut1 k)
+-- it takes that slot, and then it has what a seat holds
+module _ (s : Who) (k : Knowledge) (table id : TableId) (me : Mine) (new : IsNew s k table id me) (h : ℕ)
+    (at : h ≡ 8 + seat_index s) where
+  hand : get_elem? me.0.core.hands (seat_index s) ≡ some h
+  hand = ap (λ (c : Core). get_elem? c.hands (seat_index s)) new.core ∙ home s k ∙ ap (λ n. some n) (sym at)
 
-abbrev pub cut3 : Knowledge → SeatView
-cut3 k = without Terminal (cut2 k)
+  mine : has me.0 s
+  mine = ap (λ (l : List Bool). get_elem? l (seat_index s)) new.single ∙ set_there nobody (seat_index s) false true (nobody_has s)
 
-abbrev pub cut4 : Knowledge → SeatView
-cut4 k = without Disk (cut3 k)
+  pub takes_slot : (g n seat : ℕ) → Allows (Rule g) n seat me 0 (λ x. x) (takes_first_slot s me)
+  takes_slot g n seat = first_slot_allowed g n seat me s h mine hand
+      (ap (λ (c : Core). get_elem? c.has_slot (seat_index s)) new.core ∙ nobody_has s)
 
-bare : (s : Who) (k : Knowledge) → get_elem? (core_of k).has_slot (seat_index s) ≡ some false
-bare Primary k = refl
-bare Link k = refl
-bare Backup k = refl
-bare Terminal k = refl
-bare Disk k = refl
-
-pub takes_slot_first : (g n id : ℕ) (me : Mine) (v : SeatView) (s : Who) (h : ℕ) (k : Knowledge) → me ≡ (v, []) → has v s
-    → v.core ≡ core_of k → get_elem? (core_of k).hands (seat_index s) ≡ some h
-    → Allows (Rule g) n id me 0 (λ x. x) (takes_first_slot s me)
-takes_slot_first g n id me v s h k is mine core hand =
-    subst (λ (m : Mine). Allows (Rule g) n id m 0 (λ x. x) (takes_first_slot s m)) (sym is)
-    (first_slot_allowed g n id (v, []) s h mine (subst (λ c. get_elem? c.hands (seat_index s) ≡ some h) (sym core) hand)
-    (subst (λ c. get_elem? c.has_slot (seat_index s) ≡ some false) (sym core) (bare s k)))
-
-pub opened : (s : Who) (k : Knowledge) (table id : TableId) (me me' : Mine) (r h : ℕ) (v : SeatView) → id ≡ table
-    → me ≡ (v, []) → takes_first_slot s me r me' → has v s → v.core ≡ core_of k → v.mine ≡ set nobody (seat_index s) true
-    → get_elem? (core_of k).hands (seat_index s) ≡ some h → h < 13 → Opened s k table id me' h zeros zeros
-opened s k table id me me' r h v same is told mine core single hand small =
-    let t = subst (λ (m : Mine). takes_first_slot s m r me') is told in
-    let hand' = subst (λ c. get_elem? c.hands (seat_index s) ≡ some h) (sym core) hand in
-    let e = t.0 h hand' in let f = t.1 in let whole = f ∙ ap (λ (c : Core). with_core v (with_slot s true c)) core in record {
-      same = same;
-      keeps = record {
-        fills_are = ap (λ (z : SeatView). numbers z.core.fills) (sym whole);
-        empties_are = ap (λ (z : SeatView). numbers z.core.empties) (sym whole);
-        single = ap (λ (z : SeatView). z.mine) f ∙ single;
-        holds = subst (λ (m : Mine). Holds s m h) (λ i. (sym f i, sym e i))
-            (subst (λ c. Holds s (with_core v (with_slot s true c), (h, None) ∷ []) h) (sym core)
-            record {
-              mine = mine;
-              hand = hand;
-              has_slot = set_there (core_of k).has_slot (seat_index s) false true (bare s k);
-              one = (None, refl);
-              small = small;
-              sized = record {
-                hands = refl;
-                has_slot = length-set (core_of k).has_slot (seat_index s) true;
-                fills = refl;
-                empties = refl;
+  pub opened : (me' : Mine) (r : ℕ) (id' : TableId) → id' ≡ id → takes_first_slot s me r me' → Opened s k table id' me' h zeros zeros
+  opened me' r id' same told =
+      let whole = told.1 ∙ ap (λ (c : Core). with_core me.0 (with_slot s true c)) new.core in record {
+        same = same ∙ new.same;
+        keeps = record {
+          fills_are = ap (λ (z : SeatView). numbers z.core.fills) (sym whole);
+          empties_are = ap (λ (z : SeatView). numbers z.core.empties) (sym whole);
+          single = ap (λ (z : SeatView). z.mine) whole ∙ new.single;
+          holds = subst (λ (m : Mine). Holds s m h) (λ i. (sym whole i, sym (told.0 h hand ∙ ap (λ c. (h, None) ∷ c) new.bare) i))
+              record {
+                mine = mine;
+                hand = home s k ∙ ap (λ n. some n) (sym at);
+                has_slot = set_there (core_of k).has_slot (seat_index s) false true (nobody_has s);
+                one = (None, refl);
+                small = (let few = few_seats s in omega (arith, few, at));
+                sized = record {
+                  hands = refl;
+                  has_slot = length-set (core_of k).has_slot (seat_index s) true;
+                  fills = refl;
+                  empties = refl;
+                };
               };
-            });
-      };
-      core = ap (λ (z : SeatView). z.core) f ∙ ap (with_slot s true) core;
-    }
+        };
+        core = ap (λ (z : SeatView). z.core) whole;
+      }

@@ -1,12 +1,11 @@
 -- Each sector that the primary took has what its machine's own disk has there: the disk answered it, by the bytes at boot or
 -- by a write of that machine, and it has the number of the last completed write.
 use Rattle.std.proofs.Common.{◌≡◌, ℕ, zero, suc, ◌+◌, List, [], ◌∷◌, ◌++◌, sym, refl, ap, ◌∙◌, subst, inl, inr, ◌⊎◌, Some, None}
-use Rattle.pair_rule.proofs.Words.{Among, AnswersLookup, AnswersRead, Appends, Arrives, AsksRead, BackupLoses, BackupWins, Completes, Copying, CountsNone, Do, Entry, Goes, HasAnswer, HasLonger, HasRun, Holds, Input, IsReplied, IsShown, IsTold, Keeps, Knowledge, Logged, Machine, Misses, Move, Opens, Own, Owns, PrimaryLoses, PrimaryWins, Puts, Recorded, Releases, Runnable, Runs, SectorAddress, SectorRead, SectorWrite, Sees, SeesCount, Shows, SilentStep, Stands, Take, Takes, TakesByte0, TakesByte1, TakesLookup, TakesRequest, ThreadRun, ThreadStep, Wants, World, Write, among-prefix, entries, entries-append, entry_of, operations, operations-prefix, owns-append, prefix-refl, read_at, recorded-append, recorded-runs, refusal_of, sector-passed, steps}
+use Rattle.pair_rule.proofs.Words.{Among, Appends, Arrives, Copying, CountsNone, Do, Entry, Goes, HasLonger, HasRun, Input, IsReplied, IsShown, IsTold, Knowledge, Logged, Machine, Move, Opens, Own, Owns, Recorded, Runnable, Runs, SectorAddress, SectorRead, SectorWrite, SeesCount, Shows, SilentStep, Stands, Take, ThreadRun, ThreadStep, World, Write, among-prefix, entries, entries-append, entry_of, operations, operations-prefix, owns-append, prefix-refl, read_at, recorded-append, recorded-runs, refusal_of, sector-passed, steps}
 use Rattle.guest_lockstep.specs.declared.input.Input.TheVariants as input
 use Rattle.pair_protocol.proofs.Invariant.{AtStart, IsRecord, OfWrite}
 use Rattle.pair_protocol.proofs.Keeps.Reads.{right_bytes}
 use Rattle.pair_rule.specs.declared.payload.DiskAnswer.TheVariants as answer
-use Rattle.pair_rule.specs.Law.{Carries}
 use Rattle.pair_rule.proofs.ListEnds.{last_of}
 use Rattle.pair_rule.proofs.LongerRuns.{GoesOn, last_move, run_goes_on, same_front}
 use Rattle.pair_rule.proofs.Elements.{all_in}
@@ -109,36 +108,13 @@ module _ {S : Type 0} (M : Machine S) (may : Runnable M) (typed0 typed1 : List �
   -- any other step leaves the list as it was
   thread_owns : (new : Knowledge) → ThreadStep M typed0 typed1 k new → OwnsAll M new.primary.list
   thread_owns new (Appends e run free told) = append_owns e run told
-  thread_owns new (Holds waits) = owned
-  thread_owns new (Sees serves) = owned
-  thread_owns new (Takes p e waits whole is) = owned
-  thread_owns new (Completes r e waits done found) = owned
-  thread_owns new (PrimaryWins serves waits) = owned
-  thread_owns new (PrimaryLoses serves other) = owned
-  thread_owns new (BackupWins serves waits) = owned
-  thread_owns new (BackupLoses other waits) = owned
-  thread_owns new (Releases o run port serves covered) = owned
   thread_owns new (Arrives zero number byte two hand) = owned
-  thread_owns new (Arrives (suc port) number byte two hand) = owned
-  thread_owns new (Puts write taken) = owned
+  thread_owns new _ = owned
 
   silent_owns : (new : Knowledge) → SilentStep M k new → OwnsAll M new.primary.list
-  silent_owns new Keeps = owned
   silent_owns new (CountsNone zero none) = owned
-  silent_owns new (CountsNone (suc port) none) = owned
-  silent_owns new (Carries p) = owned
   silent_owns new (SeesCount zero n more) = owned
-  silent_owns new (SeesCount (suc port) n more) = owned
-  silent_owns new (TakesByte0 o) = owned
-  silent_owns new (TakesByte1 o) = owned
-  silent_owns new (TakesRequest r) = owned
-  silent_owns new (HasAnswer a) = owned
-  silent_owns new (AsksRead a) = owned
-  silent_owns new (AnswersRead a r taken first) = owned
-  silent_owns new (Wants p t named) = owned
-  silent_owns new (TakesLookup a) = owned
-  silent_owns new (AnswersLookup r) = owned
-  silent_owns new (Misses r other) = owned
+  silent_owns new _ = owned
 
   pub step_owns : (new : Knowledge) → ThreadStep M typed0 typed1 k new ⊎ SilentStep M k new → OwnsAll M new.primary.list
   step_owns new (inl t) = thread_owns new t

@@ -133,108 +133,36 @@ module _ (k : Knowledge) (z : AllLatest k.disk) where
       (k.disk.puts, m.0, m.1, ap (latest (first r.bytes) k.disk.puts) (sym t.2) ∙ t.3)
 
   filled_latest : (b : Mailbox) (q : Payload) → IsReply b k q → AllLatest (after_fill b q k).disk
-  filled_latest Outbox q says = z
-  filled_latest Inbox q says = z
-  filled_latest Bytes0 (Log p) says = z
   filled_latest Bytes0 (Out o) says = z
-  filled_latest Bytes0 (Request r) says = z
-  filled_latest Bytes0 (Answer a) says = z
-  filled_latest Bytes0 (Lookup x) says = z
-  filled_latest Bytes0 (Sector x) says = z
-  filled_latest Bytes1 (Log p) says = z
   filled_latest Bytes1 (Out o) says = z
-  filled_latest Bytes1 (Request r) says = z
-  filled_latest Bytes1 (Answer a) says = z
-  filled_latest Bytes1 (Lookup x) says = z
-  filled_latest Bytes1 (Sector x) says = z
-  filled_latest Requests (Log p) says = z
-  filled_latest Requests (Out o) says = z
   filled_latest Requests (Request r) says = z
-  filled_latest Requests (Answer a) says = z
-  filled_latest Requests (Lookup x) says = z
-  filled_latest Requests (Sector x) says = z
-  filled_latest Answers (Log p) says = z
-  filled_latest Answers (Out o) says = z
-  filled_latest Answers (Request r) says = z
   filled_latest Answers (Answer a) says = λ r was. ⊎_elim
       (λ (at : Among (answer.Read r) (k.disk.given ++ a ∷ [])).
       answered_latest a says.0 r (among_either (answer.Read r) a k.disk.given at))
       (λ (at : Among r k.disk.found). latest_more k.disk.taken k.disk.puts r (z r (inr at))) was
-  filled_latest Answers (Lookup x) says = z
-  filled_latest Answers (Sector x) says = z
-  filled_latest Lookups q says = z
-  filled_latest Sectors (Log p) says = z
-  filled_latest Sectors (Out o) says = z
-  filled_latest Sectors (Request r) says = z
-  filled_latest Sectors (Answer a) says = z
-  filled_latest Sectors (Lookup x) says = z
   filled_latest Sectors (Sector x) says = λ r was. ⊎_elim (λ (at : Among (answer.Read r) k.disk.given). z r (inl at))
       (λ (at : Among r (k.disk.found ++ x ∷ [])). ⊎_elim (λ (old : Among r k.disk.found). z r (inr old))
       (λ (is : r ≡ x). subst (WasLatest k.disk.puts) (sym is) (k.disk.puts, [], sym (append-nil k.disk.puts), says.0.1))
       (among_either r x k.disk.found at)) was
+  filled_latest _ _ says = z
 
   emptied_latest : (b : Mailbox) (q : Payload) → AllLatest (after_empty b q k).disk
   emptied_latest Outbox (Log p) = z
-  emptied_latest Outbox (Out o) = z
-  emptied_latest Outbox (Request r) = z
-  emptied_latest Outbox (Answer a) = z
-  emptied_latest Outbox (Lookup x) = z
-  emptied_latest Outbox (Sector x) = z
   emptied_latest Inbox (Log p) = z
-  emptied_latest Inbox (Out o) = z
-  emptied_latest Inbox (Request r) = z
-  emptied_latest Inbox (Answer a) = z
-  emptied_latest Inbox (Lookup x) = z
-  emptied_latest Inbox (Sector x) = z
-  emptied_latest Bytes0 (Log p) = z
   emptied_latest Bytes0 (Out o) = z
-  emptied_latest Bytes0 (Request r) = z
-  emptied_latest Bytes0 (Answer a) = z
-  emptied_latest Bytes0 (Lookup x) = z
-  emptied_latest Bytes0 (Sector x) = z
-  emptied_latest Bytes1 (Log p) = z
   emptied_latest Bytes1 (Out o) = z
-  emptied_latest Bytes1 (Request r) = z
-  emptied_latest Bytes1 (Answer a) = z
-  emptied_latest Bytes1 (Lookup x) = z
-  emptied_latest Bytes1 (Sector x) = z
-  emptied_latest Requests (Log p) = z
-  emptied_latest Requests (Out o) = z
   emptied_latest Requests (Request r) = z
-  emptied_latest Requests (Answer a) = z
-  emptied_latest Requests (Lookup x) = z
-  emptied_latest Requests (Sector x) = z
-  emptied_latest Answers (Log p) = z
-  emptied_latest Answers (Out o) = z
-  emptied_latest Answers (Request r) = z
   emptied_latest Answers (Answer a) = z
-  emptied_latest Answers (Lookup x) = z
-  emptied_latest Answers (Sector x) = z
-  emptied_latest Lookups (Log p) = z
-  emptied_latest Lookups (Out o) = z
-  emptied_latest Lookups (Request r) = z
-  emptied_latest Lookups (Answer a) = z
   emptied_latest Lookups (Lookup x) = z
-  emptied_latest Lookups (Sector x) = z
-  emptied_latest Sectors (Log p) = z
-  emptied_latest Sectors (Out o) = z
-  emptied_latest Sectors (Request r) = z
-  emptied_latest Sectors (Answer a) = z
-  emptied_latest Sectors (Lookup x) = z
   emptied_latest Sectors (Sector x) = z
+  emptied_latest _ _ = z
 
   step_latest : (new : Knowledge) → PlainStep k new → AllLatest new.disk
   step_latest new (plain.Fills b q may can) = filled_latest b q may.reply
   step_latest new (plain.Empties b q asks fit) = emptied_latest b q
-  step_latest new (plain.Appends e may) = z
-  step_latest new (plain.Sees asks) = z
-  step_latest new (plain.Holds asks) = z
-  step_latest new (plain.PrimaryAsks asks) = z
-  step_latest new (plain.BackupAsks asks) = z
   step_latest new (plain.Counts zero two) = z
-  step_latest new (plain.Counts (suc port) two) = z
   step_latest new (plain.SeesCount zero two asks) = z
-  step_latest new (plain.SeesCount (suc port) two asks) = z
+  step_latest new _ = z
 
 was_latest : (k : Knowledge) → PlainRun k → AllLatest k.disk
 was_latest k (plain.Opens generation) = λ r was. ⊎_elim (λ at. absurd at) (λ at. absurd at) was
@@ -262,21 +190,6 @@ agrees k run (answer.Read r) says firsts =
     next_agrees k run r (ap (latest (first r.bytes) k.disk.puts) (sym says.2) ∙ says.3) firsts
 
 pub agrees_by : (k : Knowledge) → PlainRun k → (b : Mailbox) (q : Payload) → IsReply b k q → AgreesBy b k q
-agrees_by k run Outbox q says = tt
-agrees_by k run Inbox q says = tt
-agrees_by k run Bytes0 q says = tt
-agrees_by k run Bytes1 q says = tt
-agrees_by k run Requests q says = tt
-agrees_by k run Lookups q says = tt
-agrees_by k run Answers (Log p) says = tt
-agrees_by k run Answers (Out o) says = tt
-agrees_by k run Answers (Request r) says = tt
 agrees_by k run Answers (Answer a) says = agrees k run a says.0 says.1
-agrees_by k run Answers (Lookup x) says = tt
-agrees_by k run Answers (Sector x) says = tt
-agrees_by k run Sectors (Log p) says = tt
-agrees_by k run Sectors (Out o) says = tt
-agrees_by k run Sectors (Request r) says = tt
-agrees_by k run Sectors (Answer a) says = tt
-agrees_by k run Sectors (Lookup x) says = tt
 agrees_by k run Sectors (Sector x) says = finds_agree k run x says.0 says.1
+agrees_by k run _ _ says = tt

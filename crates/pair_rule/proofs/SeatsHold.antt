@@ -1,12 +1,13 @@
 -- What a seat holds after a step.
-use Rattle.std.proofs.Common.{◌≡◌, ◌≢◌, ◌↔◌, ℕ, zero, suc, ◌+◌, ◌<◌, ◌^◌, ◌&&◌, nat_lt, Bool, true, false, List, [], ◌∷◌, length, get_or, set, Some, None, sym, refl, ap, ◌∙◌, subst, arith, length-set, Option}
+use Rattle.std.proofs.Common.{◌≡◌, ◌≢◌, ◌↔◌, ℕ, zero, suc, ◌+◌, ◌<◌, ◌^◌, ◌&&◌, nat_lt, Bool, true, false, List, [], ◌∷◌, length, get_or, set, Some, None, sym, refl, ap, ◌∙◌, subst, arith, Option}
 use mathlib.Core.Option.{some}
 use lib.ListN.{get_elem?}
-use Rattle.pair_rule.proofs.Words.{Answers, Bytes0, Bytes1, Core, Empties, Fills, HasSwapsLeft, Inbox, Knowledge, LeavesRoom, Lookups, Mailbox, Mine, Outbox, Payload, Requests, SeatView, Sectors, Side, Swapped, WasIn, Who, all_below, box_index, emptied, emptier, filled, filler, found_empty, most_swaps, new_side, nobody, number_of, numbers, rest, seat_index, set_else, set_here, side, side_at, slot_of, with_core, with_known}
+use Rattle.pair_rule.proofs.Words.{Answers, Bytes0, Bytes1, Core, Empties, Fills, HasSwapsLeft, Inbox, Knowledge, LeavesRoom, Lookups, Mailbox, Mine, Outbox, Payload, Requests, SeatView, Sectors, Side, Sized, Swapped, WasIn, Who, all_below, box_index, emptied, emptier, filled, filler, found_empty, most_swaps, new_side, nobody, number_of, numbers, rest, seat_index, set_else, set_here, side, side_at, slot_of, with_core, with_known}
 use Rattle.pair_rule.specs.Seats.{Holds, Keeps}
 use Rattle.pair_rule.proofs.Slots.{or_of}
 use Rattle.pair_rule.proofs.SplitSeats.{nobody_has}
-use Rattle.pair_rule.proofs.Parts.{set_there, few_boxes, index_at}
+use Rattle.pair_rule.proofs.Parts.{set_there, few_boxes, index_at, owned_fill, owned_empty, owned_find}
+use Rattle.pair_rule.proofs.Filled.{local_fill, local_empty}
 use Rattle.std.proofs.lemmas.List.{get_or-map, map-set, length-map}
 
 -- a value is put into the slot in hand
@@ -24,62 +25,6 @@ still_holds s me me' slot y h e = subst (λ (m : Mine). Holds s m slot) (sym (pu
   small = h.small;
   sized = h.sized;
 }
-
-module _ (s : Who) (me me' : Mine) (slot r : ℕ) (h : Holds s me slot) (t : Swapped r me') where
-  -- the seat has the slot that the box's word named
-  pub after_fill_holds : (b : Mailbox) (q : Payload) → filler b ≡ s → me'.0 ≡ with_core me.0 (filled b q r me.0.core)
-      → Holds s me' (slot_of r)
-  after_fill_holds b q is e = let hand = set_there me.0.core.hands (seat_index s) slot (slot_of r) h.hand in let z = h.sized in
-      subst (λ (m : Mine). Holds s m (slot_of r)) (λ i. (sym e i, sym t.1 i)) record {
-        mine = h.mine;
-        hand = subst (λ c. get_elem? (set me.0.core.hands (seat_index c) (slot_of r)) (seat_index s) ≡ some (slot_of r))
-            (sym is) hand;
-        has_slot = h.has_slot;
-        one = (t.0, refl);
-        small = t.2;
-        sized = record {
-          hands = length-set me.0.core.hands (seat_index (filler b)) (slot_of r) ∙ z.hands;
-          has_slot = z.has_slot;
-          fills = length-set me.0.core.fills (box_index b) _ ∙ z.fills;
-          empties = z.empties;
-        };
-      }
-
-  pub after_empty_holds : (b : Mailbox) (q : Payload) → emptier b ≡ s → me'.0 ≡ with_core me.0 (emptied b q r me.0.core)
-      → Holds s me' (slot_of r)
-  after_empty_holds b q is e = let hand = set_there me.0.core.hands (seat_index s) slot (slot_of r) h.hand in let z = h.sized in
-      subst (λ (m : Mine). Holds s m (slot_of r)) (λ i. (sym e i, sym t.1 i)) record {
-        mine = h.mine;
-        hand = subst (λ c. get_elem? (set me.0.core.hands (seat_index c) (slot_of r)) (seat_index s) ≡ some (slot_of r))
-            (sym is) hand;
-        has_slot = h.has_slot;
-        one = (t.0, refl);
-        small = t.2;
-        sized = record {
-          hands = length-set me.0.core.hands (seat_index (emptier b)) (slot_of r) ∙ z.hands;
-          has_slot = z.has_slot;
-          fills = z.fills;
-          empties = length-set me.0.core.empties (box_index b) _ ∙ z.empties;
-        };
-      }
-
-  pub found_empty_holds : (b : Mailbox) → emptier b ≡ s → me'.0 ≡ with_core me.0 (found_empty b r me.0.core)
-      → Holds s me' (slot_of r)
-  found_empty_holds b is e = let hand = set_there me.0.core.hands (seat_index s) slot (slot_of r) h.hand in let z = h.sized in
-      subst (λ (m : Mine). Holds s m (slot_of r)) (λ i. (sym e i, sym t.1 i)) record {
-        mine = h.mine;
-        hand = subst (λ c. get_elem? (set me.0.core.hands (seat_index c) (slot_of r)) (seat_index s) ≡ some (slot_of r))
-            (sym is) hand;
-        has_slot = h.has_slot;
-        one = (t.0, refl);
-        small = t.2;
-        sized = record {
-          hands = length-set me.0.core.hands (seat_index (emptier b)) (slot_of r) ∙ z.hands;
-          has_slot = z.has_slot;
-          fills = z.fills;
-          empties = length-set me.0.core.empties (box_index b) _ ∙ z.empties;
-        };
-      }
 
 -- what a seat with_known changes, and it holds what it held
 pub after_know : (s : Who) (me me' : Mine) (slot : ℕ) (turn : Knowledge → Knowledge) → Holds s me slot → me'.1 ≡ me.1
@@ -140,34 +85,44 @@ raised sides ns b met n last are is = ap (λ (l : List ℕ). set l (box_index b)
 
 module _ (s : Who) (me me' : Mine) (slot r : ℕ) (fills empties : List ℕ) (k : Keeps s me slot fills empties) (t : Swapped r me')
     (b : Mailbox) where
+  -- the seat has the slot that the box's word named
+  swap_keeps : (c : Core) (n m : List ℕ) → me'.0 ≡ with_core me.0 c → c.hands ≡ set me.0.core.hands (seat_index s) (slot_of r)
+      → c.has_slot ≡ me.0.core.has_slot → Sized c → n ≡ numbers c.fills → m ≡ numbers c.empties → Keeps s me' (slot_of r) n m
+  swap_keeps c n m e hands has_slot sized fills_are empties_are = record {
+    holds = subst (λ (m : Mine). Holds s m (slot_of r)) (λ i. (sym e i, sym t.1 i)) record {
+      mine = k.holds.mine;
+      hand = ap (λ (l : List ℕ). get_elem? l (seat_index s)) hands ∙ set_there me.0.core.hands (seat_index s) slot (slot_of r)
+          k.holds.hand;
+      has_slot = ap (λ (l : List Bool). get_elem? l (seat_index s)) has_slot ∙ k.holds.has_slot;
+      one = (t.0, refl);
+      small = t.2;
+      sized = sized;
+    };
+    single = ap (λ (v : SeatView). v.mine) e ∙ k.single;
+    fills_are = fills_are ∙ ap (λ (v : SeatView). numbers v.core.fills) (sym e);
+    empties_are = empties_are ∙ ap (λ (v : SeatView). numbers v.core.empties) (sym e);
+  }
+
+  its_hand : (w : Who) → w ≡ s → set me.0.core.hands (seat_index w) (slot_of r) ≡ set me.0.core.hands (seat_index s) (slot_of r)
+  its_hand w is = ap (λ v. set me.0.core.hands (seat_index v) (slot_of r)) is
+
   pub fill_keeps : (q : Payload) (n : ℕ) → filler b ≡ s → n ≡ (side_at me.0.core.fills (box_index b)).number + 1
       → me'.0 ≡ with_core me.0 (filled b q r me.0.core) → Keeps s me' (slot_of r) (set fills (box_index b) n) empties
-  fill_keeps q n is raise e = record {
-    holds = after_fill_holds s me me' slot r k.holds t b q is e;
-    single = ap (λ (v : SeatView). v.mine) e ∙ k.single;
-    fills_are = raised me.0.core.fills fills b _ n _ k.fills_are raise ∙ ap (λ (v : SeatView). numbers v.core.fills) (sym e);
-    empties_are = k.empties_are ∙ ap (λ (v : SeatView). numbers v.core.empties) (sym e);
-  }
+  fill_keeps q n is raise e = swap_keeps (filled b q r me.0.core) _ _ e (its_hand (filler b) is) refl
+      ((owned_fill b q r (local_fill b q)).sized me.0.core k.holds.sized) (raised me.0.core.fills fills b _ n _ k.fills_are raise)
+      k.empties_are
 
   pub empty_keeps : (q : Payload) (n : ℕ) → emptier b ≡ s → n ≡ (side_at me.0.core.empties (box_index b)).number + 1
       → me'.0 ≡ with_core me.0 (emptied b q r me.0.core) → Keeps s me' (slot_of r) fills (set empties (box_index b) n)
-  empty_keeps q n is raise e = record {
-    holds = after_empty_holds s me me' slot r k.holds t b q is e;
-    single = ap (λ (v : SeatView). v.mine) e ∙ k.single;
-    fills_are = k.fills_are ∙ ap (λ (v : SeatView). numbers v.core.fills) (sym e);
-    empties_are = raised me.0.core.empties empties b _ n _ k.empties_are raise ∙ ap (λ (v : SeatView). numbers v.core.empties)
-        (sym e);
-  }
+  empty_keeps q n is raise e = swap_keeps (emptied b q r me.0.core) _ _ e (its_hand (emptier b) is) refl
+      ((owned_empty b q r (local_empty b q)).sized me.0.core k.holds.sized) k.fills_are
+      (raised me.0.core.empties empties b _ n _ k.empties_are raise)
 
   pub found_keeps : (n : ℕ) → emptier b ≡ s → n ≡ (side_at me.0.core.empties (box_index b)).number + 1
       → me'.0 ≡ with_core me.0 (found_empty b r me.0.core) → Keeps s me' (slot_of r) fills (set empties (box_index b) n)
-  found_keeps n is raise e = record {
-    holds = found_empty_holds s me me' slot r k.holds t b is e;
-    single = ap (λ (v : SeatView). v.mine) e ∙ k.single;
-    fills_are = k.fills_are ∙ ap (λ (v : SeatView). numbers v.core.fills) (sym e);
-    empties_are = raised me.0.core.empties empties b _ n _ k.empties_are raise ∙ ap (λ (v : SeatView). numbers v.core.empties)
-        (sym e);
-  }
+  found_keeps n is raise e = swap_keeps (found_empty b r me.0.core) _ _ e (its_hand (emptier b) is) refl
+      ((owned_find b r).sized me.0.core k.holds.sized) k.fills_are
+      (raised me.0.core.empties empties b _ n _ k.empties_are raise)
 
 -- it has no other seat's part
 pub single_has : (s : Who) (mine : List Bool) → mine ≡ set nobody (seat_index s) true → (n : Who) → (seat_index n ≢ seat_index s)

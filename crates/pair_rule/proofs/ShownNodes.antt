@@ -2,9 +2,8 @@
 use Rattle.std.proofs.Common.{append_assoc, ◌∙◌, ◌≤◌, arith, ◌≡◌, ℕ, zero, suc, ◌≤◌, true, false, List, [], ◌∷◌, ◌++◌, map, sym, refl, ap, ◌∙◌, ⊎_elim, arith, subst, Option, None, Some, slice_get, nat_lt}
 use mathlib.Core.Option.{some, some-injective, some-ne-none}
 use lib.ListN.{get_elem?}
-use Rattle.pair_rule.proofs.Words.{Acknowledgement, Among, Copying, Do, Entry, ImagePart, IsAcknowledged, IsSentBy, Knowledge, LogEntry, Machine, Message, Move, NamedSector, Node, Operation, Released, Sent, Shows, Visible, World, WriteDone, backup_node, backup_role, backup_runs, primary_node, primary_role, primary_runs, visible}
+use Rattle.pair_rule.proofs.Words.{Acknowledgement, Among, Copying, Do, Entry, IsAcknowledged, IsSentBy, Knowledge, LogEntry, Machine, Message, Move, NamedSector, Node, Operation, Released, Sent, Shows, Visible, World, WriteDone, backup_node, backup_role, backup_runs, primary_node, primary_role, primary_runs, visible}
 use Rattle.pair_protocol.specs.Node.{Primary, Backup}
-use Rattle.pair_protocol.specs.World as world
 pub use Rattle.pair_rule.proofs.Elements.{among_either}
 use Rattle.pair_rule.proofs.Elements.{among_more}
 
@@ -51,19 +50,13 @@ pub only_longer : (list : List Entry) (helds : List ℕ) (e : Entry) (m : Messag
     → IsSentBy (list ++ e ∷ []) helds m
 only_longer list helds e (LogEntry generation i x) is = (is.0, get_still list (e ∷ []) i x is.1)
 only_longer list helds e (Acknowledgement generation held replayed) is = is
-only_longer list helds e (ImagePart generation i part) is = tt
-only_longer list helds e (Released o) is = tt
-only_longer list helds e (WriteDone n) is = tt
-only_longer list helds e (world.SectorRead address n bytes) is = tt
+only_longer list helds e _ is = tt
 
 pub only_held : (list : List Entry) (helds : List ℕ) (n : ℕ) (m : Message) → IsSentBy list helds m
     → IsSentBy list (helds ++ n ∷ []) m
 only_held list helds n (LogEntry generation i x) is = is
 only_held list helds n (Acknowledgement generation held replayed) is = (is.0, is.1, among_more held helds (n ∷ []) is.2)
-only_held list helds n (ImagePart generation i part) is = tt
-only_held list helds n (Released o) is = tt
-only_held list helds n (WriteDone m) is = tt
-only_held list helds n (world.SectorRead address m bytes) is = tt
+only_held list helds n _ is = tt
 
 -- what is acknowledged stays so, where more is seen and more moves are made
 pub later_covered : (moves : List Move) (seen more : ℕ) (o : Operation) → seen ≤ more → IsAcknowledged moves seen o

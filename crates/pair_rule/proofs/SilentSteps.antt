@@ -1,9 +1,8 @@
 -- The steps that are not events leave the world as it is, and it shows what is known then.
 use Rattle.std.proofs.Common.{◌≡◌, ℕ, zero, suc, ◌==◌, cond, Bool, true, false, List, [], ◌∷◌, ◌++◌, length, ◌⊎◌, inl, inr, sym, ap, ◌∙◌, subst, Some}
-use Rattle.pair_rule.proofs.Words.{Among, AnswersLookup, AnswersRead, AsksRead, CountsNone, DiskAnswer, HasAnswer, HasWrite, Keeps, Misses, SectorRead, SeesCount, Shows, SilentStepsShow, TakesByte0, TakesByte1, TakesLookup, TakesRequest, Wants, arrives, longer_by, named_by, put_by, read_at, wanted_then, with_carried}
+use Rattle.pair_rule.proofs.Words.{Among, AnswersRead, CountsNone, DiskAnswer, HasWrite, Misses, SectorRead, SeesCount, Shows, SilentStepsShow, Wants, arrives, longer_by, named_by, put_by, read_at, wanted_then, with_carried}
 use Rattle.pair_rule.specs.declared.payload.DiskAnswer.TheVariants as answer
 use Rattle.pair_rule.proofs.ShownNodes.{among_either, wants_shows}
-use Rattle.pair_rule.specs.Law.{Carries}
 
 -- of the answers with one of a read more, those of writes are as before
 no_write : (n : ℕ) (r : SectorRead) (given : List DiskAnswer) → Among (answer.Written n) (given ++ answer.Read r ∷ [])
@@ -14,14 +13,7 @@ no_write n r (x ∷ given) (inl e) = inl e
 no_write n r (x ∷ given) (inr a) = inr (no_write n r given a)
 
 pub silent_shows : {S : Type 0} → SilentStepsShow S
-silent_shows M typed0 typed1 k new w z (Carries p) = z
 silent_shows M typed0 typed1 k new w z (SeesCount zero n more) = z
-silent_shows M typed0 typed1 k new w z (SeesCount (suc port) n more) = z
-silent_shows M typed0 typed1 k new w z (TakesByte0 o) = z
-silent_shows M typed0 typed1 k new w z (TakesByte1 o) = z
-silent_shows M typed0 typed1 k new w z (TakesRequest r) = z
-silent_shows M typed0 typed1 k new w z (HasAnswer a) = z
-silent_shows M typed0 typed1 k new w z (AsksRead a) = z
 silent_shows M typed0 typed1 k new w z (AnswersRead a r is first) = record {
   moves = z.moves;
   s = z.s;
@@ -55,7 +47,6 @@ silent_shows M typed0 typed1 k new w z (AnswersRead a r is first) = record {
     more_reads x (inr e) none = let same : x ≡ r = ap (read_in r) e in
         ap (λ (y : SectorRead). y.bytes) same ∙ first (ap (λ (y : SectorRead). y.number) (sym same) ∙ none) ∙ ap
         (λ (y : SectorRead). M.boot_sector (read_at y)) (sym same)
-silent_shows M typed0 typed1 k new w z Keeps = z
 silent_shows M typed0 typed1 k new w z (CountsNone zero none) =
     subst (λ h. Shows M typed0 typed1 (record k { terminal = record k.terminal { arrivals0 = arrives h k.terminal.arrivals0 } })
     w) (sym none) z
@@ -83,10 +74,9 @@ silent_shows M typed0 typed1 k new w z (Wants p t is) =
     }) w
     go true = wants_shows M typed0 typed1 k w z (Some t)
     go false = z
-silent_shows M typed0 typed1 k new w z (TakesLookup a) = z
-silent_shows M typed0 typed1 k new w z (AnswersLookup r) = z
 silent_shows M typed0 typed1 k new w z (Misses r is) =
     subst (λ x. Shows M typed0 typed1 (record k {
       backup =
           record k.backup { list = longer_by k.backup.list x; wanted = wanted_then k.backup.wanted x };
     }) w) (sym is) z
+silent_shows M typed0 typed1 k new w z _ = z

@@ -5,8 +5,8 @@ use mathlib.Core.Option.{some, some-injective, some-ne-none}
 use mathlib.Core.Logic.{dite}
 use native.Mathlib.Decide.{ℕ_discrete}
 use lib.ListN.{get_elem?}
-use Rattle.pair_rule.proofs.Words.{Backup, Core, Disk, Has, Link, Primary, Rule, Same, SeatView, Splits, Terminal, Who, at_last, at_longer, at_set, has, nobody, only, seat_index, set_else, without}
-use Rattle.pair_rule.proofs.Parts.{one_seat, set_there}
+use Rattle.pair_rule.proofs.Words.{Core, Has, Primary, Rule, Same, SeatView, Splits, Who, at_last, at_longer, at_set, has, nobody, only, seat_index, set_else, without}
+use Rattle.pair_rule.proofs.Parts.{has_set, one_seat, set_there}
 
 at_end : {A : Type 0} (l : List A) (a b : A) (j : ℕ) → get_elem? (l ++ a ∷ []) j ≡ some b
     → (get_elem? l j ≡ some b) ⊎ ((j ≡ length l) × (a ≡ b))
@@ -20,10 +20,17 @@ no_true {X} {o} e d = absurd (let q : false ≡ true = some-injective false true
 
 pub nobody_has : (n : Who) → get_elem? nobody (seat_index n) ≡ some false
 nobody_has Primary = refl
-nobody_has Link = refl
-nobody_has Backup = refl
-nobody_has Terminal = refl
-nobody_has Disk = refl
+nobody_has _ = refl
+
+-- one more view has not a seat's part
+has_more : (views : List SeatView) (core : Core) (n : Who) (at : ℕ) (w : SeatView) → Has views core n at
+    → get_elem? w.mine (seat_index n) ≡ some false → Has (views ++ w ∷ []) core n at
+has_more views core n at w h lacks = record {
+  here = (h.here.0, at_longer views (w ∷ []) at h.here.0 h.here.1, h.here.2);
+  only = λ j x ex hx. ⊎_elim (λ (t : get_elem? views j ≡ some x). h.only j x t hx)
+      (λ (t : (j ≡ length views) × (w ≡ x)). no_true lacks (subst (λ (z : SeatView). has z n) (sym t.1) hx))
+      (at_end views w x j ex);
+}
 
 module _ (views : List SeatView) (core : Core) (at : Who → ℕ) (seats : (n : Who)
     → Has views core n (at n)) (id : ℕ) (v : SeatView) (s : Who) (here : get_elem? views id ≡ some v) (mine : has v s) where
@@ -52,34 +59,10 @@ module _ (views : List SeatView) (core : Core) (at : Who → ℕ) (seats : (n : 
   }
 
   split_other : (n : Who) → (seat_index n ≢ seat_index s) → Has views' core n (at n)
-  split_other n ne = let h = seats n in let keeps : get_elem? (without s v).mine (seat_index n) ≡ get_elem? v.mine
-      (seat_index n) = set_else v.mine (seat_index s) (seat_index n) false ne in record {
-        here = dite (ℕ_discrete (at n) id)
-            (λ e. (
-              without s v,
-              at_longer (set views id (without s v)) (only s v ∷ []) (at n) (without s v)
-                  (ap (get_elem? (set views id (without s v))) e ∙ set_there views id v (without s v) here),
-              keeps ∙ (let q = h.here in subst (λ (x : SeatView). has x n)
-                  (some-injective q.0 v (sym q.1 ∙ ap (get_elem? views) e ∙ here)) q.2),
-            ))
-            (λ ne'. (
-              h.here.0,
-              at_longer (set views id (without s v)) (only s v ∷ []) (at n) h.here.0
-                  (set_else views id (at n) (without s v) ne' ∙ h.here.1),
-              h.here.2,
-            ));
-        only = λ j x ex hx. ⊎_elim
-            (λ (t : get_elem? (set views id (without s v)) j ≡ some x). ⊎_elim
-            (λ (u : (j ≡ id) × (without s v ≡ x)). let o =
-            h.only id v here (sym keeps ∙ subst (λ (z : SeatView). has z n) (sym u.1) hx) in
-            (u.0 ∙ o.0, subst (λ (z : SeatView). Same n z.core core) u.1 o.1))
-            (λ (u : (j ≢ id) × (get_elem? views j ≡ some x)). h.only j x u.1 hx)
-            (at_set views id j (without s v) x t))
-            (λ (t : (j ≡ length (set views id (without s v))) × (only s v ≡ x)). no_true
-            (set_else nobody (seat_index s) (seat_index n) true ne ∙ nobody_has n)
-            (subst (λ (z : SeatView). has z n) (sym t.1) hx))
-            (at_end (set views id (without s v)) (only s v) x j ex);
-      }
+  split_other n ne = has_more (set views id (without s v)) core n (at n) (only s v)
+      (has_set views core core n (at n) id v (without s v) (seats n) here
+      (set_else v.mine (seat_index s) (seat_index n) false ne) (λ had e. e) (λ x off e. e))
+      (set_else nobody (seat_index s) (seat_index n) true ne ∙ nobody_has n)
 
   split_seat : (n : Who) → (k : ℕ) × Has views' core n k
   split_seat n = dite (ℕ_discrete (seat_index n) (seat_index s))

@@ -17,60 +17,19 @@ module _ {S : Type 0} (M : Machine S) (typed0 typed1 : List ℕ) (k : Knowledge)
 
   fills : (b : Mailbox) (q : Payload) → AsksNot (filler b) k → CanFill b k q → Promised M k b q → Step (after_fill b q k)
   fills Outbox (Log p) asks can kept = inr Keeps
-  fills Outbox (Out o) asks can kept = absurd can
-  fills Outbox (Request r) asks can kept = absurd can
-  fills Outbox (Answer a) asks can kept = absurd can
-  fills Outbox (Lookup x) asks can kept = absurd can
-  fills Outbox (Sector x) asks can kept = absurd can
   fills Inbox (Log p) asks can kept = inr Keeps
-  fills Inbox (Out o) asks can kept = absurd can
-  fills Inbox (Request r) asks can kept = absurd can
-  fills Inbox (Answer a) asks can kept = absurd can
-  fills Inbox (Lookup x) asks can kept = absurd can
-  fills Inbox (Sector x) asks can kept = absurd can
   fills Bytes0 (Out (Byte to number byte)) asks can kept =
       inl (law.Releases (Byte to number byte) kept.0 (omega (arith, can)) asks kept.1)
-  fills Bytes0 (Out (Write w)) asks can kept = absurd can
-  fills Bytes0 (Log p) asks can kept = absurd can
-  fills Bytes0 (Request r) asks can kept = absurd can
-  fills Bytes0 (Answer a) asks can kept = absurd can
-  fills Bytes0 (Lookup x) asks can kept = absurd can
-  fills Bytes0 (Sector x) asks can kept = absurd can
   fills Bytes1 (Out (Byte to number byte)) asks can kept =
       inl (law.Releases (Byte to number byte) kept.0 (omega (arith, can)) asks kept.1)
-  fills Bytes1 (Out (Write w)) asks can kept = absurd can
-  fills Bytes1 (Log p) asks can kept = absurd can
-  fills Bytes1 (Request r) asks can kept = absurd can
-  fills Bytes1 (Answer a) asks can kept = absurd can
-  fills Bytes1 (Lookup x) asks can kept = absurd can
-  fills Bytes1 (Sector x) asks can kept = absurd can
   fills Requests (Request (ask.Write w)) asks can kept = inl (law.Releases (Write w) kept.0 tt asks kept.1)
   fills Requests (Request (ask.Read a)) asks can kept = inr (AsksRead a)
-  fills Requests (Log p) asks can kept = absurd can
-  fills Requests (Out o) asks can kept = absurd can
-  fills Requests (Answer a) asks can kept = absurd can
-  fills Requests (Lookup x) asks can kept = absurd can
-  fills Requests (Sector x) asks can kept = absurd can
   fills Answers (Answer (answer.Written n)) asks can ((w, taken, is), agrees, boots) =
       subst (λ m. Step (after_fill Answers (Answer (answer.Written m)) k)) (sym is) (inl (law.Puts w taken))
   fills Answers (Answer (answer.Read r)) asks can ((a, taken, at, last), agrees, boots) = inr (AnswersRead a r taken boots)
-  fills Answers (Log p) asks can kept = absurd can
-  fills Answers (Out o) asks can kept = absurd can
-  fills Answers (Request r) asks can kept = absurd can
-  fills Answers (Lookup x) asks can kept = absurd can
-  fills Answers (Sector x) asks can kept = absurd can
   fills Lookups (Lookup x) asks can kept = inr Keeps
-  fills Lookups (Log p) asks can kept = absurd can
-  fills Lookups (Out o) asks can kept = absurd can
-  fills Lookups (Request r) asks can kept = absurd can
-  fills Lookups (Answer a) asks can kept = absurd can
-  fills Lookups (Sector x) asks can kept = absurd can
   fills Sectors (Sector x) asks can kept = inr (AnswersLookup x)
-  fills Sectors (Log p) asks can kept = absurd can
-  fills Sectors (Out o) asks can kept = absurd can
-  fills Sectors (Request r) asks can kept = absurd can
-  fills Sectors (Answer a) asks can kept = absurd can
-  fills Sectors (Lookup x) asks can kept = absurd can
+  fills _ _ asks can kept = absurd can
 
   -- a packet has a whole entry, or only names a sector
   packet_step : (p : Packet) → k.backup.winner ≡ 0 → (c : Carried) → p.carried ≡ c → (e : Entry)
@@ -87,74 +46,20 @@ module _ {S : Type 0} (M : Machine S) (typed0 typed1 : List ℕ) (k : Knowledge)
 
   -- what the disk reads agrees with what it read before
   agrees_kept : (b : Mailbox) (q : Payload) → Promised M k b q → AgreesBy b k q
-  agrees_kept Outbox q kept = tt
-  agrees_kept Inbox q kept = tt
-  agrees_kept Bytes0 q kept = tt
-  agrees_kept Bytes1 q kept = tt
-  agrees_kept Requests q kept = tt
   agrees_kept Answers (Answer a) kept = kept.1
-  agrees_kept Answers (Log p) kept = tt
-  agrees_kept Answers (Out o) kept = tt
-  agrees_kept Answers (Request r) kept = tt
-  agrees_kept Answers (Lookup x) kept = tt
-  agrees_kept Answers (Sector x) kept = tt
-  agrees_kept Lookups q kept = tt
   agrees_kept Sectors (Sector x) kept = kept.1
-  agrees_kept Sectors (Log p) kept = tt
-  agrees_kept Sectors (Out o) kept = tt
-  agrees_kept Sectors (Request r) kept = tt
-  agrees_kept Sectors (Answer a) kept = tt
-  agrees_kept Sectors (Lookup x) kept = tt
+  agrees_kept _ _ kept = tt
 
   empties : (b : Mailbox) (q : Payload) → AsksNot (emptier b) k → Fits b k q → Step (after_empty b q k)
   empties Outbox (Log p) asks fit = inr (law.Carries p)
-  empties Outbox (Out o) asks fit = absurd fit
-  empties Outbox (Request r) asks fit = absurd fit
-  empties Outbox (Answer a) asks fit = absurd fit
-  empties Outbox (Lookup x) asks fit = absurd fit
-  empties Outbox (Sector x) asks fit = absurd fit
   empties Inbox (Log p) asks fit = packet_step p asks p.carried refl fit.1.0 fit.1.1 fit.1.2
-  empties Inbox (Out o) asks fit = absurd fit
-  empties Inbox (Request r) asks fit = absurd fit
-  empties Inbox (Answer a) asks fit = absurd fit
-  empties Inbox (Lookup x) asks fit = absurd fit
-  empties Inbox (Sector x) asks fit = absurd fit
   empties Bytes0 (Out o) asks fit = inr (TakesByte0 o)
-  empties Bytes0 (Log p) asks fit = absurd fit
-  empties Bytes0 (Request r) asks fit = absurd fit
-  empties Bytes0 (Answer a) asks fit = absurd fit
-  empties Bytes0 (Lookup x) asks fit = absurd fit
-  empties Bytes0 (Sector x) asks fit = absurd fit
   empties Bytes1 (Out o) asks fit = inr (TakesByte1 o)
-  empties Bytes1 (Log p) asks fit = absurd fit
-  empties Bytes1 (Request r) asks fit = absurd fit
-  empties Bytes1 (Answer a) asks fit = absurd fit
-  empties Bytes1 (Lookup x) asks fit = absurd fit
-  empties Bytes1 (Sector x) asks fit = absurd fit
   empties Requests (Request r) asks fit = inr (TakesRequest r)
-  empties Requests (Log p) asks fit = absurd fit
-  empties Requests (Out o) asks fit = absurd fit
-  empties Requests (Answer a) asks fit = absurd fit
-  empties Requests (Lookup x) asks fit = absurd fit
-  empties Requests (Sector x) asks fit = absurd fit
   empties Answers (Answer a) asks fit = inr (HasAnswer a)
-  empties Answers (Log p) asks fit = absurd fit
-  empties Answers (Out o) asks fit = absurd fit
-  empties Answers (Request r) asks fit = absurd fit
-  empties Answers (Lookup x) asks fit = absurd fit
-  empties Answers (Sector x) asks fit = absurd fit
   empties Lookups (Lookup x) asks fit = inr (TakesLookup x)
-  empties Lookups (Log p) asks fit = absurd fit
-  empties Lookups (Out o) asks fit = absurd fit
-  empties Lookups (Request r) asks fit = absurd fit
-  empties Lookups (Answer a) asks fit = absurd fit
-  empties Lookups (Sector x) asks fit = absurd fit
   empties Sectors (Sector x) asks fit = sector_step x asks fit (completed k.backup.wanted x) refl
-  empties Sectors (Log p) asks fit = absurd fit
-  empties Sectors (Out o) asks fit = absurd fit
-  empties Sectors (Request r) asks fit = absurd fit
-  empties Sectors (Answer a) asks fit = absurd fit
-  empties Sectors (Lookup x) asks fit = absurd fit
+  empties _ _ asks fit = absurd fit
 
   -- a primary that asks finds no winner, or the backup; a backup finds none, or the primary
   primary_step : k.primary.winner ≡ 0 → Step (primary_asked (winner_of k.primary.winner k.backup.winner) k)

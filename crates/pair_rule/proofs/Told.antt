@@ -1,10 +1,9 @@
 -- What the primary's list says was told: each entry that is appended adds what its append asks, and no other step changes
 -- the list or takes back what arrived.
 use Rattle.std.proofs.Common.{◌≡◌, ℕ, zero, suc, ◌+◌, ◌≤◌, Bool, true, false, ◌==◌, if◌then◌else◌, List, [], ◌∷◌, ◌++◌, sym, ap, ◌∙◌, subst, arith, append-nil, le_refl, refl, ⊎_elim}
-use Rattle.pair_rule.proofs.Words.{Among, AnswersLookup, AnswersRead, Appends, Arrives, AsksRead, BackupLoses, BackupWins, Completes, CountsNone, DiskAnswer, Entry, HasAnswer, Holds, IsAnswered, IsPrefix, IsTold, Keeps, Knowledge, ListIsTold, Machine, Mark, Misses, PortIsTold, PrimaryIsTold, PrimaryLoses, PrimaryWins, Puts, Read, Releases, Rx, Sees, SeesCount, SilentStep, Takes, TakesByte0, TakesByte1, TakesLookup, TakesRequest, ThreadStep, Wants, acceptances, acceptances-append, counted_at, inputs_of, inputs_of-append, keys, keys-append, typed_at}
+use Rattle.pair_rule.proofs.Words.{Among, Appends, Arrives, CountsNone, DiskAnswer, Entry, HasAnswer, IsAnswered, IsPrefix, IsTold, Knowledge, ListIsTold, Machine, Mark, PortIsTold, PrimaryIsTold, Read, Rx, SeesCount, SilentStep, ThreadStep, acceptances, acceptances-append, counted_at, inputs_of, inputs_of-append, keys, keys-append, typed_at}
 use Rattle.log_entry.specs.declared.entry.Entry.TheVariants.{Sent, Sector, Written}
 use Rattle.pair_rule.specs.declared.payload.DiskAnswer.TheVariants as answer
-use Rattle.pair_rule.specs.Law.{Carries}
 use Rattle.pair_rule.proofs.Filled.{among_more}
 use Rattle.pair_rule.proofs.ShownNodes.{among_either}
 
@@ -118,24 +117,11 @@ module _ {S : Type 0} (M : Machine S) (typed0 typed1 : List ℕ) (k : Knowledge)
   -- a step that is events, and one that is none
   pub thread_told : (new : Knowledge) → ThreadStep M typed0 typed1 k new → PrimaryIsTold typed0 typed1 new.primary
   thread_told new (Appends e run free told) = told_more run.before e told
-  thread_told new (Holds waits) = t
-  thread_told new (Sees serves) = t
-  thread_told new (Takes p e waits whole at) = t
-  thread_told new (Completes r e waits done found) = t
-  thread_told new (PrimaryWins serves waits) = t
-  thread_told new (PrimaryLoses serves other) = t
-  thread_told new (BackupWins serves waits) = t
-  thread_told new (BackupLoses other waits) = t
-  thread_told new (Releases o run port serves covered) = t
   thread_told new (Arrives zero number byte two hand) = t
-  thread_told new (Arrives (suc port) number byte two hand) = t
-  thread_told new (Puts write taken) = t
+  thread_told new _ = t
 
   pub silent_told : (new : Knowledge) → SilentStep M k new → PrimaryIsTold typed0 typed1 new.primary
-  silent_told new Keeps = t
   silent_told new (CountsNone zero none) = t
-  silent_told new (CountsNone (suc port) none) = t
-  silent_told new (Carries p) = t
   silent_told new (SeesCount zero n more) = record {
     port0 = record { keys_first = t.port0.keys_first; accepted = (let a = t.port0.accepted in omega (arith, a, more)) };
     port1 = t.port1;
@@ -146,20 +132,12 @@ module _ {S : Type 0} (M : Machine S) (typed0 typed1 : List ℕ) (k : Knowledge)
     port1 = record { keys_first = t.port1.keys_first; accepted = (let a = t.port1.accepted in omega (arith, a, more)) };
     answered = t.answered;
   }
-  silent_told new (TakesByte0 o) = t
-  silent_told new (TakesByte1 o) = t
-  silent_told new (TakesRequest r) = t
   silent_told new (HasAnswer a) = record {
     port0 = t.port0;
     port1 = t.port1;
     answered = λ e at. still_answered k.primary.answers a e (t.answered e at);
   }
-  silent_told new (AsksRead a) = t
-  silent_told new (AnswersRead a r taken first) = t
-  silent_told new (Wants p sector is) = t
-  silent_told new (TakesLookup a) = t
-  silent_told new (AnswersLookup r) = t
-  silent_told new (Misses r is) = t
+  silent_told new _ = t
 
 -- an empty list was told nothing
 pub nothing_told : (typed0 typed1 : List ℕ) → ListIsTold typed0 typed1 [] [] 0 0

@@ -2,7 +2,7 @@
 use Rattle.std.proofs.Common.{◌≡◌, ℕ, zero, suc, ◌≤◌, eqb, List, [], ◌∷◌, ◌++◌, length, refl, ap, inl, inr, ⊎_elim, arith, length-append, le_refl}
 use prog.Atomic.{either}
 use Rattle.std.specs.Prelude.{Option}
-use Rattle.pair_rule.proofs.Words.{Among, Answer, Answers, Arrived, Bytes0, Bytes1, Entry, Fits, Inbox, Knowledge, Log, Lookup, Lookups, Mailbox, Operation, Out, Outbox, Payload, PortStands, Request, Requests, Sector, Sectors, Stands, TerminalView, accepted_after, accepted_at, appended, arrives, backup_asked, byte_arrived, held, last_or, primary_asked, saw, saw_count, winner_after, winner_of}
+use Rattle.pair_rule.proofs.Words.{Among, Arrived, Entry, Fits, Inbox, Knowledge, Log, Mailbox, Operation, Outbox, Payload, PortStands, Stands, TerminalView, accepted_after, accepted_at, appended, arrives, backup_asked, byte_arrived, held, last_or, primary_asked, saw, saw_count, winner_after, winner_of}
 use Rattle.pair_rule.proofs.Filled.{among_more, if_map, entry_more, next_more}
 use Rattle.pair_rule.proofs.ListsThatGrow.{longer_prefix, last_below, rising_more, last_more, last_among, fewer_arrived, all_arrived, decide_primary, decide_backup}
 
@@ -28,23 +28,8 @@ module _ (k : Knowledge) (s : Stands k) where
 
   appended_fits : (e : Entry) (b : Mailbox) (x : Payload) → Fits b k x → Fits b (appended e k) x
   appended_fits e Outbox (Log p) f = entry_more k.generation k.primary.list k.disk.given e p f
-  appended_fits e Outbox (Out o) f = f
-  appended_fits e Outbox (Request r) f = f
-  appended_fits e Outbox (Answer a) f = f
-  appended_fits e Outbox (Lookup x) f = f
-  appended_fits e Outbox (Sector x) f = f
   appended_fits e Inbox (Log p) f = entry_more k.generation k.primary.list k.disk.given e p f
-  appended_fits e Inbox (Out o) f = f
-  appended_fits e Inbox (Request r) f = f
-  appended_fits e Inbox (Answer a) f = f
-  appended_fits e Inbox (Lookup x) f = f
-  appended_fits e Inbox (Sector x) f = f
-  appended_fits e Bytes0 x f = f
-  appended_fits e Bytes1 x f = f
-  appended_fits e Requests x f = f
-  appended_fits e Answers x f = f
-  appended_fits e Lookups x f = f
-  appended_fits e Sectors x f = f
+  appended_fits e _ _ f = f
 
   pub append_stays : (e : Entry) → Stays (appended e)
   append_stays e = (

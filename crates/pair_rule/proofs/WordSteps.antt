@@ -3,52 +3,23 @@ use Rattle.std.proofs.Common.{◌≡◌, ℕ, zero, suc, ◌+◌, ◌%◌, ◌^�
 use mathlib.Core.Option.{some}
 use lib.ListN.{get_elem?}
 use prog.Atomic.{either}
-use Rattle.pair_rule.proofs.Words.{Allows, Backup, BackupView, Carried, Core, CountedBy, Entry, Facts, Fits, Homes, Knowledge, Log, Mailbox, MayAppend, Mine, Moment, Named, Packet, Payload, PlainRun, PlainStep, Primary, PrimaryView, Rule, Same, SamePart, Stands, Terminal, TerminalView, Who, Whole, accepted_after, accepted_with, appended, appends, arrives, backup_asked, byte_arrived, carried_after, contests_backup, contests_primary, counts, counts_at, has, held, holds_entries, keeps, last_or, primary_asked, saw, saw_count, sees, sees_count, sees_count_at, winner_after, winner_of, with_core, with_entry, with_known, words_of}
+use Rattle.pair_rule.proofs.Words.{Allows, Backup, BackupView, Carried, Core, CountedBy, Entry, Facts, Fits, Homes, Knowledge, Log, Mailbox, MayAppend, Mine, Moment, Named, Packet, Payload, PlainRun, PlainStep, Primary, PrimaryView, Rule, Stands, Terminal, TerminalView, Who, Whole, accepted_after, accepted_with, appended, appends, arrives, backup_asked, byte_arrived, carried_after, contests_backup, contests_primary, counts, counts_at, has, held, holds_entries, keeps, last_or, primary_asked, saw, saw_count, sees, sees_count, sees_count_at, winner_after, winner_of, with_core, with_entry, with_known, words_of}
 use Rattle.pair_rule.specs.Histories as plain
 use Rattle.pair_rule.proofs.Histories.{asks_same, may_append}
-use Rattle.pair_rule.proofs.Parts.{Local, on_primary, on_backup, on_terminal, steps}
+use Rattle.pair_rule.proofs.Parts.{Local, on_part, owned_known, steps}
 use Rattle.pair_rule.proofs.BoxSwaps.{Table, Goes, last_fits}
 use Rattle.pair_rule.proofs.BoxSteps.{own, same_load}
 use Rattle.pair_rule.proofs.WordChanges.{append_stays, see_stays, held_low, held_short, hold_stays, hold_word, primary_asks, backup_asks, came_stays, count_stays}
 use Rattle.pair_rule.proofs.ListsThatGrow.{fewer_arrived}
 
-knows_both : (n t : Who) (turn : Knowledge → Knowledge) → Local n turn → (c d : Core) → SamePart n c.known d.known → Same t c d
-    → Same t (with_known turn c) (with_known turn d)
-knows_both n t turn l c d own e = record {
-  sized = record {
-    hands = e.sized.hands;
-    has_slot = e.sized.has_slot;
-    fills = e.sized.fills;
-    empties = e.sized.empties;
-  };
-  generation = l.generation c.known ∙ e.generation ∙ sym (l.generation d.known);
-  hand = e.hand;
-  has_slot = e.has_slot;
-  fills = e.fills;
-  empties = e.empties;
-  known = l.both t c.known d.known own e.known;
-}
-
-knows_rest : (n t : Who) (turn : Knowledge → Knowledge) → Local n turn → (c d : Core) → (t ≡ n → ⊥) → Same t c d
-    → Same t c (with_known turn d)
-knows_rest n t turn l c d ne e = record {
-  sized = e.sized;
-  generation = e.generation ∙ sym (l.generation d.known);
-  hand = e.hand;
-  has_slot = e.has_slot;
-  fills = e.fills;
-  empties = e.empties;
-  known = l.rest t c.known d.known ne e.known;
-}
-
-knows_facts : (g : ℕ) (boxes : List ℕ) (homes : Homes) (c : Core) (turn : Knowledge → Knowledge)
-    → ((turn c.known).generation ≡ c.known.generation) → Stands (turn c.known)
+knows_facts : (g : ℕ) (boxes : List ℕ) (homes : Homes) (c : Core) (n : Who) (turn : Knowledge → Knowledge) → Local n turn
+    → Stands (turn c.known)
     → ((b : Mailbox) (x : Payload) → Fits b c.known x → Fits b (turn c.known) x)
     → CountedBy c.fills c.empties (turn c.known) → PlainRun (turn c.known)
     → Facts g boxes homes c → Facts g boxes homes (with_known turn c)
-knows_facts g boxes homes c turn same stands fits counted ran f = record {
-  generation = same ∙ f.generation;
-  sized = record { hands = f.sized.hands; has_slot = f.sized.has_slot; fills = f.sized.fills; empties = f.sized.empties };
+knows_facts g boxes homes c n turn l stands fits counted ran f = record {
+  generation = l.generation c.known ∙ f.generation;
+  sized = (owned_known n turn l).sized c f.sized;
   eight = f.eight;
   laid = f.laid;
   boxed = f.boxed;
@@ -88,11 +59,8 @@ module _ (g : ℕ) (s : Table) (r : Rule g s) (id : ℕ) (me : Mine) (at : get_e
       boxes = r.boxes;
       words = change;
       at = r.at;
-      seats = λ t. steps s.views r.core (with_known turn r.core) n t r.at id me.0 (with_known turn me.0.core) r.seats at mine
-          (knows_both n t turn l me.0.core r.core (own g s r id me.0 at n mine).known)
-          (λ z ne e. knows_rest n t turn l z r.core ne e);
-      facts = knows_facts g r.boxes s.homes r.core turn (l.generation k) stands fits counted (plain.Goes r.facts.ran step)
-          r.facts;
+      seats = λ t. steps s.views r.core n t r.at id me.0 (with_known turn) (owned_known n turn l) r.facts.sized r.seats at mine;
+      facts = knows_facts g r.boxes s.homes r.core n turn l stands fits counted (plain.Goes r.facts.ran step) r.facts;
     },
     tells,
   )
@@ -108,7 +76,7 @@ append_allowed g n id me h p e whole mine holds few may s r deep at _ =
     let count : (length k.primary.list + 1) % 2 ^ 64 ≡ length (k.primary.list ++ e ∷ []) =
     omega (arith, length-append k.primary.list (e ∷ [])) in
     word_goes g s r id me at Primary 0 (λ x. (x + 1) % 2 ^ 64) (appends me) (appended e) mine
-    (on_primary (with_entry e)) st.0 st.1 r.facts.counted (plain.Appends e (may_append me.0.core.known k same may))
+    (on_part Primary (with_entry e)) st.0 st.1 r.facts.counted (plain.Appends e (may_append me.0.core.known k same may))
     (λ i. count i ∷ last_or 0 k.backup.held_values ∷ winner_of k.primary.winner k.backup.winner
     ∷ accepted_after 0 k.terminal.arrivals0 ∷ accepted_after 0 k.terminal.arrivals1 ∷ r.boxes) (
       sym long,
@@ -132,7 +100,7 @@ see_allowed g n id me none mine s r deep at _ =
     let long : length me.0.core.known.primary.list ≡ length k.primary.list = ap (λ (z : PrimaryView). length z.list) same in
     let seen : me.0.core.known.primary.seen ≡ k.primary.seen = ap (λ (z : PrimaryView). z.seen) same in
     word_goes g s r id me at Primary 1 (λ x. x) (sees me) (saw (last_or 0 k.backup.held_values)) mine
-    (on_primary (λ z. record z { seen = last_or 0 k.backup.held_values })) st.0 st.1 r.facts.counted
+    (on_part Primary (λ z. record z { seen = last_or 0 k.backup.held_values })) st.0 st.1 r.facts.counted
     (plain.Sees (asks_same Primary me.0.core.known k same none)) refl (
       refl,
       (let b = r.facts.stands.log.behind in omega arith),
@@ -151,7 +119,7 @@ hold_allowed g n id me x none mine is s r deep at _ =
     let more : max (last_or 0 k.backup.held_values) x ≡ last_or 0 (k.backup.held_values ++ length k.backup.list ∷ []) =
     (let e = hold_word k r.facts.stands in omega arith) in
     word_goes g s r id me at Backup 1 (λ y. max y x) (holds_entries me) held mine
-    (on_backup (λ z. record z { held_values = z.held_values ++ length z.list ∷ [] })) st.0 st.1 r.facts.counted
+    (on_part Backup (λ z. record z { held_values = z.held_values ++ length z.list ∷ [] })) st.0 st.1 r.facts.counted
     (plain.Holds (asks_same Backup me.0.core.known k same none))
     (λ i. length k.primary.list ∷ more i ∷ winner_of k.primary.winner k.backup.winner ∷ accepted_after 0 k.terminal.arrivals0
     ∷ accepted_after 0 k.terminal.arrivals1 ∷ r.boxes)
@@ -164,7 +132,7 @@ contest_primary_allowed g n id me none mine s r deep at _ =
     (own g s r id me.0 at Primary mine).known in let st = primary_asks k r.facts.stands in let w : ℕ =
     winner_of k.primary.winner k.backup.winner in
     word_goes g s r id me at Primary 2 (λ x. either (eqb x 0) 1 x) (contests_primary me) (primary_asked w) mine
-    (on_primary (λ z. record z { winner = winner_after 1 w })) st.0.0 st.0.1 r.facts.counted
+    (on_part Primary (λ z. record z { winner = winner_after 1 w })) st.0.0 st.0.1 r.facts.counted
     (plain.PrimaryAsks (asks_same Primary me.0.core.known k same none))
     (λ i. length k.primary.list ∷ last_or 0 k.backup.held_values ∷ sym st.1 i ∷ accepted_after 0 k.terminal.arrivals0
     ∷ accepted_after 0 k.terminal.arrivals1 ∷ r.boxes)
@@ -177,7 +145,7 @@ contest_backup_allowed g n id me none mine s r deep at _ =
     (own g s r id me.0 at Backup mine).known in let st = backup_asks k r.facts.stands in let w : ℕ =
     winner_of k.primary.winner k.backup.winner in
     word_goes g s r id me at Backup 2 (λ x. either (eqb x 0) 2 x) (contests_backup me) (backup_asked w) mine
-    (on_backup (λ z. record z { winner = winner_after 2 w })) st.0.0 st.0.1 r.facts.counted
+    (on_part Backup (λ z. record z { winner = winner_after 2 w })) st.0.0 st.0.1 r.facts.counted
     (plain.BackupAsks (asks_same Backup me.0.core.known k same none))
     (λ i. length k.primary.list ∷ last_or 0 k.backup.held_values ∷ sym st.1 i ∷ accepted_after 0 k.terminal.arrivals0
     ∷ accepted_after 0 k.terminal.arrivals1 ∷ r.boxes)
@@ -195,7 +163,7 @@ count_allowed g n id me zero x two mine is s r deep at _ =
     let more : max (accepted_after 0 k.terminal.arrivals0) x ≡ accepted_with 0 k =
     (let low = fewer_arrived k.terminal.hand0 k.terminal.arrivals0 in omega arith) in
     word_goes g s r id me at Terminal 3 (λ y. max y x) (counts 0 me) (byte_arrived 0) mine
-    (on_terminal (λ z. record z { arrivals0 = arrives z.hand0 z.arrivals0 })) st.0 st.1 r.facts.counted (plain.Counts 0 two)
+    (on_part Terminal (λ z. record z { arrivals0 = arrives z.hand0 z.arrivals0 })) st.0 st.1 r.facts.counted (plain.Counts 0 two)
     (λ i. length k.primary.list ∷ last_or 0 k.backup.held_values ∷ winner_of k.primary.winner k.backup.winner ∷ more i
     ∷ accepted_after 0 k.terminal.arrivals1 ∷ r.boxes)
     (refl, refl)
@@ -209,7 +177,7 @@ count_allowed g n id me (suc zero) x two mine is s r deep at _ =
     let more : max (accepted_after 0 k.terminal.arrivals1) x ≡ accepted_with 1 k =
     (let low = fewer_arrived k.terminal.hand1 k.terminal.arrivals1 in omega arith) in
     word_goes g s r id me at Terminal 4 (λ y. max y x) (counts 1 me) (byte_arrived 1) mine
-    (on_terminal (λ z. record z { arrivals1 = arrives z.hand1 z.arrivals1 })) st.0 st.1 r.facts.counted (plain.Counts 1 two)
+    (on_part Terminal (λ z. record z { arrivals1 = arrives z.hand1 z.arrivals1 })) st.0 st.1 r.facts.counted (plain.Counts 1 two)
     (λ i. length k.primary.list ∷ last_or 0 k.backup.held_values ∷ winner_of k.primary.winner k.backup.winner
     ∷ accepted_after 0 k.terminal.arrivals0 ∷ more i ∷ r.boxes)
     (refl, refl)
@@ -223,7 +191,7 @@ sees_count_allowed g n id me zero two none mine s r deep at _ =
     (own g s r id me.0 at Primary mine).known in let st = count_stays k r.facts.stands 0 in
     let was : me.0.core.known.primary.counted0 ≡ k.primary.counted0 = ap (λ (z : PrimaryView). z.counted0) same in
     word_goes g s r id me at Primary 3 (λ y. y) (sees_count 0 me) (saw_count 0 (accepted_after 0 k.terminal.arrivals0)) mine
-    (on_primary (λ z. record z { counted0 = accepted_after 0 k.terminal.arrivals0 })) st.0 st.1 r.facts.counted
+    (on_part Primary (λ z. record z { counted0 = accepted_after 0 k.terminal.arrivals0 })) st.0 st.1 r.facts.counted
     (plain.SeesCount 0 two (asks_same Primary me.0.core.known k same none)) refl
     (refl, (let b = r.facts.stands.port0.accepted in omega arith), (k, moment g s r id me at Primary mine, refl), refl)
 sees_count_allowed g n id me (suc zero) two none mine s r deep at _ =
@@ -231,7 +199,7 @@ sees_count_allowed g n id me (suc zero) two none mine s r deep at _ =
     (own g s r id me.0 at Primary mine).known in let st = count_stays k r.facts.stands 1 in
     let was : me.0.core.known.primary.counted1 ≡ k.primary.counted1 = ap (λ (z : PrimaryView). z.counted1) same in
     word_goes g s r id me at Primary 4 (λ y. y) (sees_count 1 me) (saw_count 1 (accepted_after 0 k.terminal.arrivals1)) mine
-    (on_primary (λ z. record z { counted1 = accepted_after 0 k.terminal.arrivals1 })) st.0 st.1 r.facts.counted
+    (on_part Primary (λ z. record z { counted1 = accepted_after 0 k.terminal.arrivals1 })) st.0 st.1 r.facts.counted
     (plain.SeesCount 1 two (asks_same Primary me.0.core.known k same none)) refl
     (refl, (let b = r.facts.stands.port1.accepted in omega arith), (k, moment g s r id me at Primary mine, refl), refl)
 sees_count_allowed g n id me (suc (suc port)) two none mine s r deep at _ = absurd (omega arith)

@@ -6,8 +6,13 @@ use Rattle.atomic_table.specs.Table.{State}
 use Rattle.event_callbacks.specs.declared.operations.Operation.{Operation}
 use Rattle.pair_rule.specs.declared.mailbox.Mailbox.{Mailbox}
 use Rattle.pair_rule.specs.declared.mailbox.Mailbox.TheVariants.{Requests, Answers}
+use Rattle.pair_rule.specs.declared.payload.Packet.{Packet}
 use Rattle.pair_rule.specs.declared.payload.Payload.{Payload}
 use Rattle.pair_rule.specs.declared.view.Arrived.{Arrived}
+use Rattle.pair_rule.specs.declared.view.PrimaryView.{PrimaryView}
+use Rattle.pair_rule.specs.declared.view.BackupView.{BackupView}
+use Rattle.pair_rule.specs.declared.view.TerminalView.{TerminalView}
+use Rattle.pair_rule.specs.declared.view.DiskView.{DiskView}
 use Rattle.pair_rule.specs.declared.view.Side.{Side}
 use Rattle.pair_rule.specs.declared.view.Knowledge.{Knowledge}
 use Rattle.pair_rule.specs.declared.view.Core.{Core}
@@ -17,13 +22,24 @@ pub use Rattle.pair_rule.specs.Histories.{first_known}
 use Rattle.pair_rule.specs.Histories.{PlainRun}
 use Rattle.pair_rule.specs.Knowledge.{words_of, Fits, WhereSome, Stands, accepted_after, arrives, last_or}
 
+-- the part of what is known that is a seat's own
+abbrev pub Part : Who → Type 0
+Part Primary = PrimaryView
+Part Link = Option Packet
+Part Backup = BackupView
+Part Terminal = TerminalView
+Part Disk = DiskView
+
+abbrev pub part : (s : Who) → Knowledge → Part s
+part Primary k = k.primary
+part Link k = k.link
+part Backup k = k.backup
+part Terminal k = k.terminal
+part Disk k = k.disk
+
 -- a seat knows the same
 abbrev pub SamePart : Who → Knowledge → Knowledge → Type 0
-SamePart Primary k l = k.primary ≡ l.primary
-SamePart Link k l = k.link ≡ l.link
-SamePart Backup k l = k.backup ≡ l.backup
-SamePart Terminal k l = k.terminal ≡ l.terminal
-SamePart Disk k l = k.disk ≡ l.disk
+SamePart s k l = part s k ≡ part s l
 
 -- what all seats know at one moment, for a seat that knows its own part of it: what must hold of it does
 pub record Moment (s : Who) (own all : Knowledge) : Type 0 where

@@ -24,7 +24,6 @@ use Rattle.pair_rule.specs.declared.view.DiskView.{DiskView}
 use Rattle.pair_rule.specs.declared.view.Knowledge.{Knowledge}
 use Rattle.pair_rule.specs.declared.view.Side.{Side}
 use Rattle.pair_rule.specs.declared.view.Core.{Core}
-use Rattle.pair_rule.specs.declared.view.SeatView.{SeatView}
 use Rattle.pair_rule.specs.Boxes.{Who, Primary, Link, Backup, Terminal, seat_index, box_index}
 use Rattle.pair_rule.specs.Histories.{PlainRun}
 pub use Rattle.pair_rule.specs.Knowledge.{Replies}
@@ -60,11 +59,9 @@ zeros = 0 ∷ 0 ∷ 0 ∷ 0 ∷ 0 ∷ 0 ∷ 0 ∷ 0 ∷ []
 -- a seat of a new table: it knows what is known when the table begins, and has no slot yet
 pub record IsNew (s : Who) (k : Knowledge) (table id : TableId) (me : Mine) : Type 0 where
   pub same : id ≡ table
-  pub view : SeatView
-  pub is : me ≡ (view, [])
-  pub mine : has view s
-  pub single : view.mine ≡ slice_set nobody (seat_index s) true
-  pub core : view.core ≡ core_of k
+  pub bare : me.1 ≡ []
+  pub single : me.0.mine ≡ slice_set nobody (seat_index s) true
+  pub core : me.0.core ≡ core_of k
 
 -- a seat at the start: it holds its slot, and knows what is known then
 pub record Opened (s : Who) (k : Knowledge) (table id : TableId) (me : Mine) (slot : ℕ) (fills empties : List ℕ) : Type 0 where

@@ -8,13 +8,15 @@ ghost use Rattle.pair_rule.specs.Kinds.{know_of};
 ghost use Rattle.pair_rule.specs.Seats.{Keeps, Settled};
 ghost use Rattle.std.specs.Mem.Slots.{IsFull};
 
+use crate::backup::BackupSeat;
+use crate::disk::DiskSeat;
 use crate::fabric::{Fabric, PairTable, SharedTable, TableSeat};
-use crate::kinds::{
-    JoinBackup, JoinDisk, JoinTerminal, LastSlotBackup, LastSlotDisk, LastSlotTerminal,
-};
+use crate::kinds::{LastSlot, Part};
 use crate::open::FiveSeats;
 use crate::payload::Payload;
 use crate::seat::SeatState;
+use crate::seated::Seated;
+use crate::terminal::TerminalSeat;
 use std::alloc::Global;
 
 /// The words of a table that no thread shares any longer.
@@ -28,15 +30,15 @@ pub struct Closed {
     pub winner: u64,
 }
 
-// The backup's seat ends, and the primary's takes over its part.
-fn join_backup(table: &SharedTable, lead: &mut TableSeat, state: SeatState)
+// A seat ends, and the primary's takes over its part.
+fn join<S: Seated>(table: &SharedTable, lead: &mut TableSeat, state: SeatState)
     requires table { (lead.old.table_id ≡ table.now.table_id) × (state.seat.table_id ≡ table.now.table_id)
         × (table.now.table_id.words ≡ 13) }
-    requires lead { has lead.old.me.0 Primary × (get_elem? lead.old.me.0.mine (seat_index Backup) ≡ some false) }
-    requires seat { Keeps Backup state.seat.me state.slot state.fills state.empties }
+    requires lead { has lead.old.me.0 Primary × (get_elem? lead.old.me.0.mine (seat_index S.who) ≡ some false) }
+    requires seat { Keeps S.who state.seat.me state.slot state.fills state.empties }
     ensures table { lead.new.table_id ≡ lead.old.table_id }
-    ensures mine { lead.new.me.0.mine ≡ slice_set lead.old.me.0.mine (seat_index Backup) true }
-    ensures known { lead.new.me.0.core.known ≡ know_of Backup state.seat.me.0.core.known lead.old.me.0.core.known }
+    ensures mine { lead.new.me.0.mine ≡ slice_set lead.old.me.0.mine (seat_index S.who) true }
+    ensures known { lead.new.me.0.core.known ≡ know_of S.who state.seat.me.0.core.known lead.old.me.0.core.known }
 {
     let SeatState {
         seat: mut other,
@@ -44,48 +46,8 @@ fn join_backup(table: &SharedTable, lead: &mut TableSeat, state: SeatState)
         ..
     } = state;
     table.exchange(&mut other, slot, None);
-    table.load::<LastSlotBackup>(&mut other, 0);
-    table.join_seat::<JoinBackup>(lead, other);
-}
-
-// The terminal's seat ends, and the primary's takes over its part.
-fn join_terminal(table: &SharedTable, lead: &mut TableSeat, state: SeatState)
-    requires table { (lead.old.table_id ≡ table.now.table_id) × (state.seat.table_id ≡ table.now.table_id)
-        × (table.now.table_id.words ≡ 13) }
-    requires lead { has lead.old.me.0 Primary × (get_elem? lead.old.me.0.mine (seat_index Terminal) ≡ some false) }
-    requires seat { Keeps Terminal state.seat.me state.slot state.fills state.empties }
-    ensures table { lead.new.table_id ≡ lead.old.table_id }
-    ensures mine { lead.new.me.0.mine ≡ slice_set lead.old.me.0.mine (seat_index Terminal) true }
-    ensures known { lead.new.me.0.core.known ≡ know_of Terminal state.seat.me.0.core.known lead.old.me.0.core.known }
-{
-    let SeatState {
-        seat: mut other,
-        slot,
-        ..
-    } = state;
-    table.exchange(&mut other, slot, None);
-    table.load::<LastSlotTerminal>(&mut other, 0);
-    table.join_seat::<JoinTerminal>(lead, other);
-}
-
-// The disk's seat ends, and the primary's takes over its part.
-fn join_disk(table: &SharedTable, lead: &mut TableSeat, state: SeatState)
-    requires table { (lead.old.table_id ≡ table.now.table_id) × (state.seat.table_id ≡ table.now.table_id)
-        × (table.now.table_id.words ≡ 13) }
-    requires lead { has lead.old.me.0 Primary × (get_elem? lead.old.me.0.mine (seat_index Disk) ≡ some false) }
-    requires seat { Keeps Disk state.seat.me state.slot state.fills state.empties }
-    ensures table { lead.new.table_id ≡ lead.old.table_id }
-    ensures mine { lead.new.me.0.mine ≡ slice_set lead.old.me.0.mine (seat_index Disk) true }
-    ensures known { lead.new.me.0.core.known ≡ know_of Disk state.seat.me.0.core.known lead.old.me.0.core.known }
-{
-    let SeatState {
-        seat: mut other,
-        slot,
-        ..
-    } = state;
-    table.exchange(&mut other, slot, None);
-    table.load::<LastSlotDisk>(&mut other, 0);
-    table.join_seat::<JoinDisk>(lead, other);
+    table.load::<LastSlot<S>>(&mut other, 0);
+    table.join_seat::<Part<S>>(lead, other);
 }
 
 // Drops what the slots hold.
@@ -129,9 +91,9 @@ impl Fabric {
         drop(link);
         let Fabric { table } = self;
         let mut lead = primary.state.seat;
-        join_backup(&table.shared, &mut lead, backup.state);
-        join_terminal(&table.shared, &mut lead, terminal.state);
-        join_disk(&table.shared, &mut lead, disk.state);
+        join::<BackupSeat>(&table.shared, &mut lead, backup.state);
+        join::<TerminalSeat>(&table.shared, &mut lead, terminal.state);
+        join::<DiskSeat>(&table.shared, &mut lead, disk.state);
         settle(table, lead)
     }
 }

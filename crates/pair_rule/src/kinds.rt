@@ -1,10 +1,11 @@
 //! The steps, each with what it tells.
 ghost use Rattle.pair_rule.specs.Kinds.{fills, empties, appends, sees, holds_entries, contests_primary, contests_backup, counts_at, sees_count_at, takes_first_slot, gives_last_slot, without, only, with_part, spent_view};
-ghost use Rattle.pair_rule.specs.Boxes.{Primary, Link, Backup, Terminal, Disk};
 
 use crate::payload::Payload;
+use crate::seated::Seated;
 use crate::view::SeatView;
 use atomic_table::{Join, Play, Split};
+use std::marker::PhantomData;
 
 // A box is filled, and emptied.
 pub struct Fill;
@@ -64,109 +65,36 @@ impl Play<Option<Payload>, SeatView> for SeeCount {
     ghost then = { λ step. sees_count_at step.word };
 }
 
-// A seat takes its first slot.
-pub struct FirstSlotPrimary;
-
-impl Play<Option<Payload>, SeatView> for FirstSlotPrimary {
-    ghost then = { λ _. takes_first_slot Primary };
+// A seat takes its first slot, and gives its last one back.
+pub struct FirstSlot<S> {
+    seat: PhantomData<S>,
 }
 
-pub struct FirstSlotLink;
-
-impl Play<Option<Payload>, SeatView> for FirstSlotLink {
-    ghost then = { λ _. takes_first_slot Link };
+impl<S: Seated> Play<Option<Payload>, SeatView> for FirstSlot<S> {
+    ghost then = { λ _. takes_first_slot S.who };
 }
 
-pub struct FirstSlotBackup;
-
-impl Play<Option<Payload>, SeatView> for FirstSlotBackup {
-    ghost then = { λ _. takes_first_slot Backup };
+pub struct LastSlot<S> {
+    seat: PhantomData<S>,
 }
 
-pub struct FirstSlotTerminal;
-
-impl Play<Option<Payload>, SeatView> for FirstSlotTerminal {
-    ghost then = { λ _. takes_first_slot Terminal };
+impl<S: Seated> Play<Option<Payload>, SeatView> for LastSlot<S> {
+    ghost then = { λ _. gives_last_slot S.who };
 }
 
-pub struct FirstSlotDisk;
-
-impl Play<Option<Payload>, SeatView> for FirstSlotDisk {
-    ghost then = { λ _. takes_first_slot Disk };
+// A seat's part is split off the primary's, and joined into it again.
+pub struct Part<S> {
+    seat: PhantomData<S>,
 }
 
-// A seat is split off the primary's.
-pub struct SplitLink;
+impl<S: Seated> Split<SeatView> for Part<S> {
+    ghost left = { without S.who };
 
-impl Split<SeatView> for SplitLink {
-    ghost left = { without Link };
-
-    ghost right = { only Link };
+    ghost right = { only S.who };
 }
 
-pub struct SplitBackup;
-
-impl Split<SeatView> for SplitBackup {
-    ghost left = { without Backup };
-
-    ghost right = { only Backup };
-}
-
-pub struct SplitTerminal;
-
-impl Split<SeatView> for SplitTerminal {
-    ghost left = { without Terminal };
-
-    ghost right = { only Terminal };
-}
-
-pub struct SplitDisk;
-
-impl Split<SeatView> for SplitDisk {
-    ghost left = { without Disk };
-
-    ghost right = { only Disk };
-}
-
-// A seat gives its last slot back, and is joined into the primary's.
-pub struct LastSlotBackup;
-
-impl Play<Option<Payload>, SeatView> for LastSlotBackup {
-    ghost then = { λ _. gives_last_slot Backup };
-}
-
-pub struct JoinBackup;
-
-impl Join<SeatView> for JoinBackup {
-    ghost both = { with_part Backup };
-
-    ghost spent = { spent_view };
-}
-
-pub struct LastSlotTerminal;
-
-impl Play<Option<Payload>, SeatView> for LastSlotTerminal {
-    ghost then = { λ _. gives_last_slot Terminal };
-}
-
-pub struct JoinTerminal;
-
-impl Join<SeatView> for JoinTerminal {
-    ghost both = { with_part Terminal };
-
-    ghost spent = { spent_view };
-}
-
-pub struct LastSlotDisk;
-
-impl Play<Option<Payload>, SeatView> for LastSlotDisk {
-    ghost then = { λ _. gives_last_slot Disk };
-}
-
-pub struct JoinDisk;
-
-impl Join<SeatView> for JoinDisk {
-    ghost both = { with_part Disk };
+impl<S: Seated> Join<SeatView> for Part<S> {
+    ghost both = { with_part S.who };
 
     ghost spent = { spent_view };
 }

@@ -14,6 +14,7 @@ mod open;
 mod payload;
 mod primary;
 mod seat;
+mod seated;
 mod start;
 mod terminal;
 mod view;

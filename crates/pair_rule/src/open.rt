@@ -1,21 +1,19 @@
 //! How a generation's table begins.
-ghost use Rattle.std.specs.Prelude.{◌≡◌, true, None, IfOk, IfErr};
-ghost use Rattle.pair_rule.specs.Boxes.{Primary, Link, Backup, Terminal, Disk};
-ghost use Rattle.pair_rule.specs.Rules.{IsStart, core_of, first_core};
-ghost use Rattle.pair_rule.specs.Kinds.{with_slot};
+ghost use Rattle.std.specs.Prelude.{◌≡◌, ◌+◌, true, None, IfOk, IfErr};
+ghost use Rattle.pair_rule.specs.Boxes.{Primary, Link, Backup, Terminal, Disk, seat_index};
+ghost use Rattle.pair_rule.specs.Rules.{IsStart, core_of, first_core, has};
+ghost use Rattle.pair_rule.specs.Kinds.{with_slot, without};
 ghost use Rattle.pair_rule.specs.Seats.{IsNew, Opened};
 ghost use Rattle.i8080_words.specs.declared.refusal.Fault.TheVariants.{OutOfMemory};
 
 use crate::backup::BackupSeat;
 use crate::disk::DiskSeat;
-use crate::fabric::{Fabric, PairTable, TableSeat};
-use crate::kinds::{
-    FirstSlotBackup, FirstSlotDisk, FirstSlotLink, FirstSlotPrimary, FirstSlotTerminal,
-    SplitBackup, SplitDisk, SplitLink, SplitTerminal,
-};
+use crate::fabric::{Fabric, PairTable, SharedTable, TableSeat};
+use crate::kinds::{FirstSlot, Part};
 use crate::link::LinkSeat;
 use crate::primary::PrimarySeat;
 use crate::seat::SeatState;
+use crate::seated::Seated;
 use crate::start::Start;
 use crate::terminal::{Line, TerminalSeat};
 use atomic_table::Table;
@@ -32,27 +30,54 @@ pub(crate) struct SeatStates {
     pub(crate) disk: SeatState,
 }
 
-// A new table and its seats, before they have slots.
-#[derive(Drop)]
-struct NewSeats {
-    table: PairTable,
-    primary: TableSeat,
-    link: TableSeat,
-    backup: TableSeat,
-    terminal: TableSeat,
-    disk: TableSeat,
+// A seat of a new table takes its slot. It has made no swaps.
+fn first_state<S: Seated>(
+    table: &SharedTable,
+    start: &Start,
+    mut seat: TableSeat,
+    slot: usize,
+) -> SeatState
+    requires table { table.now.table_id.words ≡ 13 }
+    requires seat { IsNew S.who start.now.known.known table.now.table_id seat.table_id seat.me }
+    requires slot { slot ≡ 8 + seat_index S.who }
+    ensures { Opened S.who start.now.known.known table.now.table_id result.seat.table_id result.seat.me result.slot result.fills result.empties }
+{
+    let _ = start;
+    table.load::<FirstSlot<S>>(&mut seat, 0);
+    SeatState {
+        seat,
+        slot,
+        fills: [0; 8],
+        empties: [0; 8],
+    }
+}
+
+// A seat is split off the first one of a new table, and takes its slot.
+fn split_off<S: Seated>(
+    table: &SharedTable,
+    start: &Start,
+    lead: &mut TableSeat,
+    slot: usize,
+) -> SeatState
+    requires table { (lead.old.table_id ≡ table.now.table_id) × (table.now.table_id.words ≡ 13) }
+    requires lead { has lead.old.me.0 S.who × (lead.old.me.0.core ≡ core_of start.now.known.known) }
+    requires slot { slot ≡ 8 + seat_index S.who }
+    ensures table { lead.new.table_id ≡ lead.old.table_id }
+    ensures lead { lead.new.me ≡ (without S.who lead.old.me.0, lead.old.me.1) }
+    ensures seat { Opened S.who start.now.known.known table.now.table_id result.seat.table_id result.seat.me result.slot result.fills result.empties }
+{
+    let seat = table.split_seat::<Part<S>>(lead);
+    first_state::<S>(table, start, seat, slot)
 }
 
 // A new table at which this is known, whose first seat is split into five.
-fn new_seats(alloc: Global, start: &Start) -> Result<NewSeats, AllocError>
+pub(crate) fn open(alloc: Global, start: &Start) -> Result<(Fabric, SeatStates), AllocError>
     requires { IsStart start.now.generation start.now.entries start.now.accepted0 start.now.accepted1 start.now.known.known }
-    ensures words { IfOk result (λ t. t.table.shared.table_id.words ≡ 13) }
-    ensures slots { IfOk result (λ t. t.table.shared.table_id.slots ≡ 13) }
-    ensures primary { IfOk result (λ t. IsNew Primary start.now.known.known t.table.shared.table_id t.primary.table_id t.primary.me) }
-    ensures link { IfOk result (λ t. IsNew Link start.now.known.known t.table.shared.table_id t.link.table_id t.link.me) }
-    ensures backup { IfOk result (λ t. IsNew Backup start.now.known.known t.table.shared.table_id t.backup.table_id t.backup.me) }
-    ensures terminal { IfOk result (λ t. IsNew Terminal start.now.known.known t.table.shared.table_id t.terminal.table_id t.terminal.me) }
-    ensures disk { IfOk result (λ t. IsNew Disk start.now.known.known t.table.shared.table_id t.disk.table_id t.disk.me) }
+    ensures primary { IfOk result (λ t. Opened Primary start.now.known.known t.0 t.1.primary.seat.table_id t.1.primary.seat.me t.1.primary.slot t.1.primary.fills t.1.primary.empties) }
+    ensures link { IfOk result (λ t. Opened Link start.now.known.known t.0 t.1.link.seat.table_id t.1.link.seat.me t.1.link.slot t.1.link.fills t.1.link.empties) }
+    ensures backup { IfOk result (λ t. Opened Backup start.now.known.known t.0 t.1.backup.seat.table_id t.1.backup.seat.me t.1.backup.slot t.1.backup.fills t.1.backup.empties) }
+    ensures terminal { IfOk result (λ t. Opened Terminal start.now.known.known t.0 t.1.terminal.seat.table_id t.1.terminal.seat.me t.1.terminal.slot t.1.terminal.fills t.1.terminal.empties) }
+    ensures disk { IfOk result (λ t. Opened Disk start.now.known.known t.0 t.1.disk.seat.table_id t.1.disk.seat.me t.1.disk.slot t.1.disk.fills t.1.disk.empties) }
 {
     let tail = start.entries;
     let held = start.entries;
@@ -64,77 +89,20 @@ fn new_seats(alloc: Global, start: &Start) -> Result<NewSeats, AllocError>
         13,
         start,
     )?;
-    let (table, mut primary) = made;
-    let link = table.shared.split_seat::<SplitLink>(&mut primary);
-    let backup = table.shared.split_seat::<SplitBackup>(&mut primary);
-    let terminal = table.shared.split_seat::<SplitTerminal>(&mut primary);
-    let disk = table.shared.split_seat::<SplitDisk>(&mut primary);
-    Ok(NewSeats {
-        table,
+    let (table, mut lead) = made;
+    let link = split_off::<LinkSeat>(&table.shared, start, &mut lead, 9);
+    let backup = split_off::<BackupSeat>(&table.shared, start, &mut lead, 10);
+    let terminal = split_off::<TerminalSeat>(&table.shared, start, &mut lead, 11);
+    let disk = split_off::<DiskSeat>(&table.shared, start, &mut lead, 12);
+    let primary = first_state::<PrimarySeat>(&table.shared, start, lead, 8);
+    let states = SeatStates {
         primary,
         link,
         backup,
         terminal,
         disk,
-    })
-}
-
-pub(crate) fn open(alloc: Global, start: &Start) -> Result<(Fabric, SeatStates), AllocError>
-    requires { IsStart start.now.generation start.now.entries start.now.accepted0 start.now.accepted1 start.now.known.known }
-    ensures primary { IfOk result (λ t. Opened Primary start.now.known.known t.0 t.1.primary.seat.table_id t.1.primary.seat.me t.1.primary.slot t.1.primary.fills t.1.primary.empties) }
-    ensures link { IfOk result (λ t. Opened Link start.now.known.known t.0 t.1.link.seat.table_id t.1.link.seat.me t.1.link.slot t.1.link.fills t.1.link.empties) }
-    ensures backup { IfOk result (λ t. Opened Backup start.now.known.known t.0 t.1.backup.seat.table_id t.1.backup.seat.me t.1.backup.slot t.1.backup.fills t.1.backup.empties) }
-    ensures terminal { IfOk result (λ t. Opened Terminal start.now.known.known t.0 t.1.terminal.seat.table_id t.1.terminal.seat.me t.1.terminal.slot t.1.terminal.fills t.1.terminal.empties) }
-    ensures disk { IfOk result (λ t. Opened Disk start.now.known.known t.0 t.1.disk.seat.table_id t.1.disk.seat.me t.1.disk.slot t.1.disk.fills t.1.disk.empties) }
-{
-    let seats = new_seats(alloc, start)?;
-    let NewSeats {
-        table,
-        mut primary,
-        mut link,
-        mut backup,
-        mut terminal,
-        mut disk,
-    } = seats;
-    table.shared.load::<FirstSlotPrimary>(&mut primary, 0);
-    table.shared.load::<FirstSlotLink>(&mut link, 0);
-    table.shared.load::<FirstSlotBackup>(&mut backup, 0);
-    table.shared.load::<FirstSlotTerminal>(&mut terminal, 0);
-    table.shared.load::<FirstSlotDisk>(&mut disk, 0);
-    let fabric = Fabric { table };
-    let states = SeatStates {
-        primary: SeatState {
-            seat: primary,
-            slot: 8,
-            fills: [0; 8],
-            empties: [0; 8],
-        },
-        link: SeatState {
-            seat: link,
-            slot: 9,
-            fills: [0; 8],
-            empties: [0; 8],
-        },
-        backup: SeatState {
-            seat: backup,
-            slot: 10,
-            fills: [0; 8],
-            empties: [0; 8],
-        },
-        terminal: SeatState {
-            seat: terminal,
-            slot: 11,
-            fills: [0; 8],
-            empties: [0; 8],
-        },
-        disk: SeatState {
-            seat: disk,
-            slot: 12,
-            fills: [0; 8],
-            empties: [0; 8],
-        },
     };
-    Ok((fabric, states))
+    Ok((Fabric { table }, states))
 }
 
 /// The seats of one table.
