@@ -5,10 +5,10 @@ use Rattle.std.proofs.Common.{◌≡◌, ℕ, ◌+◌, ◌<◌, Bool, true, fals
 use Rattle.std.specs.Prelude.{IfSome, All, ◌&&◌, ◌||◌, ◌==◌, not, nat_lt, slice_set}
 use Rattle.std.specs.List.{list_any}
 use Rattle.std.specs.Option.{option_map_or, option_and_then}
-use Rattle.std.proofs.lemmas.Bool.{and_parts, ltb-true, eqb-false, both_ways}
+use Rattle.std.proofs.lemmas.Bool.{and_parts, ltb-true, eqb-false, both_ways, or_parts}
 use Rattle.std.proofs.lemmas.List.{length-set, drop-set-lt, get_or-set_same}
 use Rattle.std.proofs.lemmas.List.Elements.{All-set}
-use Rattle.altair_laws.proofs.Words.{AreDrives, CurrentSector, Drives, SECTOR_BYTES, TRACKS, after_command, after_data, after_issue, after_keep, commanded, commanded_drive, commanded_sector, drive_at_boot, drive_of, has_bit, has_room, is_at, is_busy_on, is_head_loaded, is_written, issued_at, issued_by, kept_at, loaded, may_fill, moves_head, or-false, started, stepped_in, stepped_out, unloaded, where_set, with_byte_filled, write_of}
+use Rattle.altair_laws.proofs.Words.{AreDrives, CurrentSector, Drives, SECTOR_BYTES, TRACKS, after_command, after_data, after_issue, after_keep, commanded, commanded_drive, commanded_sector, drive_at_boot, drive_of, has_bit, has_room, is_at, is_busy_on, is_head_loaded, is_written, issued_at, issued_by, kept_at, loaded, may_fill, moves_head, started, stepped_in, stepped_out, unloaded, where_set, with_byte_filled, write_of}
 use Rattle.disk_dcdd.specs.declared.drive.Drive.{Drive}
 use Rattle.altair_laws.proofs.Drives.{LAST_BYTE, IsOver, Stands, Calm, calm-refl, Continues, Same, same-over, keeps}
 
@@ -38,8 +38,8 @@ where_not_set command bit change drive e = ap (λ b. cond b (change drive) drive
 unmoved : (command : ℕ) (drive : Drive) → moves_head command ≡ false
     → commanded_drive command drive ≡ where_set command HEAD_LOAD loaded drive
 unmoved command drive e =
-    let all = or-false (has_bit command STEP_IN || has_bit command STEP_OUT) (has_bit command HEAD_UNLOAD) e in
-    let steps = or-false (has_bit command STEP_IN) (has_bit command STEP_OUT) all.0 in
+    let all = or_parts (has_bit command STEP_IN || has_bit command STEP_OUT) (has_bit command HEAD_UNLOAD) e in
+    let steps = or_parts (has_bit command STEP_IN) (has_bit command STEP_OUT) all.0 in
     where_not_set command HEAD_UNLOAD unloaded _ all.1
     ∙ ap (where_set command HEAD_LOAD loaded)
     (where_not_set command STEP_OUT stepped_out _ steps.1 ∙ where_not_set command STEP_IN stepped_in drive steps.0)
@@ -107,7 +107,7 @@ commanded-over d command drive h a e (Some s) over = at (is_written s || moves_h
         (IsOver (commanded d command drive))
     at true q = tt
     at false q =
-        let m = (or-false (is_written s) (moves_head command) q).1 in
+        let m = (or_parts (is_written s) (moves_head command) q).1 in
         let is : drive_of (commanded d command drive) drive ≡ where_set command HEAD_LOAD loaded (drive_of d drive) =
         drive_is ∙ unmoved command (drive_of d drive) m in
         let track : (drive_of (commanded d command drive) drive).track ≡ (drive_of d drive).track =

@@ -3,10 +3,10 @@
 -- limit.
 use Rattle.std.proofs.Common.{◌≡◌, ℕ, zero, suc, ◌+◌, ◌≤◌, ◌<◌, false, List, [], ◌∷◌, Some, ◌⊎◌, inl, inr, refl, sym, ap, subst, arith}
 use Rattle.std.specs.Prelude.{slice_index, slice_index_or, slice_set, nat_lt, nat_le, ◌&&◌, ◌||◌}
-use Rattle.std.proofs.lemmas.Bool.{ltb-true, leb-false, and_parts}
+use Rattle.std.proofs.lemmas.Bool.{ltb-true, leb-false, and_parts, or_parts}
 use Rattle.std.proofs.lemmas.Option.{cond_some}
 use Rattle.disk_dcdd.specs.Drive as drives
-use Rattle.altair_laws.proofs.Words.{GREATEST_NUMBER, Guest, Input, IsWithin, Move, Processor, Reaches, Rx, SectorAddress, Setup, Wired, after_rx, altair, guest_at_boot, is_spent, or-false, stepped, take_from, top, wired}
+use Rattle.altair_laws.proofs.Words.{GREATEST_NUMBER, Guest, Input, IsWithin, Move, Processor, Reaches, Rx, SectorAddress, Setup, Wired, after_rx, altair, guest_at_boot, is_spent, stepped, take_from, top, wired}
 use Rattle.altair_laws.proofs.Moves.{from_boot}
 use Rattle.altair_laws.proofs.Steps.{Gave, GaveNothing, GaveByte, GaveWrite, steps_from, after_step}
 use Rattle.altair_laws.proofs.Sectors.{issues, after_data-issue}
@@ -41,9 +41,9 @@ unspent g e =
     let count = nat_le GREATEST_NUMBER g.count in
     let first = nat_le GREATEST_NUMBER (slice_index g.issued 0) in
     let second = nat_le GREATEST_NUMBER (slice_index g.issued 1) in
-    let a = or-false (count || first || second) (nat_le GREATEST_NUMBER g.devices.disk.issued) e in
-    let b = or-false (count || first) second a.0 in
-    leb-false GREATEST_NUMBER g.count (or-false count first b.0).0
+    let a = or_parts (count || first || second) (nat_le GREATEST_NUMBER g.devices.disk.issued) e in
+    let b = or_parts (count || first) second a.0 in
+    leb-false GREATEST_NUMBER g.count (or_parts count first b.0).0
 
 within-boot : (setup : Setup) → IsWithin (guest_at_boot setup)
 within-boot setup = record {

@@ -1,6 +1,6 @@
 -- A claim that every move keeps holds after every trace from boot. And what a trace gives and takes in all, for moves
 -- joined end to end.
-use Rattle.std.proofs.Common.{◌≡◌, ◌≢◌, true, false, ℕ, ◌+◌, List, [], ◌∷◌, ◌++◌, length, ◌⊎◌, inl, refl, sym, ap, ◌∙◌, subst, append_assoc, append-nil, Option, Some, None, length-append}
+use Rattle.std.proofs.Common.{◌≡◌, ◌≢◌, true, false, ℕ, ◌+◌, List, [], ◌∷◌, ◌++◌, length, ◌⊎◌, inl, refl, sym, ap, ◌∙◌, subst, append_assoc, append-nil, Option, Some, length-append}
 use Rattle.std.specs.Prelude.{◌==◌}
 use Rattle.altair_laws.proofs.Words.{Among, Do, Input, Machine, Move, Operation, Runs, Take, among-left, among-right, inputs, keys, keys_of-append, operations, operations-append, output, output-append}
 
@@ -42,13 +42,6 @@ pub from_boot : {S : Type 0} (M : Machine S) (P : List Move → S → Type 0) �
 from_boot M P p k moves s r = along M P k [] moves M.boot s p r
 
 -- ---- elements of a list
-
-abbrev some_or : {A : Type 0} → A → Option A → A
-some_or d None = d
-some_or d (Some x) = x
-
-pub same_some : {A : Type 0} (x y : A) → Some x ≡ Some y → x ≡ y
-same_some x y e = ap (some_or x) e
 
 pub operations-left : (x : Operation) (xs ys : List Move) → Among x (operations xs) → Among x (operations (xs ++ ys))
 operations-left x xs ys h =

@@ -2,12 +2,10 @@
 -- an operation puts it under its name, and one that is completed takes no other with it.
 use Rattle.std.proofs.Common.{◌≡◌, ◌≢◌, ◌⊎◌, Option, Some, None, List, [], ◌∷◌, ◌++◌, sym, ap, subst, ◌∙◌, inl, inr}
 use Rattle.std.specs.FinMap as map
+use Rattle.std.proofs.lemmas.Option.{none-some, same_Some}
 use Rattle.altair_laws.proofs.Words.{Among, Do, Input, Move, OpId, Operation, Operations, Take, id_of, operation_at, operation_at-empty, operation_at-with_named, operation_at-with_other, operation_at-without_named, operation_at-without_other, operations, with_given, with_operation, without_operation}
 use Rattle.event_callbacks.proofs.Names.{name_cases}
-use Rattle.altair_laws.proofs.Moves.{same_some, operations-left, operations-last}
-
-pub none_some : {A : Type 0} (x : A) → None ≡ Some x → ⊥
-none_some x e = (cc)
+use Rattle.altair_laws.proofs.Moves.{operations-left, operations-last}
 
 -- ---- the map after one comes or goes
 
@@ -17,7 +15,7 @@ pub with-cases : (m : Operations) (op x : Operation) (name : OpId) → operation
 with-cases m op x name h = go (name_cases name (id_of op))
   where
     go : (name ≡ id_of op) ⊎ (name ≢ id_of op) → ((id_of op ≡ name) × (op ≡ x)) ⊎ (operation_at m name ≡ Some x)
-    go (inl e) = inl (sym e, same_some op x (sym (operation_at-with_named m op name e) ∙ h))
+    go (inl e) = inl (sym e, same_Some op x (sym (operation_at-with_named m op name e) ∙ h))
     go (inr n) = inr (sym (operation_at-with_other m op name n) ∙ h)
 
 -- the operation was there before, and is not the one that went
@@ -27,7 +25,7 @@ pub without-cases : (m : Operations) (gone name : OpId) (x : Operation)
 without-cases m gone name x h = go (name_cases name gone)
   where
     go : (name ≡ gone) ⊎ (name ≢ gone) → (operation_at m name ≡ Some x) × (name ≢ gone)
-    go (inl e) = absurd (none_some x (sym (operation_at-without_named m gone name e) ∙ h))
+    go (inl e) = absurd (none-some x (sym (operation_at-without_named m gone name e) ∙ h))
     go (inr n) = (sym (operation_at-without_other m gone name n) ∙ h, n)
 
 -- ---- the outstanding operations
@@ -38,8 +36,8 @@ pub record AreGiven (moves : List Move) (m : Operations) : Type 0 where
 
 pub given-boot : AreGiven [] map.empty
 given-boot = record {
-  named = λ name x h. absurd (none_some x (sym (operation_at-empty name) ∙ h));
-  given = λ name x h. absurd (none_some x (sym (operation_at-empty name) ∙ h));
+  named = λ name x h. absurd (none-some x (sym (operation_at-empty name) ∙ h));
+  given = λ name x h. absurd (none-some x (sym (operation_at-empty name) ∙ h));
 }
 
 pub given-step : (moves : List Move) (m : Operations) (gives : Option Operation) → AreGiven moves m

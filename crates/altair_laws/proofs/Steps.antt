@@ -3,12 +3,12 @@
 use Rattle.std.proofs.Common.{◌≡◌, ℕ, zero, suc, ◌<◌, Bool, true, false, cond, List, [], ◌∷◌, ◌++◌, length, Option, Some, None, refl, sym, ap, subst, lit≤}
 use Rattle.std.specs.Prelude.{slice_index, slice_index_or, slice_set, nat_lt, ◌==◌, ◌||◌}
 use Rattle.std.specs.Option.{option_map_or}
-use Rattle.std.proofs.lemmas.Bool.{ltb-true}
+use Rattle.std.proofs.lemmas.Bool.{ltb-true, or_parts}
 use Rattle.std.proofs.lemmas.List.{length-set}
 use Rattle.std.proofs.lemmas.Option.{none-some, same_Some}
 use Rattle.i8080_words.specs.Effects.{Access, after_accesses}
 use Rattle.i8080_words.specs.Effects.Access.{Write, Input, Output}
-use Rattle.altair_laws.proofs.Words.{Do, GREATEST_NUMBER, Guest, Move, Operation, Processor, SectorWrite, Wired, after_access, after_byte, after_disk_data, after_out, after_serial_data, device_at, devices_after_in, is_idle, is_spent, next, or-false, port_of, step_from, step_of, stepped, wired, wired_after, with_disk, with_port, write_given}
+use Rattle.altair_laws.proofs.Words.{Do, GREATEST_NUMBER, Guest, Move, Operation, Processor, SectorWrite, Wired, after_access, after_byte, after_disk_data, after_out, after_serial_data, device_at, devices_after_in, is_idle, is_spent, next, port_of, step_from, step_of, stepped, wired, wired_after, with_disk, with_port, write_given}
 use Rattle.serial_2sio.specs.Port as serial
 use Rattle.disk_dcdd.specs.Drive as drives
 use Rattle.event_callbacks.specs.declared.devices.Devices.{Devices}
@@ -221,7 +221,7 @@ steps_from g u gives h =
       gave = gave g;
       after = ap (λ (x : Guest × Option Operation). x.0) k.1;
       gives_is = ap (λ (x : Guest × Option Operation). x.1) k.1;
-      unspent = (or-false (is_spent g) (is_idle g) k.0).0;
+      unspent = (or_parts (is_spent g) (is_idle g) k.0).0;
     }
 
 -- a claim holds after a step, by what holds of the guest that the step leaves

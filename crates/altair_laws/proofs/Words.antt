@@ -30,7 +30,6 @@ pub use Rattle.guest_lockstep.specs.declared.input.Input.TheVariants.{Rx, Sector
 pub use Rattle.guest_parts.specs.Guest.{Guest}
 pub use Rattle.i8080_words.specs.declared.limits.TheConstants.{GREATEST_NUMBER}
 pub use Rattle.i8080_words.specs.declared.registers.Processor.{Processor}
-pub use Rattle.pair_protocol.proofs.Passed.{or-false}
 pub use Rattle.pair_protocol.proofs.Traces.Lists.{among-left, among-right, among-split}
 pub use Rattle.pair_protocol.proofs.Traces.Moves.{acceptances_of-append, inputs-append, keys_of-append, operations-append, output-append, runs-split, steps-append}
 pub use Rattle.pair_protocol.specs.Lawful.{Among, IsUnwritten, IsWritten, Lawful, Reaches}

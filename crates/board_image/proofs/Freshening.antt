@@ -1,13 +1,13 @@
 -- Pages are copied one after another: what was copied of the first pages, and how each page is copied or passed over.
 use Rattle.std.proofs.Common.{◌≡◌, ℕ, ◌+◌, ◌-◌, ◌*◌, ◌/◌, ◌<◌, ◌≤◌, Bool, true, false, cond, List, ◌++◌, length, take, drop, Option, Some, None, refl, sym, ap, subst, ◌∙◌, inl, inr, arith}
 use Rattle.std.specs.Prelude.{◌==◌, nat_lt, slice_index, slice_index_or, slice_set, slice_range}
-use Rattle.std.proofs.lemmas.Bool.{cases_lt, cases_eq, and_from, and_left, and_right, cond-false, cond-true, eqb-true, eqb-false, eq-eqb, ne_eqb, not-false}
+use Rattle.std.proofs.lemmas.Bool.{cases_lt, cases_eq, and_from, and_left, and_right, cond-false, cond-true, eqb-true, eqb-false, eq-eqb, ne_eqb, not-false, lt-ltb, le-ltb}
 use Rattle.std.proofs.lemmas.List.{take_at, length-replicate, length-set, length-take-le, length-drop, length-append, get_or-set_same, get_or-set_other, get_or_append_left, get_or-append_right, get_or-take, get_or-drop, ext_get_or}
 use Rattle.guest_memory.specs.Pages.{page_of, zeros}
 use Rattle.guest_memory.specs.declared.memory.TheConstants.{BYTES, PAGES}
 use Rattle.guest_parts.specs.Board.{OnBoard}
 use Rattle.board_image.specs.Drafts.{Drafted, HasRoom, HasCopied, IsFreshened, Agrees, none_copied, copied_at, version_of, is_old, is_stale, is_next, stale_below}
-use Rattle.board_image.proofs.StalePages.{true_lt, false_lt, none_below, one_more, few_below}
+use Rattle.board_image.proofs.StalePages.{none_below, one_more, few_below}
 
 pub page_low : (address : ℕ) → address < BYTES → page_of address < PAGES
 page_low address low = omega (arith, low)
@@ -214,7 +214,7 @@ module _ (k : ℕ) (board : OnBoard) (old : Drafted) (n : ℕ) (new : Drafted) (
       let left_is = has.can in
       let stale_is = has.waiting in
       let full : k ≤ stale_below old board n = omega (arith, left_is, none) in
-      stays (stale + 1) (and_right (is_stale old board n) (nat_lt (stale_below old board n) k) (false_lt (stale_below old board n) k full))
+      stays (stale + 1) (and_right (is_stale old board n) (nat_lt (stale_below old board n) k) (le-ltb (stale_below old board n) k full))
       (omega (arith, left_is, count, full)) (omega (arith, stale_is, count, full)) (omega (arith, little))
 
   -- this page is copied
@@ -231,7 +231,7 @@ module _ (k : ℕ) (board : OnBoard) (old : Drafted) (n : ℕ) (new : Drafted) (
       let stale_is = has.waiting in
       let low : stale_below old board n < k = omega (arith, left_is, some) in
       let next : is_next k old board n ≡ true =
-      and_from (is_stale old board n) (nat_lt (stale_below old board n) k) was (true_lt (stale_below old board n) k low) in
+      and_from (is_stale old board n) (nat_lt (stale_below old board n) k) was (lt-ltb (stale_below old board n) k low) in
       let pages : length new.copied ≡ PAGES = has.room.pages in
       record {
         room = record { bytes = long; pages = length-set new.copied n (Some (version_of board n)) ∙ pages };
@@ -333,7 +333,7 @@ memory_is board old new is agrees long whole =
         let inside = page_low address low in
         cond-true (is_next PAGES old board (page_of address)) (slice_index board.guest.memory address) (slice_index old.bytes address)
         (and_from (is_stale old board (page_of address)) (nat_lt (stale_below old board (page_of address)) PAGES) stale
-        (true_lt (stale_below old board (page_of address)) PAGES (omega (arith, few, inside))))
+        (lt-ltb (stale_below old board (page_of address)) PAGES (omega (arith, few, inside))))
     at address low false fresh =
         cond-false (is_next PAGES old board (page_of address)) (slice_index board.guest.memory address) (slice_index old.bytes address)
         (and_left (is_stale old board (page_of address)) (nat_lt (stale_below old board (page_of address)) PAGES) fresh)

@@ -1,26 +1,11 @@
 -- How many of the first pages are stale, and how many still are after the lowest of them were copied.
-use Rattle.std.proofs.Common.{◌≡◌, ℕ, zero, suc, ◌+◌, ◌-◌, ◌<◌, ◌≤◌, Bool, true, false, cond, Option, Some, refl, sym, ap, ◌∙◌, add-one, arith}
-use Rattle.std.specs.Prelude.{◌==◌, ◌&&◌, not, nat_lt}
-use Rattle.std.proofs.lemmas.Bool.Decides.{nat_tests}
+use Rattle.std.proofs.Common.{◌≡◌, ℕ, zero, suc, ◌+◌, ◌-◌, ◌≤◌, Bool, true, false, cond, Option, Some, refl, sym, ap, ◌∙◌, add-one, arith}
+use Rattle.std.specs.Prelude.{◌&&◌, not, nat_lt}
+use Rattle.std.proofs.lemmas.Bool.{eq-eqb, ltb-false, ltb-true}
 use Rattle.guest_parts.specs.Board.{OnBoard}
 use Rattle.guest_memory.specs.declared.memory.TheConstants.{PAGES}
 use Rattle.clone_state.specs.Stale.{count_below, one_if}
 use Rattle.board_image.specs.Drafts.{Drafted, IsFreshened, copied_at, version_of, is_old, is_stale, stale_below}
-
-pub lt_true : (a b : ℕ) → nat_lt a b ≡ true → a < b
-lt_true a b h = grind (arith, nat_tests)
-
-pub lt_false : (a b : ℕ) → nat_lt a b ≡ false → b ≤ a
-lt_false a b h = grind (arith, nat_tests)
-
-pub true_lt : (a b : ℕ) → a < b → nat_lt a b ≡ true
-true_lt a b h = grind (arith, nat_tests)
-
-pub false_lt : (a b : ℕ) → b ≤ a → nat_lt a b ≡ false
-false_lt a b h = grind (arith, nat_tests)
-
-same : (n : ℕ) → (n == n) ≡ true
-same n = grind (arith, nat_tests)
 
 -- ---- counting
 
@@ -54,11 +39,11 @@ few_below draft board (suc page) =
 counted : (o : Option ℕ) (version n k : ℕ) (stale room : Bool) → is_old o version ≡ stale → nat_lt n k ≡ room
     → (n - k) + one_if (is_old (cond (stale && room) (Some version) o) version) ≡ (n + one_if stale) - k
 counted o version n k true true old lt =
-    let low = lt_true n k lt in
+    let low = ltb-true n k lt in
     let sums : (n - k) + 0 ≡ (n + 1) - k = omega (arith, low) in
-    ap (λ b. (n - k) + one_if (not b)) (same version) ∙ sums
+    ap (λ b. (n - k) + one_if (not b)) (eq-eqb version version refl) ∙ sums
 counted o version n k true false old lt =
-    let high = lt_false n k lt in
+    let high = ltb-false n k lt in
     let sums : (n - k) + 1 ≡ (n + 1) - k = omega (arith, high) in
     ap (λ b. (n - k) + one_if b) old ∙ sums
 counted o version n k false room old lt =

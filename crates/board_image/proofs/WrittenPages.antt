@@ -11,7 +11,7 @@ use Rattle.i8080_words.specs.declared.refusal.Fault.TheVariants.{Spent}
 use Rattle.event_callbacks.specs.declared.operations.Operation.{Operation}
 use Rattle.guest_lockstep.specs.Pages.{every_page, is_written, stale_after, state_after}
 use Rattle.guest_lockstep.specs.Running.{Quiet, Begin, More}
-use Rattle.guest_lockstep.proofs.WrittenPages.{leads, or_all, or_none}
+use Rattle.guest_lockstep.proofs.WrittenPages.{leads, or_all}
 use Rattle.guest_memory.specs.Pages.{page_of, raised}
 use Rattle.guest_memory.specs.declared.memory.TheConstants.{PAGES}
 use Rattle.guest_parts.specs.Board.{IsBoard, OnBoard}
@@ -25,15 +25,12 @@ use Rattle.guest_board.specs.declared.executed.Executed.TheVariants.{Ran}
 use Rattle.guest_board.proofs.Stepping.{not_spent}
 use Rattle.guest_board.proofs.Steps.{board_next}
 use Rattle.std.specs.Prelude.{Ok}
+use Rattle.std.proofs.Math.Bool.{and-false, and-true, or-false, or-true}
 use Rattle.clone_state.specs.Stale.{AreCopied, is_lowest}
 use Rattle.board_image.specs.DraftedBoard.{stale_with}
 use Rattle.board_image.specs.Drafts.{Drafted, HasRoom, IsFreshened, KeepsUp, copied_at, is_next, is_old, is_stale, nothing_copied, stale_in, version_of}
 use Rattle.board_image.proofs.KeepingUp.{later, none_at}
 use Rattle.board_image.proofs.LaterPages.{access_little, access_long, few, steps_later, up}
-
-or_so : (b : Bool) → (b || true) ≡ true
-or_so true = refl
-or_so false = refl
 
 -- ---- the versions after accesses
 
@@ -124,9 +121,9 @@ is_old_after None v w wrote past rose same = refl
 is_old_after (Some c) v w true past rose same =
     let before : c ≤ v = past c refl in
     let higher : v < w = rose refl in
-    ap not (ne_eqb c w (λ e. omega (arith, before, higher, e))) ∙ sym (or_so (not (c == v)))
+    ap not (ne_eqb c w (λ e. omega (arith, before, higher, e))) ∙ sym (or-true (not (c == v)))
 is_old_after (Some c) v w false past rose same =
-    ap (λ n. not (c == n)) (same refl) ∙ sym (or_none (not (c == v)))
+    ap (λ n. not (c == n)) (same refl) ∙ sym (or-false (not (c == v)))
 
 abbrev on : Guest → List ℕ → OnBoard
 on g versions = record { guest = g; versions = versions }
@@ -185,7 +182,7 @@ beside draft g from n t room stands long keeps Begin = record {
   board = stands;
   long = long;
   keeps = keeps;
-  stale = λ page. sym (or_none (is_stale draft (on g from) page));
+  stale = λ page. sym (or-false (is_stale draft (on g from) page));
 }
 beside draft g from n t room stands long keeps (More {n = m} {t = h} q allowed made) =
     let vs : List ℕ = versions_over g from m in
@@ -231,17 +228,6 @@ pub stale_kept : (draft : Option Drafted) (old new : OnBoard) → new.versions �
 stale_kept None old new same = refl
 stale_kept (Some draft) old new same = λ x page. (ap (λ (vs : List ℕ). is_old (copied_at draft page) (slice_index vs page)) same) x
 
-nothing_left : (b : Bool) → (b && false) ≡ false
-nothing_left true = refl
-nothing_left false = refl
-
-all_left : (b : Bool) → (b && true) ≡ b
-all_left true = refl
-all_left false = refl
-
-same_version : (n : ℕ) → (n == n) ≡ true
-same_version n = eq-eqb n n refl
-
 pub copies_lowest : (k : ℕ) (board : OnBoard) (old new : Drafted) → IsFreshened k board old new
     → AreCopied k (stale_in old board) (stale_in new board)
 copies_lowest k board old new is page inside = go (is_next k old board page) refl
@@ -251,12 +237,12 @@ copies_lowest k board old new is page inside = go (is_next k old board page) ref
     go true next =
         ap (λ (o : Option ℕ). is_old o (version_of board page)) (is.versions page inside)
         ∙ ap (λ b. is_old (cond b (Some (version_of board page)) (copied_at old page)) (version_of board page)) next
-        ∙ ap not (same_version (version_of board page))
-        ∙ sym (ap (λ b. is_stale old board page && not b) next ∙ nothing_left (is_stale old board page))
+        ∙ ap not (eq-eqb (version_of board page) (version_of board page) refl)
+        ∙ sym (ap (λ b. is_stale old board page && not b) next ∙ and-false (is_stale old board page))
     go false next =
         ap (λ (o : Option ℕ). is_old o (version_of board page)) (is.versions page inside)
         ∙ ap (λ b. is_old (cond b (Some (version_of board page)) (copied_at old page)) (version_of board page)) next
-        ∙ sym (ap (λ b. is_stale old board page && not b) next ∙ all_left (is_stale old board page))
+        ∙ sym (ap (λ b. is_stale old board page && not b) next ∙ and-true (is_stale old board page))
 
 -- of a new draft every page is stale
 pub nothing_is_copied : (board : OnBoard) → stale_in nothing_copied board ≡ every_page

@@ -1,10 +1,9 @@
 -- The tests of a controller are those of every controller: each test decides its fact.
-use Rattle.std.proofs.Common.{◌≡◌, ℕ, suc, ◌<◌, ◌≤◌, Bool, true, false, not, List, [], ◌∷◌, length, drop, Option, Some, None, refl, ap, ◌∙◌, arith}
-use Rattle.std.specs.Prelude.{All, AllPairs, IfSome, ◌==◌, ◌&&◌, nat_lt, nat_le}
+use Rattle.std.proofs.Common.{◌≡◌, ℕ, suc, ◌<◌, Bool, true, not, List, [], ◌∷◌, length, drop, Option, Some, None, refl, ap, ◌∙◌, arith}
+use Rattle.std.specs.Prelude.{All, AllPairs, IfSome, ◌==◌, nat_lt, nat_le}
 use Rattle.std.specs.List.{list_all}
 use Rattle.std.specs.Option.{option_map_or}
-use Rattle.std.proofs.lemmas.Bool.{eqb-true, ltb-true, and_parts}
-use Rattle.std.proofs.lemmas.Bool.Decides.{nat_tests}
+use Rattle.std.proofs.lemmas.Bool.{eqb-true, ltb-true, and_parts, and_from, le-leb, lt-ltb, leb-true, not-true}
 use Rattle.std.proofs.lemmas.List.Elements.{All-cons, All-head, All-tail}
 use Rattle.std.proofs.lemmas.List.Kept.{AllPairs-cons}
 use Rattle.disk_dcdd.specs.Command.{drive_at_boot}
@@ -15,24 +14,11 @@ use Rattle.disk_dcdd.specs.declared.drive.TheConstants.{TRACKS}
 
 -- ---- tests
 
-pub both_true : (a b : Bool) → a ≡ true → b ≡ true → (a && b) ≡ true
-both_true true b e f = f
-both_true false b e f = absurd cc
-
-pub at_most : (a b : ℕ) → a ≤ b → nat_le a b ≡ true
-at_most a b few = grind (arith, nat_tests)
-
-pub strictly : (a b : ℕ) → a < b → nat_lt a b ≡ true
-strictly a b less = grind (arith, nat_tests)
-
-pub is_at_most : (a b : ℕ) → nat_le a b ≡ true → a ≤ b
-is_at_most a b e = grind (arith, nat_tests)
-
 list_passes : {A : Type 0} (test : A → Bool) (P : A → Type 0) → ((x : A) → P x → test x ≡ true) → (xs : List A)
     → All P xs → list_all test xs ≡ true
 list_passes test P f [] h = refl
 list_passes test P f (x ∷ xs) h =
-    both_true (test x) (list_all test xs) (f x (All-head P x xs h)) (list_passes test P f xs (All-tail P x xs h))
+    and_from (test x) (list_all test xs) (f x (All-head P x xs h)) (list_passes test P f xs (All-tail P x xs h))
 
 list_holds : {A : Type 0} (test : A → Bool) (P : A → Type 0) → ((x : A) → test x ≡ true → P x) → (xs : List A)
     → list_all test xs ≡ true → All P xs
@@ -45,7 +31,7 @@ list_holds test P f (x ∷ xs) e =
 
 drive_passes : (ds : List Drive) → All (λ drive. drive.track < TRACKS) ds → list_all is_on_track ds ≡ true
 drive_passes ds h =
-    list_passes is_on_track (λ (drive : Drive). drive.track < TRACKS) (λ drive less. strictly drive.track TRACKS less) ds h
+    list_passes is_on_track (λ (drive : Drive). drive.track < TRACKS) (λ drive less. lt-ltb drive.track TRACKS less) ds h
 
 boot_passes : (ds : List Drive) → All (λ drive. drive ≡ drive_at_boot) ds → list_all is_at_boot ds ≡ true
 boot_passes ds h =
@@ -54,16 +40,16 @@ boot_passes ds h =
 filled_passes : (o : Option ℕ) → IfSome o (λ filled. filled < SECTOR_BYTES)
     → option_map_or (λ filled. nat_lt filled SECTOR_BYTES) o true ≡ true
 filled_passes None h = refl
-filled_passes (Some n) h = strictly n SECTOR_BYTES h
+filled_passes (Some n) h = lt-ltb n SECTOR_BYTES h
 
 head_passes : (d : Drives) (s : CurrentSector) → IsUnderHead d s → may_be_under_head d s ≡ true
 head_passes d s h =
-    both_true _ (not (is_sector_busy d s.sector))
-    (both_true _ (option_map_or (λ filled. nat_lt filled SECTOR_BYTES) s.filled true)
-    (both_true _ (nat_lt s.read SECTOR_BYTES)
-    (both_true (is_head_loaded d) (nat_lt s.sector SECTORS) h.head
-    (strictly s.sector SECTORS h.sector))
-    (strictly s.read SECTOR_BYTES h.unfinished.read))
+    and_from _ (not (is_sector_busy d s.sector))
+    (and_from _ (option_map_or (λ filled. nat_lt filled SECTOR_BYTES) s.filled true)
+    (and_from _ (nat_lt s.read SECTOR_BYTES)
+    (and_from (is_head_loaded d) (nat_lt s.sector SECTORS) h.head
+    (lt-ltb s.sector SECTORS h.sector))
+    (lt-ltb s.read SECTOR_BYTES h.unfinished.read))
     (filled_passes s.filled h.unfinished.filled))
     (ap not h.idle)
 
@@ -75,20 +61,20 @@ current_passes d (Some s) h = head_passes d s h
 selected_passes : (attached : ℕ) (o : Option ℕ) → IfSome o (λ drive. drive < attached)
     → option_map_or (λ drive. nat_lt drive attached) o true ≡ true
 selected_passes attached None h = refl
-selected_passes attached (Some n) h = strictly n attached h
+selected_passes attached (Some n) h = lt-ltb n attached h
 
 issued_passes : (d : Drives) (place : Place) → IsIssued d.attached d.issued place → is_issued d place ≡ true
 issued_passes d place h =
-    both_true _ (nat_lt place.sector SECTORS)
-    (both_true _ (nat_lt place.track TRACKS)
-    (both_true _ (nat_lt place.drive d.attached)
-    (both_true (nat_le 1 place.number) (nat_le place.number d.issued) (at_most 1 place.number h.first)
-    (at_most place.number d.issued h.last)) (strictly place.drive d.attached h.drive))
-    (strictly place.track TRACKS h.track)) (strictly place.sector SECTORS h.sector)
+    and_from _ (nat_lt place.sector SECTORS)
+    (and_from _ (nat_lt place.track TRACKS)
+    (and_from _ (nat_lt place.drive d.attached)
+    (and_from (nat_le 1 place.number) (nat_le place.number d.issued) (le-leb 1 place.number h.first)
+    (le-leb place.number d.issued h.last)) (lt-ltb place.drive d.attached h.drive))
+    (lt-ltb place.track TRACKS h.track)) (lt-ltb place.sector SECTORS h.sector)
 
 follow_passes : (earlier later : Place) → Follows earlier later → may_follow earlier later ≡ true
 follow_passes earlier later h =
-    both_true (nat_lt earlier.number later.number) _ (strictly earlier.number later.number h.number)
+    and_from (nat_lt earlier.number later.number) _ (lt-ltb earlier.number later.number h.number)
     (ap not h.elsewhere)
 
 pairs_head : (x : Place) (xs : List Place) → AllPairs Follows (x ∷ xs) → All (Follows x) xs
@@ -100,42 +86,38 @@ pairs_tail x xs h = λ i j d less inside. h (suc i) (suc j) d (omega (arith, les
 order_passes : (places : List Place) → AllPairs Follows places → are_in_order places ≡ true
 order_passes [] h = refl
 order_passes (place ∷ places) h =
-    both_true (list_all (may_follow place) places) (are_in_order places)
+    and_from (list_all (may_follow place) places) (are_in_order places)
     (list_passes (may_follow place) (Follows place) (follow_passes place) places (pairs_head place places h))
     (order_passes places (pairs_tail place places h))
 
 pub controller_passes : (d : Drives) → IsDrives d → is_controller d ≡ true
 unfolding is_controller
 controller_passes d h =
-    both_true _ (nat_le d.issued GREATEST_NUMBER)
-    (both_true _ (are_outstanding d)
-    (both_true _ (has_current d)
-    (both_true _ (are_drives d)
-    (both_true (has_drives d.attached) (selects_attached d)
-    (both_true (nat_le 1 d.attached) (nat_le d.attached DRIVES) (at_most 1 d.attached h.some)
-    (at_most d.attached DRIVES h.few))
+    and_from _ (nat_le d.issued GREATEST_NUMBER)
+    (and_from _ (are_outstanding d)
+    (and_from _ (has_current d)
+    (and_from _ (are_drives d)
+    (and_from (has_drives d.attached) (selects_attached d)
+    (and_from (nat_le 1 d.attached) (nat_le d.attached DRIVES) (le-leb 1 d.attached h.some)
+    (le-leb d.attached DRIVES h.few))
     (selected_passes d.attached d.selected h.selected))
-    (both_true (list_all is_on_track d.drives) (list_all is_at_boot (drop d.attached d.drives))
+    (and_from (list_all is_on_track d.drives) (list_all is_at_boot (drop d.attached d.drives))
     (drive_passes d.drives h.drives.tracks) (boot_passes (drop d.attached d.drives) h.drives.unattached)))
     (current_passes d d.current h.current))
-    (both_true _ (are_in_order d.outstanding)
-    (both_true (nat_le (length d.outstanding) OUTSTANDING) (list_all (is_issued d) d.outstanding)
-    (at_most (length d.outstanding) OUTSTANDING h.outstanding.few)
+    (and_from _ (are_in_order d.outstanding)
+    (and_from (nat_le (length d.outstanding) OUTSTANDING) (list_all (is_issued d) d.outstanding)
+    (le-leb (length d.outstanding) OUTSTANDING h.outstanding.few)
     (list_passes (is_issued d) (IsIssued d.attached d.issued) (issued_passes d) d.outstanding h.outstanding.each))
     (order_passes d.outstanding h.outstanding.order)))
-    (at_most d.issued GREATEST_NUMBER h.issued)
+    (le-leb d.issued GREATEST_NUMBER h.issued)
 
 -- ---- what passes the tests is a controller
-
-is_not : (b : Bool) → not b ≡ true → b ≡ false
-is_not true e = absurd cc
-is_not false e = refl
 
 boot_holds : (drive : Drive) → is_at_boot drive ≡ true → drive ≡ drive_at_boot
 boot_holds drive e =
     let two = and_parts (drive.track == 0) (not drive.loaded) e in
     ap (λ t. record drive { track = t }) (eqb-true drive.track 0 two.0)
-    ∙ ap (λ l. record drive_at_boot { loaded = l }) (is_not drive.loaded two.1)
+    ∙ ap (λ l. record drive_at_boot { loaded = l }) (not-true drive.loaded two.1)
 
 filled_holds : (o : Option ℕ) → option_map_or (λ filled. nat_lt filled SECTOR_BYTES) o true ≡ true
     → IfSome o (λ filled. filled < SECTOR_BYTES)
@@ -154,7 +136,7 @@ head_holds d s long e =
       sector = ltb-true s.sector SECTORS f.1;
       bytes = long;
       unfinished = record { read = ltb-true s.read SECTOR_BYTES c.1; filled = filled_holds s.filled b.1 };
-      idle = is_not (is_sector_busy d s.sector) a.1;
+      idle = not-true (is_sector_busy d s.sector) a.1;
     }
 
 current_holds : (d : Drives) (o : Option CurrentSector) → IfSome o (λ s. length s.bytes ≡ SECTOR_BYTES)
@@ -174,8 +156,8 @@ issued_holds d place e =
     let c = and_parts _ (nat_lt place.drive d.attached) b.0 in
     let f = and_parts (nat_le 1 place.number) (nat_le place.number d.issued) c.0 in
     record {
-      first = is_at_most 1 place.number f.0;
-      last = is_at_most place.number d.issued f.1;
+      first = leb-true 1 place.number f.0;
+      last = leb-true place.number d.issued f.1;
       drive = ltb-true place.drive d.attached c.1;
       track = ltb-true place.track TRACKS b.1;
       sector = ltb-true place.sector SECTORS a.1;
@@ -184,7 +166,7 @@ issued_holds d place e =
 follow_holds : (earlier later : Place) → may_follow earlier later ≡ true → Follows earlier later
 follow_holds earlier later e =
     let two = and_parts (nat_lt earlier.number later.number) (not (is_at later.drive later.track later.sector earlier)) e in
-    record { number = ltb-true earlier.number later.number two.0; elsewhere = is_not _ two.1 }
+    record { number = ltb-true earlier.number later.number two.0; elsewhere = not-true _ two.1 }
 
 order_holds : (places : List Place) → are_in_order places ≡ true → AllPairs Follows places
 order_holds [] e = λ i j d less inside. absurd (omega (arith, inside))
@@ -207,8 +189,8 @@ controller_holds d four long e =
     let o = and_parts _ (are_in_order d.outstanding) b.1 in
     let p = and_parts (nat_le (length d.outstanding) OUTSTANDING) (list_all (is_issued d) d.outstanding) o.0 in
     record {
-      some = is_at_most 1 d.attached some.0;
-      few = is_at_most d.attached DRIVES some.1;
+      some = leb-true 1 d.attached some.0;
+      few = leb-true d.attached DRIVES some.1;
       selected = selected_holds d.attached d.selected g.1;
       drives = record {
         count = four;
@@ -219,9 +201,9 @@ controller_holds d four long e =
       };
       current = current_holds d d.current long c.1;
       outstanding = record {
-        few = is_at_most (length d.outstanding) OUTSTANDING p.0;
+        few = leb-true (length d.outstanding) OUTSTANDING p.0;
         each = list_holds (is_issued d) (IsIssued d.attached d.issued) (issued_holds d) d.outstanding p.1;
         order = order_holds d.outstanding o.1;
       };
-      issued = is_at_most d.issued GREATEST_NUMBER a.1;
+      issued = leb-true d.issued GREATEST_NUMBER a.1;
     }

@@ -1,8 +1,9 @@
 -- A guest that may be copied: each field of its image is in its range and passes its test, so the parts make it again.
 use Rattle.std.proofs.Common.{◌≡◌, ℕ, zero, suc, ◌*◌, ◌<◌, ◌≤◌, ◌^◌, Bool, true, List, [], ◌∷◌, ◌++◌, length, take, drop, replicate, Option, Some, None, refl, ap, ◌∙◌, arith}
-use Rattle.std.specs.Prelude.{All, IfSome, slice_index, slice_index_or, nat_le, nat_lt, not, ◌==◌}
+use Rattle.std.specs.Prelude.{All, IfSome, slice_index, slice_index_or, nat_le, nat_lt, not}
 use Rattle.std.specs.List.{list_all, zip}
 use Rattle.std.proofs.lemmas.List.Elements.{All-cons, All-head, All-tail}
+use Rattle.std.proofs.lemmas.Bool.{and_from, eq-eqb, le-leb, lt-ltb}
 use Rattle.serial_2sio.specs.Port as serial
 use Rattle.disk_dcdd.specs.Completion.{is_outstanding}
 use Rattle.clone_state.proofs.Words.{Checkpoint, CurrentSector, Drives, GREATEST_NUMBER, Guest, HasOneByte, IsCopyable, IsIssued, IsUnderHead, Place, SECTOR_BYTES, SectorWrite, are_completed, are_levels, are_zeros, checkpoint_of, first, first_in, guest_in, guest_of, is_controller, is_possible, is_window, later_parts, may_be_completed, may_halt, oldest_of, padded, parts_of, port_stands, spelling_01, window_of, write_at, writes_at}
@@ -15,7 +16,7 @@ use Rattle.event_callbacks.specs.declared.operations.OpId.TheVariants as id
 use Rattle.event_callbacks.specs.declared.operations.Operation.TheVariants as operation
 use Rattle.guest_parts.specs.Board.{AreCompleted, IsHeld}
 use Rattle.log_entry.specs.Numbers.{◌>>=◌}
-use Rattle.clone_state.proofs.Controllers.{at_most, both_true, controller_passes, strictly}
+use Rattle.clone_state.proofs.Controllers.{controller_passes}
 use Rattle.clone_state.proofs.First.{AreNumbers, IsFirst, IsPortImage, first_in_again, first_in_again_01}
 use Rattle.clone_state.proofs.Devices.{HasOne, IsCurrent, IsWrite}
 use Rattle.clone_state.proofs.Lists.{map_length}
@@ -101,7 +102,7 @@ zeros_after (suc n) (suc m) (x ∷ xs) e = more n m (suc m) xs (omega (arith, e)
 padded_window : (n : ℕ) (xs : List ℕ) → length xs ≡ n → n ≤ serial.window → is_window n (padded xs) ≡ true
 unfolding padded
 padded_window n xs e few =
-    both_true (nat_le n serial.window) _ (at_most n serial.window few) (zeros_after n serial.window xs e)
+    and_from (nat_le n serial.window) _ (le-leb n serial.window few) (zeros_after n serial.window xs e)
 
 two_images : (ports : List serial.Port) (xs ys : List ℕ) → length ports ≡ 2
     → IsPortImage (slice_index_or ports 0 serial.at_boot, xs) → IsPortImage (slice_index_or ports 1 serial.at_boot, ys)
@@ -125,41 +126,38 @@ port_image g port few =
 
 all_pass : (p : ℕ → Bool) (xs : List ℕ) → ((k : ℕ) → p (slice_index xs k) ≡ true) → list_all p xs ≡ true
 all_pass p [] each = refl
-all_pass p (x ∷ xs) each = both_true (p x) (list_all p xs) (each 0) (all_pass p xs (λ k. each (suc k)))
+all_pass p (x ∷ xs) each = and_from (p x) (list_all p xs) (each 0) (all_pass p xs (λ k. each (suc k)))
 
 port_passes : (d : Devices) (issued keys : List ℕ) (port : ℕ) → (port_of d port).unaccepted ≤ slice_index issued port
     → slice_index issued port ≤ GREATEST_NUMBER → slice_index keys port ≤ GREATEST_NUMBER
     → port_stands d issued keys port ≡ true
 port_passes d issued keys port sent few rare =
-    both_true _ (nat_le (slice_index keys port) GREATEST_NUMBER)
-    (both_true (nat_le (port_of d port).unaccepted (slice_index issued port))
-    (nat_le (slice_index issued port) GREATEST_NUMBER) (at_most _ _ sent) (at_most _ _ few)) (at_most _ _ rare)
+    and_from _ (nat_le (slice_index keys port) GREATEST_NUMBER)
+    (and_from (nat_le (port_of d port).unaccepted (slice_index issued port))
+    (nat_le (slice_index issued port) GREATEST_NUMBER) (le-leb _ _ sent) (le-leb _ _ few)) (le-leb _ _ rare)
 
 possible : (g : Guest) → IsCopyable g → is_possible (checkpoint_of g).first ≡ true
 unfolding is_possible
 possible g h =
     let a = h.board.awaited in
     let r = h.board.in_range in
-    both_true _ (is_controller g.devices.disk)
-    (both_true _ (port_stands g.devices g.issued g.keys 1)
-    (both_true _ (port_stands g.devices g.issued g.keys 0)
-    (both_true (may_halt g.processor) (are_levels g.levels) h.awake
-    (all_pass (λ level. nat_lt level 8) g.levels (λ k. strictly (slice_index g.levels k) 8 (r.levels k))))
+    and_from _ (is_controller g.devices.disk)
+    (and_from _ (port_stands g.devices g.issued g.keys 1)
+    (and_from _ (port_stands g.devices g.issued g.keys 0)
+    (and_from (may_halt g.processor) (are_levels g.levels) h.awake
+    (all_pass (λ level. nat_lt level 8) g.levels (λ k. lt-ltb (slice_index g.levels k) 8 (r.levels k))))
     (port_passes g.devices g.issued g.keys 0 (a.sent 0) (r.issued 0) (r.keys 0)))
     (port_passes g.devices g.issued g.keys 1 (a.sent 1) (r.issued 1) (r.keys 1)))
     (controller_passes g.devices.disk h.disk)
 
-same_number : (n m : ℕ) → n ≡ m → (n == m) ≡ true
-same_number n m e = grind (arith, e)
-
 completed_pass : (disk : Drives) (completed : List ℕ) → AreCompleted completed disk
     → are_completed disk completed ≡ true
 completed_pass disk completed h =
-    both_true _ (list_all (may_be_completed disk) completed)
-    (same_number (length completed) (disk.attached * DRIVE_SECTORS) h.sectors)
+    and_from _ (list_all (may_be_completed disk) completed)
+    (eq-eqb (length completed) (disk.attached * DRIVE_SECTORS) h.sectors)
     (all_pass (may_be_completed disk) completed (λ k.
-    both_true (nat_le (slice_index completed k) disk.issued) (not (is_outstanding disk (slice_index completed k)))
-    (at_most (slice_index completed k) disk.issued (h.last k)) (ap not (h.done k))))
+    and_from (nat_le (slice_index completed k) disk.issued) (not (is_outstanding disk (slice_index completed k)))
+    (le-leb (slice_index completed k) disk.issued (h.last k)) (ap not (h.done k))))
 
 -- ---- all together
 
@@ -186,7 +184,7 @@ first_is g h =
       drives = h.disk.drives.count;
       current = current_whole d d.current h.disk.current;
       writes = writes_whole d g.operations d.outstanding h.writes a.places h.disk.outstanding.each few;
-      few = at_most (length (writes_at g.operations d.outstanding)) OUTSTANDING
+      few = le-leb (length (writes_at g.operations d.outstanding)) OUTSTANDING
           (let few_places = h.disk.outstanding.few in
           let long = map_length (λ place. write_at place (operation_at g.operations (id.Write place.number))) d.outstanding in
           omega (arith, few_places, long));

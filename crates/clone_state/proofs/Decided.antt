@@ -1,9 +1,9 @@
 -- Whether a board can have what is read: the controller that is rebuilt, and the tests of all the fields.
 use Rattle.std.proofs.Common.{◌≡◌, ℕ, Bool, true, false, cond, List, length, map, Some, None, refl, sym, ap, subst, ◌∙◌}
-use Rattle.std.specs.Prelude.{◌&&◌, ◌↔◌, IfOk, IsOk, Result, Ok, Err}
+use Rattle.std.specs.Prelude.{◌↔◌, IfOk, IsOk, Result, Ok, Err}
 use Rattle.std.specs.List.{zip}
 use Rattle.std.specs.Result.{result_ok}
-use Rattle.std.proofs.lemmas.Bool.{false≢true}
+use Rattle.std.proofs.lemmas.Bool.{and_right, false≢true}
 use Rattle.std.proofs.lemmas.Option.{none-some, same_Some}
 use Rattle.clone_state.proofs.Words.{Drives, Fault, FirstImage, FirstPart, HasSizes, IsDrives, Place, PortImage, controller_of, controller_with, fields_of, first_of_image, if_possible, is_controller, is_possible}
 use Rattle.serial_2sio.specs.Port as serial
@@ -50,13 +50,9 @@ passed f b is e = ap (λ c. cond c (Some f) None) (sym is ∙ e)
 pub refused : (f : FirstPart) (b : Bool) → b ≡ is_possible f → b ≡ false → if_possible f ≡ None
 refused f b is e = ap (λ c. cond c (Some f) None) (sym is ∙ e)
 
-last_fails : (a b : Bool) → b ≡ false → (a && b) ≡ false
-last_fails true b e = e
-last_fails false b e = refl
-
 pub no_controller : (f : FirstPart) → is_controller f.devices.disk ≡ false → if_possible f ≡ None
 unfolding is_possible
-no_controller f e = ap (λ b. cond b (Some f) None) (last_fails _ (is_controller f.devices.disk) e)
+no_controller f e = ap (λ b. cond b (Some f) None) (and_right _ (is_controller f.devices.disk) e)
 
 -- a part with these ports and windows
 abbrev with_ports : FirstPart → List serial.Port → List (List ℕ) → FirstPart

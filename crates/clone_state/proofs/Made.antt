@@ -3,19 +3,18 @@ use Rattle.std.proofs.Common.{◌≡◌, ◌≢◌, ℕ, zero, suc, ◌+◌, ◌
 use Rattle.std.specs.Prelude.{All, IsTrue, ◌==◌, ◌&&◌, unwrap_or}
 use Rattle.std.specs.List.{list_all}
 use Rattle.std.specs.Option.{option_map_or}
-use Rattle.std.proofs.lemmas.Bool.{and_parts, eq-eqb, eqb-true, ne_eqb, ltb-true, ltb-false, false≢true}
+use Rattle.std.proofs.lemmas.Bool.{and_parts, eq-eqb, eqb-true, ne_eqb, ltb-true, ltb-false, false≢true, and_from}
 use Rattle.std.proofs.Math.Dec.{eqb-suc-zero}
 use Rattle.std.proofs.Math.Seq.{take-length}
 use Rattle.std.proofs.lemmas.List.{length-map, take_more}
-use Rattle.std.proofs.lemmas.List.Elements.{All-cons, All-head, All-tail}
+use Rattle.std.proofs.lemmas.List.Elements.{All-cons, All-head, All-tail, All-take}
 use Rattle.std.proofs.lemmas.Option.{none-some, same_Some}
 use Rattle.clone_state.proofs.Words.{Checkpoint, Drives, FirstPart, IsPage, Slots, admitted, bytes, bytes_in, checkpoint_in, first_in, first_read, fit_slots, fits_together, fitting, gathered, guest_in, guest_of, is_page, may_be_completed, number, numbers_at, numbers_in, page, read_all, read_each, read_joined, read_parts, slots_of, table, table_count, times}
 use Rattle.log_entry.specs.Numbers.{◌>>=◌}
 use Rattle.clone_state.specs.Slots.{bytes_at}
 use Rattle.clone_state.proofs.Codecs.{all_again}
 use Rattle.clone_state.proofs.Collecting.{read_count}
-use Rattle.clone_state.proofs.Controllers.{both_true}
-use Rattle.clone_state.proofs.PartLaws.{all_front, page_again}
+use Rattle.clone_state.proofs.PartLaws.{page_again}
 
 -- ---- one slot more
 
@@ -189,7 +188,7 @@ tables_read disk (p ∷ ps) h =
           ∙ ap (λ (xs : List ℕ). Some xs) (sym same);
       pass = ap (λ (xs : List ℕ). list_all (may_be_completed disk) xs) same
           ∙ all_joined (may_be_completed disk) t.xs (numbers_in (map Some ps))
-          ∙ both_true (list_all (may_be_completed disk) t.xs)
+          ∙ and_from (list_all (may_be_completed disk) t.xs)
           (list_all (may_be_completed disk) (numbers_in (map Some ps))) t.pass more.pass;
       long = ap (λ (xs : List ℕ). length xs) same ∙ omega arith;
     }
@@ -273,7 +272,7 @@ reads_parts drives first rest f count long read =
     read_joined table (drop 256 rest) >>= λ completed. fitting (says_of f memory completed)) read
     ∙ ap (λ (o : Option (List ℕ)). o >>= λ memory. read_joined table (drop 256 rest) >>= λ completed.
     fitting (says_of f memory completed))
-    (pages_read (take 256 rest) (all_front (λ (q : List ℕ). length q ≡ 256) 256 rest long))
+    (pages_read (take 256 rest) (All-take (λ (q : List ℕ). length q ≡ 256) 256 rest long))
 
 -- ---- what a machine of these parts is
 
@@ -305,7 +304,7 @@ parts_make drives first later parts f e are read same fits =
     let memory = bytes_in (map Some (take 256 rest)) in
     let completed = numbers_in (map Some (drop 256 rest)) in
     let together : fits_together (says_of f memory completed) ≡ true =
-    both_true _ (list_all (may_be_completed f.devices.disk) completed)
+    and_from _ (list_all (may_be_completed f.devices.disk) completed)
     (numbers_long drives f.devices.disk rest count same t.long) t.pass in
     let numbers : numbers_in (drop 256 later) ≡ completed = ap numbers_in tables in
     let c : says_of f memory completed ≡ says f later =

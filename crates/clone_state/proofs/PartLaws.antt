@@ -2,8 +2,9 @@
 use Rattle.std.proofs.Common.{◌≡◌, ℕ, zero, suc, ◌+◌, ◌*◌, ◌<◌, ◌^◌, Bool, true, false, cond, eqb, List, [], ◌∷◌, ◌++◌, length, take, drop, map, Option, Some, None, inl, inr, refl, sym, ap, subst, ◌∙◌, length-append, length-take-le, take-append-drop, arith}
 use Rattle.std.specs.Prelude.{All}
 use Rattle.std.proofs.lemmas.Bool.{eqb-true}
-use Rattle.std.proofs.lemmas.List.Elements.{All-cons, All-head, All-tail}
+use Rattle.std.proofs.lemmas.List.Elements.{All-cons, All-drop, All-head, All-tail, All-take}
 use Rattle.std.proofs.lemmas.Option.{same_Some, none-some}
+use Rattle.std.proofs.lemmas.List.{nil_from_length}
 use Rattle.clone_state.proofs.Words.{Again, AreRead, Checkpoint, Codec, FirstPart, IsBytes, admitted, checkpoint_in, first, first_in, first_read, fits_together, fitting, later_parts, number, page, part_count, parts_of, pieces, read_all, read_joined, read_parts, spelling_01, table, table_count}
 use Rattle.log_entry.specs.Numbers.{◌>>=◌}
 use Rattle.clone_state.proofs.Codecs.{bytes_again, numbers_again, times_again, all_again, take_front, drop_front}
@@ -23,33 +24,18 @@ drop_length zero xs m e = omega (arith, e)
 drop_length (suc n) [] m e = absurd (omega (arith, e))
 drop_length (suc n) (x ∷ xs) m e = drop_length n xs m (omega (arith, e))
 
-no_elements : {A : Type 0} (xs : List A) → length xs ≡ 0 → xs ≡ []
-no_elements [] e = refl
-no_elements (x ∷ xs) e = absurd (omega (arith, e))
-
-pub all_front : {A : Type 0} (P : A → Type 0) (n : ℕ) (xs : List A) → All P xs → All P (take n xs)
-all_front P zero xs h = λ k x inside. absurd (omega (arith, inside))
-all_front P (suc n) [] h = h
-all_front P (suc n) (x ∷ xs) h =
-    All-cons P x (take n xs) (All-head P x xs h) (all_front P n xs (All-tail P x xs h))
-
-pub all_behind : {A : Type 0} (P : A → Type 0) (n : ℕ) (xs : List A) → All P xs → All P (drop n xs)
-all_behind P zero xs h = h
-all_behind P (suc n) [] h = h
-all_behind P (suc n) (x ∷ xs) h = all_behind P n xs (All-tail P x xs h)
-
 -- a list in pieces is read again, if each piece is
 joined_again : (c : Codec (List ℕ)) (n : ℕ) (P : ℕ → Type 0)
     → ((ys : List ℕ) → length ys ≡ n → All P ys → Again c ys)
     → (k : ℕ) (xs : List ℕ) → length xs ≡ k * n → All P xs → read_joined c (map c.spell (pieces k n xs)) ≡ Some xs
-joined_again c n P each zero xs e h = ap (λ ys. Some ys) (sym (no_elements xs (omega (arith, e))))
+joined_again c n P each zero xs e h = ap (λ ys. Some ys) (sym (nil_from_length xs (omega (arith, e))))
 joined_again c n P each (suc k) xs e h =
     let f : length xs ≡ n + k * n = e ∙ omega arith in
     let front : length (take n xs) ≡ n = length-take-le n xs (omega (arith, f)) in
     ap (λ (o : Option (List ℕ)). o >>= λ ys. read_joined c (map c.spell (pieces k n (drop n xs)))
-    >>= λ rest. Some (ys ++ rest)) (all_again c (take n xs) (each (take n xs) front (all_front P n xs h)))
+    >>= λ rest. Some (ys ++ rest)) (all_again c (take n xs) (each (take n xs) front (All-take P n xs h)))
     ∙ ap (λ (o : Option (List ℕ)). o >>= λ rest. Some (take n xs ++ rest))
-    (joined_again c n P each k (drop n xs) (drop_length n xs (k * n) f) (all_behind P n xs h))
+    (joined_again c n P each k (drop n xs) (drop_length n xs (k * n) f) (All-drop P n xs h))
     ∙ ap (λ ys. Some ys) (take-append-drop n xs)
 
 -- parts of which each is read as a piece are the pieces of the list

@@ -1,13 +1,12 @@
 -- How many bytes a value that is read takes: no fewer and no more than these.
 use Rattle.std.proofs.Common.{◌≡◌, ℕ, zero, suc, ◌+◌, ◌*◌, ◌^◌, ◌<◌, ◌≤◌, Bool, true, false, cond, ltb, eqb, List, [], ◌∷◌, length, take, drop, Option, Some, None, refl, ap, subst, length-drop, arith}
 use Rattle.std.specs.Int.{w64, from_be_bytes}
-use Rattle.std.proofs.lemmas.Bool.{eqb-true}
+use Rattle.std.proofs.lemmas.Bool.{eqb-true, leb-true}
 use Rattle.std.proofs.lemmas.Bool.Decides.{nat_tests}
 use Rattle.std.proofs.lemmas.Option.{none-some, same_Some}
 use Rattle.clone_state.proofs.Words.{Codec, FirstPart, PortImage, SectorWrite, admitted, are_few, both, by, byte_at, bytes, controller, counted, current, devices, drives, fields, first, first_in, first_read, flags, interrupts, is_possible, limited, maybe, number, number_from, of_drives, one, only, port, port_01, processor, read_all, read_each, receiver, registers, table, times, truth, two_numbers, versioned, word, write, writes}
 use Rattle.log_entry.specs.Numbers.{◌>>=◌}
 use Rattle.clone_state.proofs.Collecting.{read_count}
-use Rattle.clone_state.proofs.Controllers.{is_at_most}
 
 record Takes {A : Type 0} (c : Codec A) (low high : ℕ) : Type 0 where
   least : (bytes : List ℕ) (r : A × List ℕ) → c.read bytes ≡ Some r → low + length r.1 ≤ length bytes
@@ -213,7 +212,7 @@ writes_rest xs r e =
     let a = admitted (are_few x.0.0) x.0 r x.2 in
     let b = first_read (byte_at xs) (λ b. read_each write b.0 b.1) x.0 x.1 in
     let all : length x.0.0 ≡ b.0.0 = read_count write b.0.0 b.0.1 x.0 b.2 in
-    let few : length x.0.0 ≤ 8 = is_at_most (length x.0.0) 8 a.0 in
+    let few : length x.0.0 ≤ 8 = leb-true (length x.0.0) 8 a.0 in
     let rest : length x.0.1 ≡ length r.1 = ap (λ (q : List SectorWrite × List ℕ). length q.1) a.1 in
     let front = byte_front xs b.0 b.1 in
     let each = each_rest write 148 write_takes b.0.0 b.0.1 x.0 b.2 in

@@ -9,12 +9,6 @@ use Rattle.pair_events.specs.declared.event.Event.TheVariants as event
 use Rattle.ft_world.specs.declared.host.Host.TheVariants as host
 use Rattle.ft_world.proofs.AtNodes.{set_cases}
 
--- a place that has something is within the list
-pub within : {A : Type 0} (xs : List A) (n : ℕ) (x : A) → slice_get xs n ≡ Some x → n < length xs
-within [] n x e = (cc)
-within (y ∷ xs) zero x e = omega arith
-within (y ∷ xs) (suc n) x e = let rest = within xs n x e in omega (arith, rest)
-
 -- what is taken out and put back has replaced it
 pub put_in_place : {A : Type 0} (xs : List A) (n : ℕ) (y : A) → n < length xs
     → insert (remove xs n) n y ≡ slice_set xs n y

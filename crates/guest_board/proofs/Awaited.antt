@@ -9,6 +9,7 @@ use Rattle.std.proofs.lemmas.List.{get_or-set_same, get_or-set_other, length-set
 use Rattle.std.proofs.lemmas.List.Elements.{All-append, All-cons, All-head, All-tail, All-filter}
 use Rattle.std.proofs.lemmas.List.Folds.{list_any-append}
 use Rattle.std.proofs.lemmas.Map.Views.{any-filter_same}
+use Rattle.std.proofs.Math.Bool.{or-false, or-true}
 use Rattle.serial_2sio.specs.Port as serial
 use Rattle.disk_dcdd.specs.Drive as drives
 use Rattle.guest_board.proofs.Words.{AreAwaited, Devices, IsHeld, Operation, Operations, PORTS, Place, SectorWrite, after_written, at_boot, id_of, is_on_its_way, is_outstanding, operation_at, place_of, port_of, with_disk, with_operation, with_port, without_operation}
@@ -226,14 +227,6 @@ pub write_is_new : (d : Devices) (operations : Operations) (issued : List ℕ) (
 write_is_new d operations issued n h past =
     no_operation _ (h.writes n ∙ none_past d.disk.outstanding n d.disk.issued h.last past)
 
-or_true : (b : Bool) → (b || true) ≡ true
-or_true true = refl
-or_true false = refl
-
-or_false : (b : Bool) → (b || false) ≡ b
-or_false true = refl
-or_false false = refl
-
 pub awaited-issued : (d : Devices) (operations : Operations) (issued : List ℕ) (w : SectorWrite)
     → AreAwaited d operations issued → w.number ≡ d.disk.issued + 1
     → AreAwaited (with_disk d (drives.after_issue d.disk w)) (with_operation operations (operation.Write w)) issued
@@ -252,12 +245,12 @@ awaited-issued d operations issued w h e =
           ap (λ j. is_some (operation_at later (id.Write j))) (sym f)
           ∙ ap is_some (operation_at-with operations op)
           ∙ sym (list_any-append (λ (place : Place). place.number == n) old (place_of w ∷ [])
-          ∙ ap (λ b. list_any (λ (place : Place). place.number == n) old || (b || false)) t.0 ∙ or_true _))
+          ∙ ap (λ b. list_any (λ (place : Place). place.number == n) old || (b || false)) t.0 ∙ or-true _))
           (λ t. let f : w.number ≢ n = t.1 in
           ap is_some (operation_at-with_other operations op (id.Write n) (other_write n w.number (λ g. f (sym g))))
           ∙ h.writes n
           ∙ sym (list_any-append (λ (place : Place). place.number == n) old (place_of w ∷ [])
-          ∙ ap (λ b. list_any (λ (place : Place). place.number == n) old || (b || false)) t.0 ∙ or_false _))
+          ∙ ap (λ b. list_any (λ (place : Place). place.number == n) old || (b || false)) t.0 ∙ or-false _))
           (eqb_tells w.number n);
       places = All-append (IsHeld later) old (place_of w ∷ [])
           (λ k place inside.

@@ -6,6 +6,7 @@ use Rattle.std.specs.Option.{option_map_or}
 use Rattle.std.proofs.lemmas.Bool.Decides.{eqb_tells, nat_tests}
 use Rattle.std.proofs.lemmas.Grind.{common_steps}
 use Rattle.std.proofs.lemmas.List.{length-set}
+use Rattle.std.proofs.lemmas.Bool.{and_parts}
 use Rattle.serial_2sio.specs.Port as serial
 use Rattle.guest_board.proofs.Words.{AreAwaited, AreCompleted, AreInRange, Devices, GREATEST_NUMBER, Guest, IsBoard, NotDue, Operation, Operations, Outstanding, PORTS, Place, SectorWrite, after_complete, after_rx, done_of, due_byte, id_of, is_due, is_on_its_way, oldest_byte, operation_at, port_of, with_completed, without_operation}
 use Rattle.disk_dcdd.specs.Drive as drives
@@ -55,10 +56,6 @@ sent-less : (due : Bool) (p : serial.Port) → due ≡ true
 sent-less true p e = refl
 sent-less false p e = cc
 
-both_hold : (a b : Bool) → (a && b) ≡ true → (a ≡ true) × (b ≡ true)
-both_hold true b e = (refl, e)
-both_hold false b e = cc
-
 positive : (n : ℕ) → nat_lt 0 n ≡ true → 1 ≤ n
 positive n e = grind (arith, nat_tests)
 
@@ -68,7 +65,7 @@ pub board_sent : (g : Guest) (versions : List ℕ) (p : ℕ) (d : Devices) (oper
     → IsBoard (record g { devices = d; operations = operations }) versions
 board_sent g versions p d operations l due after gone board =
     let x : serial.Port = port_of g.devices p in
-    let waits : serial.is_sent_due x ≡ true = (both_hold (nat_lt p PORTS) (serial.is_sent_due x) due).1 in
+    let waits : serial.is_sent_due x ≡ true = (and_parts (nat_lt p PORTS) (serial.is_sent_due x) due).1 in
     rw (after, gone) (record {
       awaited = awaited-accepted g.devices g.operations g.issued p (serial.after_sent x) l board.awaited
           (positive x.unaccepted waits) (sent-less (serial.is_sent_due x) x waits);
@@ -81,7 +78,7 @@ pub oldest_is_there : (g : Guest) (versions : List ℕ) (p : ℕ) → IsBoard g 
     → is_some (operation_at g.operations (id.Byte p (oldest_byte g p))) ≡ true
 oldest_is_there g versions p board due =
     let x : serial.Port = port_of g.devices p in
-    let both = both_hold (nat_lt p PORTS) (serial.is_sent_due x) due in
+    let both = and_parts (nat_lt p PORTS) (serial.is_sent_due x) due in
     board.awaited.bytes p (oldest_byte g p)
     ∙ ap (λ b. b && is_on_its_way (slice_index g.issued p) x.unaccepted (oldest_byte g p)) both.0
     ∙ oldest (slice_index g.issued p) x.unaccepted (positive x.unaccepted both.1) (board.awaited.sent p)

@@ -1,6 +1,7 @@
 -- The pages that steps write: what steps and then others write is what all of them write.
 use Rattle.std.proofs.Common.{◌≡◌, ℕ, zero, suc, ◌+◌, ◌∙◌, Bool, true, false, refl, sym, ap, arith}
 use Rattle.std.specs.Prelude.{◌||◌}
+use Rattle.std.proofs.Math.Bool.{or-false}
 use Rattle.guest_lockstep.specs.Machine.{Machine}
 use Rattle.guest_lockstep.specs.Pages.{after_step, is_written, stale_after, state_after}
 use Rattle.guest_lockstep.specs.Running.{Quiet, Begin, More}
@@ -10,10 +11,6 @@ pub leads : {S : Type 0} (M : Machine S) (s t : S) (n : ℕ) → Quiet M s n t �
 leads M s t n Begin = refl
 leads M s t n (More {n = m} {t = v} q allowed made) =
     ap (λ x. after_step x (M.step x)) (leads M s v m q) ∙ ap (after_step v) made
-
-pub or_none : (b : Bool) → (b || false) ≡ b
-or_none true = refl
-or_none false = refl
 
 pub or_all : (a b c : Bool) → ((a || b) || c) ≡ (a || (b || c))
 or_all true b c = refl
@@ -31,7 +28,7 @@ written_joined : {S : Type 0} (M : Machine S) (writes : S → ℕ → Bool) (s :
     → is_written M writes s k page ≡ (is_written M writes s n page || is_written M writes (state_after M s n) m page)
 written_joined M writes s n zero k page e =
     ap (λ k. is_written M writes s k page) (let f : k ≡ n = omega (arith, e) in f)
-    ∙ sym (or_none (is_written M writes s n page))
+    ∙ sym (or-false (is_written M writes s n page))
 written_joined M writes s n (suc m) k page e =
     ap (λ k. is_written M writes s k page) (let f : k ≡ suc (n + m) = omega (arith, e) in f)
     ∙ ap (λ b. b || writes (state_after M s (n + m)) page) (written_joined M writes s n m (n + m) page refl)
@@ -56,7 +53,7 @@ stale_joined M writes stale s t n m k e to = λ x page. each page x
 -- nothing is stale that was not, after no step
 pub stale_at_first : {S : Type 0} (M : Machine S) (writes : S → ℕ → Bool) (stale : ℕ → Bool) (s : S)
     → stale ≡ stale_after M writes stale s 0
-stale_at_first M writes stale s = λ x page. sym (or_none (stale page)) x
+stale_at_first M writes stale s = λ x page. sym (or-false (stale page)) x
 
 -- one after another, if each is as it is after the one before
 pub stale_then : {S : Type 0} (M : Machine S) (writes : S → ℕ → Bool) (first mid last : ℕ → Bool) (s t : S) (n m k : ℕ)

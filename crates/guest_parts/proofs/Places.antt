@@ -2,7 +2,7 @@
 -- the places, and are in order of number as the places are.
 use Rattle.std.proofs.Common.{◌≡◌, ◌≢◌, ℕ, zero, suc, ◌+◌, ◌<◌, Bool, true, false, ◌==◌, ◌&&◌, List, [], ◌∷◌, ◌++◌, length, map, take, get_or, refl, sym, ap, subst, ◌∙◌, arith}
 use Rattle.std.specs.Prelude.{slice_index_or, AllPairs}
-use Rattle.std.proofs.lemmas.Bool.{eqb-true}
+use Rattle.std.proofs.lemmas.Bool.{and_parts, eqb-true}
 use Rattle.std.proofs.lemmas.List.{take_more, length-take-le, get_or-map, length-map}
 use Rattle.disk_dcdd.specs.Controller.{Follows}
 use Rattle.disk_dcdd.specs.Sector.{place_of}
@@ -10,18 +10,14 @@ use Rattle.disk_dcdd.specs.declared.sector.Place.{Place}
 use Rattle.disk_dcdd.specs.declared.sector.SectorWrite.{SectorWrite}
 use Rattle.guest_parts.specs.Parts.{Rise, goes_to, go_to}
 
-pub both : (a b : Bool) → (a && b) ≡ true → (a ≡ true) × (b ≡ true)
-both true b e = (refl, e)
-both false b e = cc
-
 -- ---- writes and places
 
 goes_there : (w : SectorWrite) (place : Place) → goes_to w place ≡ true → place_of w ≡ place
 goes_there w place e =
-    let three = both (w.number == place.number && w.drive == place.drive && w.track == place.track)
+    let three = and_parts (w.number == place.number && w.drive == place.drive && w.track == place.track)
     (w.sector == place.sector) e in
-    let two = both (w.number == place.number && w.drive == place.drive) (w.track == place.track) three.0 in
-    let one = both (w.number == place.number) (w.drive == place.drive) two.0 in
+    let two = and_parts (w.number == place.number && w.drive == place.drive) (w.track == place.track) three.0 in
+    let one = and_parts (w.number == place.number) (w.drive == place.drive) two.0 in
     rw (
       eqb-true w.number place.number one.0,
       eqb-true w.drive place.drive one.1,
@@ -35,7 +31,7 @@ go_there [] [] e = refl
 go_there [] (place ∷ places) e = cc
 go_there (w ∷ ws) [] e = cc
 go_there (w ∷ ws) (place ∷ places) e =
-    let h = both (goes_to w place) (go_to ws places) e in
+    let h = and_parts (goes_to w place) (go_to ws places) e in
     ap (λ (x : Place). x ∷ map place_of ws) (goes_there w place h.0)
     ∙ ap (λ (xs : List Place). place ∷ xs) (go_there ws places h.1)
 

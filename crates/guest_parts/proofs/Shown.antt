@@ -4,8 +4,7 @@ use Rattle.std.proofs.Common.{◌≡◌, ℕ, suc, ◌+◌, ◌-◌, ◌*◌, �
 use Rattle.std.specs.Prelude.{nat_lt, nat_le, slice_index, slice_index_or, All}
 use Rattle.std.specs.List.{list_all}
 use Rattle.std.specs.FinMap as finite
-use Rattle.std.proofs.lemmas.Bool.{eq-eqb}
-use Rattle.std.proofs.lemmas.Bool.Decides.{nat_tests}
+use Rattle.std.proofs.lemmas.Bool.{and_from, eq-eqb, le-leb, lt-ltb}
 use Rattle.std.proofs.lemmas.List.{length-take-le, get_or-take}
 use Rattle.std.proofs.lemmas.List.Elements.{All-cons, All-map, All-head, All-tail}
 use Rattle.i8080_words.specs.declared.registers.Processor.{Processor}
@@ -34,27 +33,17 @@ use Rattle.guest_parts.specs.declared.parts.BoardParts.{BoardParts}
 
 -- ---- the tests
 
-both_true : (a b : Bool) → a ≡ true → b ≡ true → (a && b) ≡ true
-both_true true b e f = f
-both_true false b e f = cc
-
-at_most : (a b : ℕ) → a ≤ b → nat_le a b ≡ true
-at_most a b few = grind (arith, nat_tests)
-
-strictly : (a b : ℕ) → a < b → nat_lt a b ≡ true
-strictly a b less = grind (arith, nat_tests)
-
 all_pass : (p : ℕ → Bool) (xs : List ℕ) → ((k : ℕ) → p (slice_index xs k) ≡ true) → list_all p xs ≡ true
 all_pass p [] each = refl
-all_pass p (x ∷ xs) each = both_true (p x) (list_all p xs) (each 0) (all_pass p xs (λ k. each (suc k)))
+all_pass p (x ∷ xs) each = and_from (p x) (list_all p xs) (each 0) (all_pass p xs (λ k. each (suc k)))
 
 go_itself : (ws : List SectorWrite) → go_to ws (map place_of ws) ≡ true
 go_itself [] = refl
 go_itself (w ∷ ws) =
-    both_true (goes_to w (place_of w)) (go_to ws (map place_of ws))
-    (both_true (w.number == w.number && w.drive == w.drive && w.track == w.track) (w.sector == w.sector)
-    (both_true (w.number == w.number && w.drive == w.drive) (w.track == w.track)
-    (both_true (w.number == w.number) (w.drive == w.drive) (eq-eqb w.number w.number refl)
+    and_from (goes_to w (place_of w)) (go_to ws (map place_of ws))
+    (and_from (w.number == w.number && w.drive == w.drive && w.track == w.track) (w.sector == w.sector)
+    (and_from (w.number == w.number && w.drive == w.drive) (w.track == w.track)
+    (and_from (w.number == w.number) (w.drive == w.drive) (eq-eqb w.number w.number refl)
     (eq-eqb w.drive w.drive refl))
     (eq-eqb w.track w.track refl)) (eq-eqb w.sector w.sector refl))
     (go_itself ws)
@@ -62,38 +51,38 @@ go_itself (w ∷ ws) =
 completed_pass : (disk : drives.Drives) (completed : List ℕ) → AreCompleted completed disk
     → are_completed disk completed ≡ true
 completed_pass disk completed h =
-    both_true (length completed == disk.attached * DRIVE_SECTORS) (list_all (may_be_completed disk) completed)
+    and_from (length completed == disk.attached * DRIVE_SECTORS) (list_all (may_be_completed disk) completed)
     (eq-eqb (length completed) (disk.attached * DRIVE_SECTORS) h.sectors)
     (all_pass (may_be_completed disk) completed (λ k.
-    both_true (nat_le (slice_index completed k) disk.issued) (not (is_outstanding disk (slice_index completed k)))
-    (at_most (slice_index completed k) disk.issued (h.last k)) (ap not (h.done k))))
+    and_from (nat_le (slice_index completed k) disk.issued) (not (is_outstanding disk (slice_index completed k)))
+    (le-leb (slice_index completed k) disk.issued (h.last k)) (ap not (h.done k))))
 
 port_passes : (d : Devices) (issued keys : List ℕ) (port : ℕ) → (port_of d port).unaccepted ≤ slice_index issued port
     → slice_index issued port ≤ GREATEST_NUMBER → slice_index keys port ≤ GREATEST_NUMBER
     → port_stands d issued keys port ≡ true
 port_passes d issued keys port sent few rare =
-    both_true (nat_le (port_of d port).unaccepted (slice_index issued port) && nat_le
+    and_from (nat_le (port_of d port).unaccepted (slice_index issued port) && nat_le
     (slice_index issued port) GREATEST_NUMBER)
     (nat_le (slice_index keys port) GREATEST_NUMBER)
-    (both_true (nat_le (port_of d port).unaccepted (slice_index issued port))
+    (and_from (nat_le (port_of d port).unaccepted (slice_index issued port))
     (nat_le (slice_index issued port) GREATEST_NUMBER)
-    (at_most _ _ sent) (at_most _ _ few))
-    (at_most _ _ rare)
+    (le-leb _ _ sent) (le-leb _ _ few))
+    (le-leb _ _ rare)
 
 -- parts from which a board is made pass, if their writes are those of the controller's places
 pub parts_pass : (p : BoardParts) (operations : Operations) (versions : List ℕ)
     → IsBoard (record (guest_of_parts p) { operations = operations }) versions
     → map place_of p.writes.items ≡ p.devices.disk.outstanding → stands p ≡ true
 parts_pass p operations versions board there =
-    both_true _ (are_completed p.devices.disk p.completed.items)
-    (both_true _ (go_to p.writes.items p.devices.disk.outstanding)
-    (both_true _ (are_levels p.levels)
-    (both_true _ (nat_le p.count GREATEST_NUMBER)
-    (both_true (port_stands p.devices p.issued p.keys 0) (port_stands p.devices p.issued p.keys 1)
+    and_from _ (are_completed p.devices.disk p.completed.items)
+    (and_from _ (go_to p.writes.items p.devices.disk.outstanding)
+    (and_from _ (are_levels p.levels)
+    (and_from _ (nat_le p.count GREATEST_NUMBER)
+    (and_from (port_stands p.devices p.issued p.keys 0) (port_stands p.devices p.issued p.keys 1)
     (port_passes p.devices p.issued p.keys 0 (board.awaited.sent 0) (board.in_range.issued 0) (board.in_range.keys 0))
     (port_passes p.devices p.issued p.keys 1 (board.awaited.sent 1) (board.in_range.issued 1) (board.in_range.keys 1)))
-    (at_most p.count GREATEST_NUMBER board.in_range.count))
-    (all_pass (λ level. nat_lt level 8) p.levels (λ k. strictly (slice_index p.levels k) 8 (board.in_range.levels k))))
+    (le-leb p.count GREATEST_NUMBER board.in_range.count))
+    (all_pass (λ level. nat_lt level 8) p.levels (λ k. lt-ltb (slice_index p.levels k) 8 (board.in_range.levels k))))
     (subst (λ (places : List Place). go_to p.writes.items places ≡ true) there (go_itself p.writes.items)))
     (completed_pass p.devices.disk p.completed.items board.completed)
 

@@ -5,10 +5,11 @@ use Rattle.std.proofs.Common.{◌≡◌, ℕ, zero, suc, ◌+◌, ◌-◌, ◌*�
 use Rattle.std.specs.Prelude.{nat_lt, nat_le, slice_index, slice_index_or, IfSome, All}
 use Rattle.std.specs.List.{list_any, list_all}
 use Rattle.std.specs.FinMap as finite
-use Rattle.std.proofs.lemmas.Bool.{eqb-true}
+use Rattle.std.proofs.lemmas.Bool.{and_parts, eqb-true, leb-true, ltb-true, not-true}
 use Rattle.std.proofs.lemmas.Bool.Decides.{nat_tests}
 use Rattle.std.proofs.lemmas.List.{get_or_past, length-take-le}
 use Rattle.std.proofs.lemmas.List.Elements.{All-map, All-head, All-tail}
+use Rattle.std.proofs.Math.Bool.{or-false}
 use Rattle.i8080_words.specs.declared.registers.Processor.{Processor}
 use Rattle.serial_2sio.specs.Port as serial
 use Rattle.disk_dcdd.specs.Controller.{IsDrives}
@@ -32,7 +33,7 @@ use Rattle.guest_parts.specs.Board.{AreAwaited, AreCompleted, IsBoard, IsHeld, i
 use Rattle.guest_parts.specs.Parts.{with_each, bytes_from, writes_of, Rise, go_to, port_stands, may_be_completed, are_completed, are_levels, stands, operations_of, guest_of_parts}
 use Rattle.guest_parts.specs.declared.parts.BoardParts.{BoardParts}
 use Rattle.guest_parts.proofs.Names.{other_port, no_byte}
-use Rattle.guest_parts.proofs.Places.{both, go_there, rises}
+use Rattle.guest_parts.proofs.Places.{go_there, rises}
 use Rattle.guest_parts.proofs.Waiting.{bytes-other, bytes-on_their_way, writes-byte, writes-held, writes-numbers, each_named}
 
 -- ---- what is outstanding
@@ -43,11 +44,7 @@ any_place : (ws : List SectorWrite) (n : ℕ)
 any_place [] n = refl
 any_place (w ∷ ws) n = ap (λ b. (w.number == n) || b) (any_place ws n)
 
-or_false : (b : Bool) → (b || false) ≡ b
-or_false true = refl
-or_false false = refl
-
--- exactly the newest bytes of both ports and the writes of the controller's places are outstanding
+-- exactly the newest bytes of and_parts ports and the writes of the controller's places are outstanding
 pub awaited-parts : (d : Devices) (issued : List ℕ) (xs ys : List ℕ) (ws : List SectorWrite)
     → length d.ports ≡ PORTS → length issued ≡ PORTS
     → length xs ≡ (port_of d 0).unaccepted → length ys ≡ (port_of d 1).unaccepted
@@ -71,7 +68,7 @@ awaited-parts d issued xs ys ws two numbers first second sent others there stand
       bytes = bytes_at n m one both_ports;
       writes = λ k. writes-numbers both_ports ws k
           ∙ ap (λ o. list_any (λ (w : SectorWrite). w.number == k) ws || is_some o) (no_write_yet n m k)
-          ∙ or_false (list_any (λ (w : SectorWrite). w.number == k) ws)
+          ∙ or-false (list_any (λ (w : SectorWrite). w.number == k) ws)
           ∙ any_place ws k ∙ ap (list_any (λ (place : Place). place.number == k)) there;
       places = subst (All (IsHeld all)) there
           (All-map (IsHeld all) place_of ws (λ k w inside. record {
@@ -135,8 +132,8 @@ awaited-parts d issued xs ys ws two numbers first second sent others there stand
 -- a list of numbers that all pass a test passes it at each index, if 0 passes it
 each_passes : (p : ℕ → Bool) (xs : List ℕ) → list_all p xs ≡ true → p 0 ≡ true → (k : ℕ) → p (slice_index xs k) ≡ true
 each_passes p [] all none k = none
-each_passes p (x ∷ xs) all none zero = (both (p x) (list_all p xs) all).0
-each_passes p (x ∷ xs) all none (suc k) = each_passes p xs (both (p x) (list_all p xs) all).1 none k
+each_passes p (x ∷ xs) all none zero = (and_parts (p x) (list_all p xs) all).0
+each_passes p (x ∷ xs) all none (suc k) = each_passes p xs (and_parts (p x) (list_all p xs) all).1 none k
 
 -- what the test of parts says, rule by rule
 pub record Rules (p : BoardParts) : Type 0 where
@@ -153,23 +150,17 @@ rules_of p e =
     let counted : Bool = ports && nat_le p.count GREATEST_NUMBER in
     let leveled : Bool = counted && are_levels p.levels in
     let written : Bool = leveled && go_to p.writes.items p.devices.disk.outstanding in
-    let five = both written (are_completed p.devices.disk p.completed.items) e in
-    let four = both leveled (go_to p.writes.items p.devices.disk.outstanding) five.0 in
-    let three = both counted (are_levels p.levels) four.0 in
-    let two = both ports (nat_le p.count GREATEST_NUMBER) three.0 in
-    let one = both (port_stands p.devices p.issued p.keys 0) (port_stands p.devices p.issued p.keys 1) two.0 in
+    let five = and_parts written (are_completed p.devices.disk p.completed.items) e in
+    let four = and_parts leveled (go_to p.writes.items p.devices.disk.outstanding) five.0 in
+    let three = and_parts counted (are_levels p.levels) four.0 in
+    let two = and_parts ports (nat_le p.count GREATEST_NUMBER) three.0 in
+    let one = and_parts (port_stands p.devices p.issued p.keys 0) (port_stands p.devices p.issued p.keys 1) two.0 in
     record { first = one.0; second = one.1; count = two.1; levels = three.1; writes = four.1; completed = five.1 }
 
 pub standing_writes : (p : BoardParts) → stands p ≡ true → map place_of p.writes.items ≡ p.devices.disk.outstanding
 standing_writes p e = go_there p.writes.items p.devices.disk.outstanding (rules_of p e).writes
 
 -- ---- the board
-
-below : (a b : ℕ) → nat_le a b ≡ true → a ≤ b
-below a b e = grind (arith, nat_tests)
-
-strictly_below : (a b : ℕ) → nat_lt a b ≡ true → a < b
-strictly_below a b e = grind (arith, nat_tests)
 
 -- the numbers of a port that passes
 record PortRules (d : Devices) (issued keys : List ℕ) (port : ℕ) : Type 0 where
@@ -180,15 +171,15 @@ record PortRules (d : Devices) (issued keys : List ℕ) (port : ℕ) : Type 0 wh
 port_rules : (d : Devices) (issued keys : List ℕ) (port : ℕ) → port_stands d issued keys port ≡ true
     → PortRules d issued keys port
 port_rules d issued keys port e =
-    let two = both (nat_le (port_of d port).unaccepted (slice_index issued port) && nat_le
+    let two = and_parts (nat_le (port_of d port).unaccepted (slice_index issued port) && nat_le
     (slice_index issued port) GREATEST_NUMBER)
     (nat_le (slice_index keys port) GREATEST_NUMBER) e in
-    let one = both (nat_le (port_of d port).unaccepted (slice_index issued port))
+    let one = and_parts (nat_le (port_of d port).unaccepted (slice_index issued port))
     (nat_le (slice_index issued port) GREATEST_NUMBER) two.0 in
     record {
-      sent = below _ _ one.0;
-      issued_few = below _ _ one.1;
-      keys_few = below _ _ two.1;
+      sent = leb-true _ _ one.0;
+      issued_few = leb-true _ _ one.1;
+      keys_few = leb-true _ _ two.1;
     }
 
 -- two numbers in range, and none after them
@@ -221,21 +212,17 @@ zero_is_done disk stands =
         not_zero : (n : ℕ) → 1 ≤ n → (n == 0) ≡ false
         not_zero n some = grind (arith, nat_tests)
 
-not_true : (b : Bool) → not b ≡ true → b ≡ false
-not_true true e = cc
-not_true false e = refl
-
 completed_stand : (disk : drives.Drives) (completed : List ℕ) → IsDrives disk → are_completed disk completed ≡ true
     → AreCompleted completed disk
 completed_stand disk completed stands e =
-    let h = both (length completed == disk.attached * DRIVE_SECTORS) (list_all (may_be_completed disk) completed) e in
+    let h = and_parts (length completed == disk.attached * DRIVE_SECTORS) (list_all (may_be_completed disk) completed) e in
     let each : (k : ℕ) → may_be_completed disk (slice_index completed k) ≡ true =
     each_passes (may_be_completed disk) completed h.1 (zero_is_done disk stands) in
     record {
       sectors = eqb-true (length completed) (disk.attached * DRIVE_SECTORS) h.0;
-      last = λ k. below _ _ (both (nat_le (slice_index completed k) disk.issued)
+      last = λ k. leb-true _ _ (and_parts (nat_le (slice_index completed k) disk.issued)
           (not (is_outstanding disk (slice_index completed k))) (each k)).0;
-      done = λ k. not_true _ (both (nat_le (slice_index completed k) disk.issued)
+      done = λ k. not-true _ (and_parts (nat_le (slice_index completed k) disk.issued)
           (not (is_outstanding disk (slice_index completed k))) (each k)).1;
     }
 
@@ -253,11 +240,11 @@ board-parts p ports numbers keys first second sense stand e =
           (length-take-le (port_of p.devices 1).unaccepted (slice_index_or p.unaccepted 1 []) second)
           zeroth.sent other.sent (standing_writes p e) stand;
       in_range = record {
-        count = below _ _ rules.count;
+        count = leb-true _ _ rules.count;
         issued = two_in_range p.issued numbers zeroth.issued_few other.issued_few;
         keys = two_in_range p.keys keys zeroth.keys_few other.keys_few;
         ports = keys;
-        levels = λ device. strictly_below _ _ (each_passes (λ level. nat_lt level 8) p.levels rules.levels refl device);
+        levels = λ device. ltb-true _ _ (each_passes (λ level. nat_lt level 8) p.levels rules.levels refl device);
         sense = sense;
         writes = λ page. rw (only_zeros PAGES page) (omega arith);
       };

@@ -3,6 +3,7 @@
 use Rattle.std.proofs.Common.{◌≡◌, ℕ, suc, ◌+◌, Bool, true, false, cond, List, ◌∷◌, take, drop, Option, Some, None, refl, arith, inl, inr}
 use Rattle.std.proofs.lemmas.Bool.{cases_lt}
 use Rattle.std.proofs.lemmas.List.{length-take, get_or-drop, get_or-take, get_or_past}
+pub use Rattle.std.proofs.lemmas.Option.{cond_some as admitted}
 use Rattle.log_entry.specs.Numbers.{◌>>=◌, IsBytes}
 
 -- ---- bytes
@@ -33,9 +34,3 @@ pub not_refused : {A : Type 0} (test : Bool) (o : Option A) (y : A)
     → cond test None o ≡ Some y → (test ≡ false) × (o ≡ Some y)
 not_refused true o y e = absurd cc
 not_refused false o y e = (refl, e)
-
--- a test that admits was met
-pub admitted : {A : Type 0} (test : Bool) (x y : A)
-    → cond test (Some x) None ≡ Some y → (test ≡ true) × (x ≡ y)
-admitted true x y e = (refl, cc)
-admitted false x y e = absurd cc

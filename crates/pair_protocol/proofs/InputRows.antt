@@ -1,6 +1,7 @@
 -- The rows by which a primary or alone node takes an input: what passes the refusals is what an input may be.
 use Rattle.std.proofs.Common.{◌∙◌, ◌≡◌, ◌≤◌, None, Option, Some, ap, eqb-true, inl, inr, length, ltb-false, not, refl, subst, sym, true, ℕ}
 use Rattle.std.specs.Prelude.{◌==◌, slice_get}
+use Rattle.std.proofs.lemmas.Bool.{or_parts}
 use Rattle.pair_protocol.proofs.Words.{Acts, AloneTakes, Among, Change, Changes, Copying, Input, Machine, MayTake, Node, PrimaryTakes, Role, SectorRead, Serving, World, WriteDone, accepted, refusal_of, same_address, terminal, with_node}
 use Rattle.guest_lockstep.specs.declared.input.Input.TheVariants as input
 use Rattle.i8080_words.specs.declared.refusal.Fault.TheVariants.{NotDue, Unknown, WrongNumber}
@@ -10,7 +11,7 @@ use Rattle.pair_protocol.specs.Reply.{Reply}
 use Rattle.pair_protocol.specs.Refusals.{at_sector_read, at_write_done, fault_if, get_reply_refusal, is_number, not_accepted, not_typed, put_reply_refusal, refusal, serves, take_key_refusal, tell_sent_refusal}
 use Rattle.pair_protocol.specs.Rows.{Takes, TakesGetReply, TakesKey, TakesPutReply}
 use Rattle.pair_protocol.proofs.Keeps.Disk.{same_address-is}
-use Rattle.pair_protocol.proofs.Passed.{changed, first-passed, node-passed, not-stands, only-passed, or-false, passes-if, serving}
+use Rattle.pair_protocol.proofs.Passed.{changed, first-passed, node-passed, not-stands, only-passed, passes-if, serving}
 use Rattle.pair_protocol.proofs.Traces.Lists.{among-get}
 
 pub takes_once : {S : Type 0} (M : Machine S) (C : Copying S) (w : World S) (n : ℕ) (x : Node S) (r : Role) (s : S)
@@ -60,7 +61,7 @@ does_tell_sent M C w n port k r new p d =
     let h = first-passed (refusal_of M x.machine (input.Sent port)) _ g.1 in
     let j = first-passed (fault_if (not (is_number (M.due_byte x.machine port) k)) WrongNumber) _ h.1 in
     let l : k ≤ length (accepted w port) =
-    ltb-false (length (accepted w port)) k (or-false (k == 0) _ (not-stands _ Unknown f.0)).1 in
+    ltb-false (length (accepted w port)) k (or_parts (k == 0) _ (not-stands _ Unknown f.0)).1 in
     takes M C w n (input.Sent port) r new d g.0
     (k, number-is (M.due_byte x.machine port) k (passes-if _ WrongNumber j.0), l) h.0
 

@@ -39,10 +39,6 @@ not-false false h = (cc)
 pub passes-if : (b : Bool) (fault : Fault) → fault_if (not b) fault ≡ None → b ≡ true
 passes-if b fault h = not-false b (not-stands (not b) fault h)
 
-pub or-false : (a b : Bool) → (a || b) ≡ false → (a ≡ false) × (b ≡ false)
-or-false true b h = (cc)
-or-false false b h = (refl, h)
-
 pub and-false : (a b : Bool) → a ≡ true → (a && b) ≡ false → b ≡ false
 and-false true b e h = h
 and-false false b e h = (cc)

@@ -1,6 +1,7 @@
 -- A row is a sequence of actions: what passes the refusals meets what the actions ask for.
 use Rattle.std.proofs.Common.{[], ◌∙◌, ◌∷◌, ◌≡◌, ◌≤◌, Bool, List, None, Option, Some, ap, arith, cond, eqb-true, false, inl, inr, length, not, refl, subst, suc, sym, true, zero, ℕ}
 use Rattle.std.specs.Prelude.{◌&&◌, ◌==◌, is_none, slice_get}
+use Rattle.std.proofs.lemmas.Bool.{or_parts}
 use Rattle.pair_protocol.proofs.Words.{Acknowledgement, Acts, Alone, AloneReleases, Backup, Change, Changes, Copying, Draining, Entry, GoesLive, ImagePart, Joining, LogEntry, Machine, Node, OpId, Operation, Primary, PrimaryReleases, Reads, Released, Role, SectorRead, Serving, Spare, Stays, Then, World, acts_as, covers, fetches, gets_part, halts, hears, holds, is_role, joins, keys_covered, note_of, replay_told, same_address, told_by, winner_in, with_message, with_node, with_told, with_winner}
 use Rattle.guest_lockstep.specs.declared.reads.Reads.TheVariants.{Logged, Shared}
 use Rattle.guest_lockstep.specs.declared.replay_end.ReplayEnd.{ReplayEnd}
@@ -19,7 +20,7 @@ use Rattle.pair_protocol.specs.Rows.{AtNode, BeginsPair, DeliversLog, Does, Drai
 use Rattle.pair_protocol.proofs.Keeps.Disk.{same_address-is}
 use Rattle.pair_protocol.proofs.InputRows.{does_get_reply, does_put_reply, does_take_key, does_tell_sent}
 use Rattle.pair_protocol.proofs.OneNode.{advance_changes, from_here, is-at-read, moving, on, replay_changes, with_same}
-use Rattle.pair_protocol.proofs.Passed.{acts-in, and-false, changed, changes-append, first-passed, lost-no_spare, node-passed, not-false, not-stands, only-passed, or-false, passes-if, replaying, role_of, serving, unchanged}
+use Rattle.pair_protocol.proofs.Passed.{acts-in, and-false, changed, changes-append, first-passed, lost-no_spare, node-passed, not-false, not-stands, only-passed, passes-if, replaying, role_of, serving, unchanged}
 
 -- ---- each event
 
@@ -41,7 +42,7 @@ pub does_send : {S : Type 0} (M : Machine S) (C : Copying S) (w : World S) (n in
 does_send M C w n index r new p d =
     let x = d.node.x in
     let q = (node-passed (slice_get w.nodes n) x (send_refusal index) d.node.there p).1 in
-    let o = or-false (not (acts_as x (Primary ∷ []))) _ (not-stands _ Unknown q) in
+    let o = or_parts (not (acts_as x (Primary ∷ []))) _ (not-stands _ Unknown q) in
     let a = acts-in w n x Primary d.node.there (ap (λ b. fault_if b WrongRole) o.0) in
     changed M C w new _ d.says.after (Change.Sends n x index d.e a d.node.said)
 
@@ -222,7 +223,7 @@ does_send_part M C w n index r new p d =
     let x = d.node.x in
     let has = d.node.said in
     let q = (node-passed (slice_get w.nodes n) x (send_part_refusal C index) d.node.there p).1 in
-    let o = or-false (not (acts_as x (Primary ∷ []))) _ (not-stands _ Unknown q) in
+    let o = or_parts (not (acts_as x (Primary ∷ []))) _ (not-stands _ Unknown q) in
     changed M C w new _ d.says.after
     (Change.SendsPart n x has.s index d.part
     (acts-in w n x Primary d.node.there (ap (λ b. fault_if b WrongRole) o.0)) has.image has.is_part)

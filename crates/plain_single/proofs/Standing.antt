@@ -2,6 +2,7 @@
 use Rattle.std.proofs.Common.{◌≡◌, ℕ, ◌+◌, ◌<◌, Bool, true, false, ◌==◌, ◌||◌, List, [], ◌∷◌, ◌++◌, Option, None, Some, refl, sym, ap, ◌∙◌, subst, ◌⊎◌, inl, inr}
 use Rattle.std.specs.Prelude.{if◌then◌else◌, nat_lt}
 use Rattle.std.proofs.lemmas.List.{append-nil}
+use Rattle.std.proofs.Math.Bool.{or-true}
 use Rattle.disk_dcdd.specs.declared.address.SectorAddress.{SectorAddress}
 use Rattle.disk_dcdd.specs.declared.sector.SectorWrite.{SectorWrite}
 use Rattle.i8080_words.specs.declared.limits.TheConstants.{GREATEST_NUMBER}
@@ -96,10 +97,6 @@ spent_stuck g e = rw e refl
 idle_stuck : (g : Guest) → is_spent g ≡ false → is_idle g ≡ true → step_from g ≡ None
 idle_stuck g e h = rw (e, h) refl
 
-or_true : (b : Bool) → (b || true) ≡ true
-or_true true = refl
-or_true false = refl
-
 -- a refusal is one of three: a number is spent, the machine idles on the way past the limit, or it idles
 cases : (spent idle past : Bool) (fault : Fault)
     → (if spent then Some faults.Spent else if idle then Some (if past then faults.Spent else faults.Idle) else None) ≡ Some fault
@@ -121,7 +118,7 @@ fails_at setup sectors list a target last fault x early e =
           (stops_at setup sectors list a target last true x early
           (subst (λ s. step_from s ≡ None) x.stands.guest (spent_stuck g h.0))
           (subst (λ s. (nat_lt GREATEST_NUMBER last || is_spent s) ≡ true) x.stands.guest
-          (rw h.0 (or_true (nat_lt GREATEST_NUMBER last)))))
+          (rw h.0 (or-true (nat_lt GREATEST_NUMBER last)))))
       | inr k ↦ elim k [
         | inl h ↦ subst (FailsBefore (altair setup sectors) list target last) (sym h.3)
             (stops_at setup sectors list a target last true x early

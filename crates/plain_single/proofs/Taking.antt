@@ -2,7 +2,7 @@
 -- one that it refuses is not a move.
 use Rattle.std.proofs.Common.{◌≡◌, ℕ, zero, suc, ◌+◌, ◌<◌, Bool, true, false, not, ◌==◌, ◌&&◌, List, [], ◌∷◌, ◌++◌, None, Some, refl, sym, ap, ◌∙◌, subst, arith}
 use Rattle.std.specs.Prelude.{if◌then◌else◌, nat_lt, reverse}
-use Rattle.std.proofs.lemmas.Bool.{eqb-true, ltb-true, false_from_ne_true, false≢true}
+use Rattle.std.proofs.lemmas.Bool.{eqb-true, ltb-true, false_from_ne_true, false≢true, and_left}
 use Rattle.std.proofs.lemmas.List.{append-nil}
 use Rattle.disk_dcdd.specs.Completion as completion
 use Rattle.disk_dcdd.specs.declared.address.SectorAddress.{SectorAddress}
@@ -42,22 +42,19 @@ not_one n = false_from_ne_true _ (λ e. let h : suc (suc n) ≡ 1 = eqb-true (su
 neither : (zeroth first x y : Bool) → zeroth ≡ false → first ≡ false → (if zeroth then x else first && y) ≡ false
 neither zeroth first x y e f = rw (e, f) refl
 
-absent : (below x : Bool) → below ≡ false → (below && x) ≡ false
-absent below x e = rw e refl
-
 pub same_keys : (a : SingleState) (o : Operations) (c : List ℕ) (port : ℕ)
     → guest.may_take_key (guest_with a o c) port ≡ may_take_key a.behind port
 same_keys a o c zero = refl
 same_keys a o c (suc zero) = refl
 same_keys a o c (suc (suc n)) =
-    absent (nat_lt (suc (suc n)) 2) _ (no_port n)
+    and_left (nat_lt (suc (suc n)) 2) _ (no_port n)
     ∙ sym (neither (suc (suc n) == 0) (suc (suc n) == 1) _ _ (not_zero n) (not_one n))
 
 pub same_accept : (a : SingleState) (port : ℕ) → is_due (devices_of a.behind) (done.Sent port) ≡ may_accept a.behind port
 same_accept a zero = refl
 same_accept a (suc zero) = refl
 same_accept a (suc (suc n)) =
-    absent (nat_lt (suc (suc n)) 2) _ (no_port n)
+    and_left (nat_lt (suc (suc n)) 2) _ (no_port n)
     ∙ sym (neither (suc (suc n) == 0) (suc (suc n) == 1) _ _ (not_zero n) (not_one n))
 
 is_taken : (b : Bool) → due_unless b ≡ None → b ≡ true

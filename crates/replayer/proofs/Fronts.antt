@@ -3,6 +3,7 @@
 -- the machine's count and has an input, that input is the next move; if it is a read whose bytes have arrived, the next
 -- move takes the sector with these bytes; and if it is a mark, it is the one that is owed.
 use Rattle.std.proofs.Common.{◌≡◌, ℕ, suc, ◌<◌, ◌≤◌, Bool, true, false, List, [], ◌∷◌, ◌++◌, Option, Some, None, refl, sym, ap, subst, ◌∙◌, arith}
+use Rattle.std.proofs.lemmas.Option.{same_Some}
 use Rattle.event_callbacks.specs.declared.operations.Operation.{Operation}
 use Rattle.guest_lockstep.specs.Machine.{Machine, Move, Do, Take}
 use Rattle.guest_lockstep.specs.Recorded.{Accepts, Recorded}
@@ -15,9 +16,6 @@ use Rattle.log_entry.specs.Standing.{owed, TakesFetched}
 use Rattle.log_entry.specs.declared.entry.Entry.{Entry}
 use Rattle.log_entry.specs.declared.entry.Entry.TheVariants as entry
 
-pub same_value : {A : Type 0} (x y : A) → Some x ≡ Some y → x ≡ y
-same_value x y e = cc
-
 pub count_of-entry_of : (reads : Reads) (count : ℕ) (input : Input) → count_of (entry_of reads count input) ≡ count
 count_of-entry_of reads count (Rx port byte) = refl
 count_of-entry_of reads count (Sent port) = refl
@@ -28,12 +26,12 @@ count_of-entry_of reads count (Written number) = refl
 -- an entry that carries an input is the entry of that input alone
 carries-entry_of : (reads : Reads) (count : ℕ) (other input : Input)
     → input_of (entry_of reads count other) ≡ Some input → other ≡ input
-carries-entry_of reads count (Rx port byte) input e = same_value (Rx port byte) input e
-carries-entry_of reads count (Sent port) input e = same_value (Sent port) input e
+carries-entry_of reads count (Rx port byte) input e = same_Some (Rx port byte) input e
+carries-entry_of reads count (Sent port) input e = same_Some (Sent port) input e
 carries-entry_of Logged count (Sector drive sector number bytes) input e =
-    same_value (Sector drive sector number bytes) input e
+    same_Some (Sector drive sector number bytes) input e
 carries-entry_of Shared count (Sector drive sector number bytes) input e = absurd cc
-carries-entry_of reads count (Written number) input e = same_value (Written number) input e
+carries-entry_of reads count (Written number) input e = same_Some (Written number) input e
 
 -- the entry of an input is no mark
 no_mark-entry_of : (reads : Reads) (count : ℕ) (input : Input) → bare_of (entry_of reads count input) ≡ None → ⊥

@@ -3,6 +3,7 @@
 -- and it is popped with that move. The input of a read is the sector with the bytes that have arrived.
 use Rattle.std.proofs.Common.{◌≡◌, ℕ, ◌<◌, ◌≤◌, Bool, true, false, List, [], ◌∷◌, ◌++◌, Option, Some, None, Ok, Err, refl, sym, ap, subst, ◌∙◌, arith, drop, slice_get, cond, is_none, length, eq-eqb}
 use Rattle.std.specs.Prelude.{◌==◌}
+use Rattle.std.proofs.lemmas.Option.{same_Some}
 use Rattle.event_callbacks.specs.declared.operations.Operation.{Operation}
 use Rattle.guest_lockstep.specs.Lockstep.{Takes as TakesInput, step_refusal}
 use Rattle.guest_lockstep.specs.Machine.{Machine}
@@ -18,12 +19,12 @@ use Rattle.log_entry.specs.declared.entry.Entry.{Entry}
 use Rattle.log_entry.specs.declared.entry.Entry.TheVariants as entry
 use Rattle.replayer.specs.Replaying.{Moves, Passes, Takes, Reads, Replays, input_with, read_at, wanted, wanted_of, stop_at}
 use Rattle.replayer.specs.Standing.{StaysOn}
-use Rattle.replayer.proofs.Fronts.{same_value, not_behind, NextDoes, next_does, NextTakes, next_takes, next_reads, none_for, input_not_read}
+use Rattle.replayer.proofs.Fronts.{not_behind, NextDoes, next_does, NextTakes, next_takes, next_reads, none_for, input_not_read}
 use Rattle.replayer.proofs.Standing.{stays_on}
 
 pub front_is : (held : List Entry) (e : Entry) → slice_get held 0 ≡ Some e → held ≡ e ∷ drop 1 held
 front_is [] e h = absurd cc
-front_is (x ∷ xs) e h = ap (λ x. x ∷ xs) (same_value x e h)
+front_is (x ∷ xs) e h = ap (λ x. x ∷ xs) (same_Some x e h)
 
 -- moves by the entries that are held keep to the run
 pub still_on : {S : Type 0} (M : Machine S) (s t : S) (held left : List Entry) (fetched still : Option (List ℕ)) (n : ℕ)
@@ -108,7 +109,7 @@ gives fetched (entry.Sector count drive sector number bytes) input has = Carries
 gives fetched (entry.Written count number) input has = Carries has
 gives None (entry.Read count drive sector number) input has = absurd cc
 gives (Some bytes) (entry.Read count drive sector number) input has =
-    ReadsIt refl refl (sym (same_value (Sector drive sector number bytes) input has))
+    ReadsIt refl refl (sym (same_Some (Sector drive sector number bytes) input has))
 
 pub may_take : {S : Type 0} (M : Machine S) (s : S) (held : List Entry) (fetched : Option (List ℕ)) (e : Entry)
     (input : Input) → IsOnTrace M s held fetched → slice_get held 0 ≡ Some e → (M.count s < count_of e → ⊥)

@@ -5,6 +5,7 @@ use Rattle.std.proofs.Common.{◌≡◌, ℕ, suc, ◌+◌, ◌<◌, ◌≤◌, 
 use Rattle.std.specs.Prelude.{◌==◌}
 use Rattle.std.specs.Option.{unwrap_or}
 use Rattle.std.proofs.lemmas.Bool.{eqb-true}
+use Rattle.std.proofs.lemmas.Option.{same_Some}
 use Rattle.guest_lockstep.specs.Machine.{Machine}
 use Rattle.guest_lockstep.specs.Recorded.{Counts}
 use Rattle.guest_lockstep.specs.declared.replay_end.ReplayEnd.{ReplayEnd}
@@ -17,7 +18,6 @@ use Rattle.replayer.specs.Replaying.{Replays, Begin, Then, IsBehind, Ends, AllTu
 use Rattle.replayer.specs.Standing.{StaysOnEach}
 use Rattle.replayer.specs.declared.replayer.Replayed.{Replayed}
 use Rattle.replayer.proofs.Below.{stays_below}
-use Rattle.replayer.proofs.Fronts.{same_value}
 use Rattle.replayer.proofs.OneMove.{still_on}
 use Rattle.replayer.proofs.Standing.{stays_on}
 
@@ -66,9 +66,9 @@ is_empty (x ∷ xs) e = let none = eqb-true (length (x ∷ xs)) 0 e in absurd (o
 -- the word for it
 word : (empty none : Bool) (other why : ReplayEnd) → cond empty (Some End) (cond none None (Some Wait)) ≡ Some why
     → why ≡ cond empty End (cond none other Wait)
-word true none other why e = sym (same_value End why e)
+word true none other why e = sym (same_Some End why e)
 word false true other why e = absurd cc
-word false false other why e = sym (same_value Wait why e)
+word false false other why e = sym (same_Some Wait why e)
 
 pub at_stop : {S : Type 0} (M : Machine S) (s t : S) (held left : List Entry) (fetched still : Option (List ℕ))
     (turns n : ℕ) (why : ReplayEnd) → n < turns → Replays M s held fetched n t left still

@@ -4,6 +4,7 @@
 -- So after each move what was popped, with the mark that may be owed, is the entries of the moves that were made.
 use Rattle.std.proofs.Common.{◌≡◌, ℕ, suc, Bool, true, false, List, [], ◌∷◌, ◌++◌, Option, Some, None, refl, sym, ap, subst, ◌∙◌}
 use Rattle.std.proofs.lemmas.List.{append-nil, append_assoc}
+use Rattle.std.proofs.lemmas.Option.{same_Some}
 use Rattle.event_callbacks.specs.declared.operations.Operation.{Operation}
 use Rattle.guest_lockstep.specs.Machine.{Machine, Move, Do, Take}
 use Rattle.guest_lockstep.specs.Recorded.{Counts, Accepts, Recorded}
@@ -17,7 +18,7 @@ use Rattle.log_entry.specs.declared.entry.Entry.TheVariants.{Read}
 use Rattle.recorder.proofs.Recorded.{Recorded-append, entries-append}
 use Rattle.replayer.specs.Replaying.{Moves, Steps, Passes, Takes, Reads as ReadsSector, Replays, Begin, Then}
 use Rattle.replayer.specs.Standing.{StaysOn}
-use Rattle.replayer.proofs.Fronts.{same_value, NextDoes, next_does, NextTakes, next_takes, next_reads, NextPasses, next_passes, none_for, none_at_step, takes_none, mark_not_read, input_not_read}
+use Rattle.replayer.proofs.Fronts.{NextDoes, next_does, NextTakes, next_takes, next_reads, NextPasses, next_passes, none_for, none_at_step, takes_none, mark_not_read, input_not_read}
 
 -- ---- after a step
 
@@ -37,7 +38,7 @@ after_step : {S : Type 0} (M : Machine S) (reads : Reads) (s t u last : S) (held
     → NextDoes M t last x.owes_still x.rest → StaysOn M reads s held owes moves last u left still
 after_step M reads s t u last held left still owes moves gives counts x made next =
     let same : (next.t, next.gives) ≡ (u, gives) =
-    same_value (next.t, next.gives) (u, gives) (sym next.made ∙ made) in
+    same_Some (next.t, next.gives) (u, gives) (sym next.made ∙ made) in
     let rest_is : x.rest ≡ Do gives ∷ next.rest =
     next.moves_are ∙ ap (λ (p : _ × Option Operation). Do p.1 ∷ next.rest) same in
     let runs_on : Recorded M u next.rest last =
@@ -124,7 +125,7 @@ after_input : {S : Type 0} (M : Machine S) (reads : Reads) (s t u last : S) (hel
     → M.take t input ≡ Some u → NextTakes M reads t last e (es ++ x.stands.later) x.owes_still x.rest input
     → StaysOn M reads s held owes moves last u es after
 after_input M reads s t u last held left es still after owes moves e input counts x left_are none taken next =
-    let same : next.t ≡ u = same_value next.t u (sym next.accepts.taken ∙ taken) in
+    let same : next.t ≡ u = same_Some next.t u (sym next.accepts.taken ∙ taken) in
     let accepts : Accepts M t input u = subst (λ u. Accepts M t input u) same next.accepts in
     let runs_on : Recorded M u next.rest last = subst (λ u. Recorded M u next.rest last) same next.runs in
     let count : M.count u ≡ M.count t = counts.by_input t u input taken in

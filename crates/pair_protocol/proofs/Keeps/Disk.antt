@@ -1,10 +1,11 @@
 -- What the disk has for a sector is its record at boot, or the write of greatest number that arrived there.
 use Rattle.std.proofs.Common.{[], ◌++◌, ◌<◌, ◌∙◌, ◌∷◌, ◌≡◌, ◌≤◌, Bool, List, ap, arith, cond, eq-eqb, eqb-true, false, inl, inr, ltb-false, ltb-true, refl, subst, sym, true, ℕ}
 use Rattle.std.specs.Prelude.{◌&&◌, ◌==◌, nat_lt}
+use Rattle.std.proofs.lemmas.Bool.{and_parts}
 use Rattle.pair_protocol.proofs.Words.{Among, Copying, Machine, Released, SectorAddress, SectorRead, SectorRecord, SectorWrite, World, Write, WriteDone, address_of, latest, operations, record_after, same_address, sector_record, with_message, with_put}
 use Rattle.pair_protocol.proofs.Invariant.{AtStart, HasPut, Inv, IsRecord, Next, OfWrite}
 use Rattle.pair_protocol.proofs.Keeps.Link.{message-true}
-use Rattle.pair_protocol.proofs.Traces.Lists.{among-left, among-right, among-split, and_parts}
+use Rattle.pair_protocol.proofs.Traces.Lists.{among-left, among-right, among-split}
 
 -- the record of a sector is its record at boot or a settled write's
 

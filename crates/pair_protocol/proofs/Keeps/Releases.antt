@@ -3,6 +3,7 @@
 -- note as replayed. If a node of the highest generation is alone, nobody replays.
 use Rattle.std.proofs.Common.{◌++◌, ◌+◌, ◌<◌, ◌∙◌, ◌≡◌, ◌≤◌, ◌⊎◌, Some, ap, append-nil, arith, inl, inr, length, ltb-true, refl, subst, suc, sym, take, true, ℕ}
 use Rattle.std.specs.Prelude.{nat_le, nat_lt, slice_get}
+use Rattle.std.proofs.lemmas.Bool.{leb-true, and_parts}
 use Rattle.pair_protocol.proofs.Words.{Acts, Alone, Among, Copying, IsPrefix, Lawful, Machine, Node, OpId, Operation, Primary, Replaying, Role, Runs, SectorWrite, Serving, World, Write, covers, cut, entries, id_of, inputs, inputs_of, keys, keys_covered, note_of, operations, steps}
 use Rattle.pair_protocol.proofs.Invariant.Acting.{Acting, ActingPrimary, BackupActs, PrimaryActs, PrimaryAtTop, PrimaryEarlier, PrimaryPlace, acting, acting_primary, acts-no_spare, line_at}
 use Rattle.pair_protocol.proofs.Invariant.Settled.{covers-below}
@@ -10,7 +11,7 @@ use Rattle.pair_protocol.proofs.Invariant.{BackupHere, Inv, IsPrimary, Line, Pri
 use Rattle.pair_protocol.proofs.Keeps.Alone.{alone}
 use Rattle.pair_protocol.proofs.Keeps.Primary.{primary-runs}
 use Rattle.pair_protocol.proofs.Traces.Cuts.{cut-more, entries-cut}
-use Rattle.pair_protocol.proofs.Traces.Lists.{among-left, among-prefix, among-right, among-split, and_parts, get-prefix, le-not, le-true, prefix-length, prefix-trans, same_some}
+use Rattle.pair_protocol.proofs.Traces.Lists.{among-left, among-prefix, among-right, among-split, get-prefix, le-not, prefix-length, prefix-trans, same_some}
 use Rattle.pair_protocol.proofs.Traces.Moves.{inputs-append, inputs_of-entries, keys-prefix, operations-append, operations-prefix}
 
 covered : {S : Type 0} (M : Machine S) (C : Copying S) (w : World S) (i : Inv M C w) (g k : ℕ) →
@@ -137,7 +138,7 @@ frees {S} M C laws w i n x name o acts pending cover k t s b u gb role v is = pl
             subst (λ z. covers x.covered x.reported z ≡ true) r.found
             (subst (λ z. covers x.covered x.reported (note_of x.notes z) ≡ true) (sym f) cover) in
             let after : r.note.after ≤ x.reported =
-            le-true r.note.after x.reported
+            leb-true r.note.after x.reported
             (and_parts (nat_lt r.note.index x.covered) (nat_le r.note.after x.reported) c2).1 in
             let told = (i.each x.generation).reads.heard x b
             (subst (λ m. slice_get w.nodes m ≡ Some x) q.spot acts.there)

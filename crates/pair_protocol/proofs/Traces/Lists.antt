@@ -1,7 +1,8 @@
 -- Lists: their elements and places, prefixes, and lists in which one place is set.
-use Rattle.std.proofs.Common.{[], ◌++◌, ◌<◌, ◌∙◌, ◌∷◌, ◌≡◌, ◌≤◌, ◌⊎◌, Bool, List, None, Option, Some, ap, append-nil, append_assoc, arith, drop, eq-eqb, eqb-true, false, inl, inr, length, length-append, map, refl, subst, suc, sym, take, true, zero, ℕ}
-use Rattle.std.proofs.lemmas.Bool.Decides.{nat_tests}
-use Rattle.std.specs.Prelude.{◌&&◌, ◌==◌, nat_le, slice_get, slice_set}
+use Rattle.std.proofs.Common.{[], ◌++◌, ◌<◌, ◌∙◌, ◌∷◌, ◌≡◌, ◌≤◌, ◌⊎◌, List, None, Option, Some, ap, append-nil, append_assoc, arith, drop, inl, inr, length, length-append, refl, subst, suc, sym, take, zero, ℕ}
+pub use Rattle.std.proofs.lemmas.Bool.{and_parts, cases_Bool as bool_cases, cases_eq as same_or_not}
+pub use Rattle.std.proofs.lemmas.List.{map-append}
+use Rattle.std.specs.Prelude.{slice_get, slice_set}
 use Rattle.pair_protocol.proofs.Words.{Among, IsPrefix}
 
 abbrev some_or : {A : Type 0} → A → Option A → A
@@ -48,10 +49,6 @@ prefix-length xs ys h = let e = length-append xs h.0 in let k = ap length h.1 in
 pub among-prefix : {A : Type 0} (x : A) (xs ys : List A) → IsPrefix xs ys → Among x xs → Among x ys
 among-prefix x xs ys h k = subst (λ zs. Among x zs) h.1 (among-left x xs h.0 k)
 
-pub map-append : {A B : Type 0} (f : A → B) (xs ys : List A) → map f (xs ++ ys) ≡ map f xs ++ map f ys
-map-append f [] ys = refl
-map-append f (x ∷ xs) ys = ap (λ zs. f x ∷ zs) (map-append f xs ys)
-
 pub prefix-same : {A : Type 0} (xs ys : List A) → xs ≡ ys → IsPrefix xs ys
 prefix-same xs ys e = ([], append-nil xs ∙ e)
 
@@ -77,14 +74,6 @@ pub prefix-next : {A : Type 0} (xs ys : List A) (y : A) → IsPrefix xs ys → s
 prefix-next xs ys y p h =
     let r = get-after xs p.0 y (subst (λ zs. slice_get zs (length xs) ≡ Some y) (sym p.1) h) in
     (r.0, append_assoc xs (y ∷ []) r.0 ∙ ap (λ zs. xs ++ zs) (sym r.1) ∙ p.1)
-
-pub bool_cases : (b : Bool) → (b ≡ true) ⊎ (b ≡ false)
-bool_cases true = inl refl
-bool_cases false = inr refl
-
-pub and_parts : (b c : Bool) → (b && c) ≡ true → (b ≡ true) × (c ≡ true)
-and_parts true c h = (refl, h)
-and_parts false c h = (cc)
 
 -- an entry at an index below the length of a log is the same entry of the longer log
 pub get-front : {A : Type 0} (xs ys : List A) (k : ℕ) (e : A) → k < length xs → slice_get (xs ++ ys) k ≡ Some e →
@@ -127,12 +116,6 @@ get_set_other (v ∷ xs) zero (suc m) y h = refl
 get_set_other (v ∷ xs) (suc n) zero y h = refl
 get_set_other (v ∷ xs) (suc n) (suc m) y h = get_set_other xs n m y (λ e. h (ap suc e))
 
-pub same_or_not : (k g : ℕ) → (k ≡ g) ⊎ (k ≡ g → ⊥)
-same_or_not k g = elim (bool_cases (k == g)) [
-  | inl t ↦ inl (eqb-true k g t)
-  | inr f ↦ inr (λ e. (let t = eq-eqb k g e in (cc)))
-]
-
 -- A new host.
 
 pub get-last : {A : Type 0} (xs : List A) (s z : A) (m : ℕ) → slice_get (xs ++ s ∷ []) m ≡ Some z →
@@ -163,9 +146,6 @@ pub take-at : {A : Type 0} (xs : List A) (k : ℕ) (x : A) → slice_get xs k �
 take-at [] k x h = (cc)
 take-at {A} (y ∷ xs) zero x h = let e : y ≡ x = (cc) in ap (λ (z : A). z ∷ []) e
 take-at (y ∷ xs) (suc k) x h = ap (λ zs. y ∷ zs) (take-at xs k x h)
-
-pub le-true : (a b : ℕ) → nat_le a b ≡ true → a ≤ b
-le-true a b h = grind (arith, nat_tests)
 
 pub le-not : (a b : ℕ) → (a ≤ b → ⊥) → b < a
 le-not zero b never = absurd (never (omega arith))

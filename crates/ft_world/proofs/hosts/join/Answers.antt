@@ -1,7 +1,8 @@
 -- The host that was taken out is put back in its place, as a node that joins.
 use Rattle.std.proofs.Common.{◌∙◌, ap}
 use Rattle.std.specs.List.{insert}
-use Rattle.ft_world.proofs.SpareHosts.{put_in_place, within}
+use Rattle.std.proofs.lemmas.Option.{slice_get_within}
+use Rattle.ft_world.proofs.SpareHosts.{put_in_place}
 use Rattle.ft_world.proofs.hosts.join.Goals as goal
 
 pub returns : goal.returns
@@ -11,5 +12,5 @@ returns g c = record {
   put = c.in-Ok.ensures.items
       ∙ ap (λ hosts. insert hosts c.args.host c.joined-joined.result) c.remove.ensures.items
       ∙ put_in_place c.args.hosts.now.items c.args.host c.joined-joined.result
-      (within c.args.hosts.now.items c.args.host _ c.requires.1);
+      (slice_get_within c.args.hosts.now.items c.args.host _ c.requires.1);
 }
