@@ -1,6 +1,6 @@
 -- The window of a port as a board shows it. Its bytes are read one by one from the outstanding operations, and the places
 -- after them are 00; so it is the window of the guest's checkpoint.
-use Rattle.std.proofs.Common.{◌≡◌, ℕ, zero, suc, ◌+◌, ◌-◌, ◌<◌, ◌≤◌, List, ◌++◌, length, take, get_or, set, replicate, Some, ◌⊎◌, inl, inr, refl, sym, ap, ◌∙◌, arith}
+use Rattle.std.proofs.Common.{◌≡◌, ℕ, zero, suc, ◌+◌, ◌-◌, ◌<◌, ◌≤◌, List, ◌++◌, length, take, get_or, set, replicate, Some, ◌⊎◌, inl, inr, sym, ap, ◌∙◌, arith}
 use Rattle.std.specs.Prelude.{slice_index}
 use Rattle.std.proofs.Math.ListN.{get_or-eq_default}
 use Rattle.std.proofs.lemmas.Bool.{cases_lt}
@@ -10,6 +10,7 @@ use Rattle.event_callbacks.specs.Operations.{Operations, operation_at}
 use Rattle.event_callbacks.specs.declared.operations.OpId.TheVariants as id
 use Rattle.event_callbacks.specs.declared.operations.Operation.TheVariants as operation
 use Rattle.clone_state.specs.Checkpoint.{byte_of, bytes_numbered, padded}
+use Rattle.clone_state.proofs.Guests.{window_length}
 
 -- this many places of a window have the bytes that are outstanding from this number on
 abbrev pub HasBytes : Operations → ℕ → ℕ → ℕ → List ℕ → Type 0
@@ -50,10 +51,6 @@ all_free n k low = go (cases_lt k n)
 
 -- ---- the whole window
 
-length-numbered : (m : Operations) (port n count : ℕ) → length (bytes_numbered m port n count) ≡ count
-length-numbered m port n zero = refl
-length-numbered m port n (suc count) = let e = length-numbered m port (n + 1) count in omega arith
-
 get_or-numbered : (m : Operations) (port n count k : ℕ) → k < count
     → get_or (bytes_numbered m port n count) k 0 ≡ byte_of (operation_at m (id.Byte port (n + k)))
 get_or-numbered m port n zero k low = absurd (omega arith)
@@ -67,21 +64,21 @@ long : (m : Operations) (port oldest count : ℕ)
     → length (bytes_numbered m port oldest count ++ replicate 16 0) ≡ count + 16
 long m port oldest count =
     length-append (bytes_numbered m port oldest count) (replicate 16 0)
-    ∙ ap (λ n. n + 16) (length-numbered m port oldest count)
+    ∙ ap (λ n. n + 16) (window_length m port oldest count)
 
 place_is : (m : Operations) (port oldest count k : ℕ) (bytes : List ℕ) → HasBytes m port oldest count bytes
     → IsFree count bytes → k < 16 → (k < count) ⊎ (count ≤ k)
     → get_or bytes k 0 ≡ get_or (take 16 (bytes_numbered m port oldest count ++ replicate 16 0)) k 0
 place_is m port oldest count k bytes has free low (inl l) =
     let shown : List ℕ = bytes_numbered m port oldest count in
-    let n : length shown ≡ count = length-numbered m port oldest count in
+    let n : length shown ≡ count = window_length m port oldest count in
     let inside : k < length shown = omega arith in
     sym (ap byte_of (has k l)) ∙ sym (get_or-numbered m port oldest count k l)
     ∙ sym (get_or_append_left shown (replicate 16 0) 0 k inside)
     ∙ sym (get_or-take 16 (shown ++ replicate 16 0) k 0 low)
 place_is m port oldest count k bytes has free low (inr l) =
     let shown : List ℕ = bytes_numbered m port oldest count in
-    let n : length shown ≡ count = length-numbered m port oldest count in
+    let n : length shown ≡ count = window_length m port oldest count in
     free k l ∙ sym (get_or-replicate 16 (k - count) 0 0 (omega arith))
     ∙ sym (get_or-append_right shown (replicate 16 0) count k 0 n l)
     ∙ sym (get_or-take 16 (shown ++ replicate 16 0) k 0 low)

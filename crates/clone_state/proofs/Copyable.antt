@@ -1,20 +1,19 @@
 -- A guest that may be copied: each field of its image is in its range and passes its test, so the parts make it again.
-use Rattle.std.proofs.Common.{◌≡◌, ℕ, zero, suc, ◌*◌, ◌<◌, ◌≤◌, ◌^◌, Bool, true, List, [], ◌∷◌, ◌++◌, length, take, drop, replicate, Option, Some, None, refl, ap, ◌∙◌, arith}
-use Rattle.std.specs.Prelude.{All, IfSome, slice_index, slice_index_or, nat_le, nat_lt, not}
-use Rattle.std.specs.List.{list_all, zip}
+use Rattle.std.proofs.Common.{◌≡◌, ℕ, zero, suc, ◌*◌, ◌<◌, ◌≤◌, ◌^◌, true, List, [], ◌∷◌, ◌++◌, length, take, drop, replicate, Option, Some, None, refl, ap, ◌∙◌, arith}
+use Rattle.std.specs.Prelude.{All, IfSome, slice_index, slice_index_or, nat_le, nat_lt}
+use Rattle.std.specs.List.{zip}
 use Rattle.std.proofs.lemmas.List.Elements.{All-cons, All-head, All-tail}
-use Rattle.std.proofs.lemmas.Bool.{and_from, eq-eqb, le-leb, lt-ltb}
+use Rattle.std.proofs.lemmas.Bool.{and_from, le-leb, lt-ltb}
 use Rattle.serial_2sio.specs.Port as serial
-use Rattle.disk_dcdd.specs.Completion.{is_outstanding}
-use Rattle.clone_state.proofs.Words.{Checkpoint, CurrentSector, Drives, GREATEST_NUMBER, Guest, HasOneByte, IsCopyable, IsIssued, IsUnderHead, Place, SECTOR_BYTES, SectorWrite, are_completed, are_levels, are_zeros, checkpoint_of, first, first_in, guest_in, guest_of, is_controller, is_possible, is_window, later_parts, may_be_completed, may_halt, oldest_of, padded, parts_of, port_stands, spelling_01, window_of, write_at, writes_at}
+use Rattle.clone_state.proofs.Words.{Checkpoint, CurrentSector, Drives, GREATEST_NUMBER, Guest, HasOneByte, IsCopyable, IsIssued, IsUnderHead, Place, SECTOR_BYTES, SectorWrite, are_levels, are_zeros, checkpoint_of, first, first_in, guest_in, guest_of, is_controller, is_possible, is_window, later_parts, may_halt, oldest_of, padded, parts_of, port_stands, spelling_01, window_of, write_at, writes_at}
 use Rattle.disk_dcdd.specs.declared.address.TheConstants.{DRIVE_SECTORS}
 use Rattle.disk_dcdd.specs.declared.controller.TheConstants.{DRIVES, OUTSTANDING}
 use Rattle.event_callbacks.specs.Completions.{port_of}
 use Rattle.event_callbacks.specs.Operations.{Operations, operation_at}
-use Rattle.event_callbacks.specs.declared.devices.Devices.{Devices}
 use Rattle.event_callbacks.specs.declared.operations.OpId.TheVariants as id
 use Rattle.event_callbacks.specs.declared.operations.Operation.TheVariants as operation
-use Rattle.guest_parts.specs.Board.{AreCompleted, IsHeld}
+use Rattle.guest_parts.specs.Board.{IsHeld}
+use Rattle.guest_parts.proofs.Shown.{all_pass, completed_pass, port_passes}
 use Rattle.log_entry.specs.Numbers.{◌>>=◌}
 use Rattle.clone_state.proofs.Controllers.{controller_passes}
 use Rattle.clone_state.proofs.First.{AreNumbers, IsFirst, IsPortImage, first_in_again, first_in_again_01}
@@ -124,18 +123,6 @@ port_image g port few =
 
 -- ---- the tests
 
-all_pass : (p : ℕ → Bool) (xs : List ℕ) → ((k : ℕ) → p (slice_index xs k) ≡ true) → list_all p xs ≡ true
-all_pass p [] each = refl
-all_pass p (x ∷ xs) each = and_from (p x) (list_all p xs) (each 0) (all_pass p xs (λ k. each (suc k)))
-
-port_passes : (d : Devices) (issued keys : List ℕ) (port : ℕ) → (port_of d port).unaccepted ≤ slice_index issued port
-    → slice_index issued port ≤ GREATEST_NUMBER → slice_index keys port ≤ GREATEST_NUMBER
-    → port_stands d issued keys port ≡ true
-port_passes d issued keys port sent few rare =
-    and_from _ (nat_le (slice_index keys port) GREATEST_NUMBER)
-    (and_from (nat_le (port_of d port).unaccepted (slice_index issued port))
-    (nat_le (slice_index issued port) GREATEST_NUMBER) (le-leb _ _ sent) (le-leb _ _ few)) (le-leb _ _ rare)
-
 possible : (g : Guest) → IsCopyable g → is_possible (checkpoint_of g).first ≡ true
 unfolding is_possible
 possible g h =
@@ -149,15 +136,6 @@ possible g h =
     (port_passes g.devices g.issued g.keys 0 (a.sent 0) (r.issued 0) (r.keys 0)))
     (port_passes g.devices g.issued g.keys 1 (a.sent 1) (r.issued 1) (r.keys 1)))
     (controller_passes g.devices.disk h.disk)
-
-completed_pass : (disk : Drives) (completed : List ℕ) → AreCompleted completed disk
-    → are_completed disk completed ≡ true
-completed_pass disk completed h =
-    and_from _ (list_all (may_be_completed disk) completed)
-    (eq-eqb (length completed) (disk.attached * DRIVE_SECTORS) h.sectors)
-    (all_pass (may_be_completed disk) completed (λ k.
-    and_from (nat_le (slice_index completed k) disk.issued) (not (is_outstanding disk (slice_index completed k)))
-    (le-leb (slice_index completed k) disk.issued (h.last k)) (ap not (h.done k))))
 
 -- ---- all together
 

@@ -1,6 +1,6 @@
 -- What an image says of a board makes its guest again: each operation of the image is one of the board's, and both have
 -- one under the same names, so they are the same.
-use Rattle.std.proofs.Common.{◌≡◌, ℕ, zero, suc, ◌+◌, ◌-◌, ◌<◌, ◌≤◌, true, false, ◌&&◌, List, [], ◌∷◌, ◌++◌, length, map, take, replicate, Option, Some, None, is_some, refl, sym, ap, ◌∙◌, ⊎_elim, arith, length-append, length-take-le}
+use Rattle.std.proofs.Common.{◌≡◌, ℕ, zero, suc, ◌+◌, ◌-◌, ◌<◌, ◌≤◌, true, ◌&&◌, List, [], ◌∷◌, ◌++◌, length, map, take, replicate, Option, Some, None, is_some, refl, sym, ap, ◌∙◌, arith, length-append, length-take-le}
 use Rattle.std.specs.Prelude.{nat_lt, slice_index, All, IfSome}
 use Rattle.std.specs.FinMap as finite
 use Rattle.std.proofs.lemmas.Bool.Decides.{nat_tests}
@@ -14,11 +14,9 @@ use Rattle.event_callbacks.specs.declared.operations.OpId.{OpId}
 use Rattle.event_callbacks.specs.declared.operations.OpId.TheVariants as id
 use Rattle.event_callbacks.specs.declared.operations.Operation.{Operation}
 use Rattle.event_callbacks.specs.declared.operations.Operation.TheVariants as operation
-use Rattle.event_callbacks.specs.Operations.{Operations, operation_at, with_operation, id_of}
-use Rattle.event_callbacks.proofs.Names.{name_cases}
-use Rattle.event_callbacks.proofs.OperationMap.{operation_at-empty, operation_at-with_named, operation_at-with_other, same_operations}
+use Rattle.event_callbacks.specs.Operations.{Operations, operation_at, id_of}
 use Rattle.guest_parts.specs.Board.{AreAwaited, IsBoard, IsHeld, is_on_its_way}
-use Rattle.guest_parts.proofs.Shown.{AreAmong}
+use Rattle.guest_parts.proofs.Shown.{each-among, empty-among, same_by_names, same_names}
 use Rattle.guest_parts.proofs.Standing.{awaited-parts}
 
 -- ---- maps of operations
@@ -26,44 +24,6 @@ use Rattle.guest_parts.proofs.Standing.{awaited-parts}
 -- each of these is outstanding under its name
 abbrev AreThere : Operations → List Operation → Type 0
 AreThere all ops = All (λ op. operation_at all (id_of op) ≡ Some op) ops
-
-with-among : (m all : Operations) (op : Operation) → operation_at all (id_of op) ≡ Some op → AreAmong m all
-    → AreAmong (with_operation m op) all
-with-among m all op there among name found e =
-    ⊎_elim
-    (λ same. let f : Some op ≡ Some found = sym (operation_at-with_named m op name same) ∙ e in
-    ap (operation_at all) same ∙ there ∙ f)
-    (λ differs. among name found (sym (operation_at-with_other m op name differs) ∙ e))
-    (name_cases name (id_of op))
-
-each-among : (m all : Operations) (ops : List Operation) → AreThere all ops → AreAmong m all
-    → AreAmong (with_each m ops) all
-each-among m all [] there among = among
-each-among m all (op ∷ ops) there among =
-    each-among (with_operation m op) all ops (All-tail (λ x. operation_at all (id_of x) ≡ Some x) op ops there)
-    (with-among m all op (All-head (λ x. operation_at all (id_of x) ≡ Some x) op ops there) among)
-
-empty-among : (all : Operations) → AreAmong finite.empty all
-empty-among all name op e = let none = operation_at-empty name in cc
-
-same_by_names : (m all : Operations) → AreAmong m all
-    → ((name : OpId) → is_some (operation_at m name) ≡ is_some (operation_at all name)) → m ≡ all
-same_by_names m all among names =
-    same_operations m all among (λ name op e. found name op (operation_at m name) refl e)
-  where
-    found : (name : OpId) (op : Operation) (o : Option Operation) → operation_at m name ≡ o
-        → operation_at all name ≡ Some op
-        → operation_at m name ≡ Some op
-    found name op None none e =
-        let clash : false ≡ true = sym (ap is_some none) ∙ names name ∙ ap is_some e in cc
-    found name op (Some x) some e =
-        let there : operation_at all name ≡ Some x = among name x some in
-        some ∙ sym there ∙ e
-
-same_names : (d : Devices) (m n : Operations) (issued : List ℕ) → AreAwaited d m issued → AreAwaited d n issued
-    → (name : OpId) → is_some (operation_at m name) ≡ is_some (operation_at n name)
-same_names d m n issued a b (id.Byte port number) = a.bytes port number ∙ sym (b.bytes port number)
-same_names d m n issued a b (id.Write number) = a.writes number ∙ sym (b.writes number)
 
 -- ---- the bytes of a window
 

@@ -1,21 +1,10 @@
 -- What is read can be rebuilt: it passes the tests of a board's parts.
-use Rattle.std.proofs.Common.{◌≡◌, ℕ, ◌<◌, ◌^◌, true, List, [], ◌∷◌, map, refl, subst, arith}
-use Rattle.std.specs.Prelude.{◌&&◌, ◌==◌, nat_le}
-use Rattle.std.proofs.lemmas.Bool.{and_from, and_parts, eq-eqb, le-leb}
-use Rattle.clone_state.proofs.Words.{FitsBoard, GREATEST_NUMBER, Place, SectorWrite, are_completed, are_levels, checkpoint_in_parts, go_to, goes_to, is_controller, is_possible, may_halt, place_of, port_stands, stands}
+use Rattle.std.proofs.Common.{◌≡◌, ℕ, ◌<◌, ◌^◌, true, List, subst, arith}
+use Rattle.std.specs.Prelude.{nat_le}
+use Rattle.std.proofs.lemmas.Bool.{and_from, and_parts, le-leb}
+use Rattle.clone_state.proofs.Words.{FitsBoard, GREATEST_NUMBER, Place, are_completed, are_levels, checkpoint_in_parts, go_to, is_controller, is_possible, may_halt, port_stands, stands}
 use Rattle.guest_parts.specs.declared.parts.BoardParts.{BoardParts}
-
--- writes go to their own places
-go_itself : (ws : List SectorWrite) → go_to ws (map place_of ws) ≡ true
-go_itself [] = refl
-go_itself (w ∷ ws) =
-    and_from (goes_to w (place_of w)) (go_to ws (map place_of ws))
-    (and_from (w.number == w.number && w.drive == w.drive && w.track == w.track) (w.sector == w.sector)
-    (and_from (w.number == w.number && w.drive == w.drive) (w.track == w.track)
-    (and_from (w.number == w.number) (w.drive == w.drive) (eq-eqb w.number w.number refl)
-    (eq-eqb w.drive w.drive refl))
-    (eq-eqb w.track w.track refl)) (eq-eqb w.sector w.sector refl))
-    (go_itself ws)
+use Rattle.guest_parts.proofs.Shown.{go_itself}
 
 pub read_stands : (drives : ℕ) (p : BoardParts) → FitsBoard drives (checkpoint_in_parts p) → stands p ≡ true
 unfolding is_possible

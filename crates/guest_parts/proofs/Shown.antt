@@ -33,11 +33,11 @@ use Rattle.guest_parts.specs.declared.parts.BoardParts.{BoardParts}
 
 -- ---- the tests
 
-all_pass : (p : ℕ → Bool) (xs : List ℕ) → ((k : ℕ) → p (slice_index xs k) ≡ true) → list_all p xs ≡ true
+pub all_pass : (p : ℕ → Bool) (xs : List ℕ) → ((k : ℕ) → p (slice_index xs k) ≡ true) → list_all p xs ≡ true
 all_pass p [] each = refl
 all_pass p (x ∷ xs) each = and_from (p x) (list_all p xs) (each 0) (all_pass p xs (λ k. each (suc k)))
 
-go_itself : (ws : List SectorWrite) → go_to ws (map place_of ws) ≡ true
+pub go_itself : (ws : List SectorWrite) → go_to ws (map place_of ws) ≡ true
 go_itself [] = refl
 go_itself (w ∷ ws) =
     and_from (goes_to w (place_of w)) (go_to ws (map place_of ws))
@@ -48,7 +48,7 @@ go_itself (w ∷ ws) =
     (eq-eqb w.track w.track refl)) (eq-eqb w.sector w.sector refl))
     (go_itself ws)
 
-completed_pass : (disk : drives.Drives) (completed : List ℕ) → AreCompleted completed disk
+pub completed_pass : (disk : drives.Drives) (completed : List ℕ) → AreCompleted completed disk
     → are_completed disk completed ≡ true
 completed_pass disk completed h =
     and_from (length completed == disk.attached * DRIVE_SECTORS) (list_all (may_be_completed disk) completed)
@@ -57,7 +57,7 @@ completed_pass disk completed h =
     and_from (nat_le (slice_index completed k) disk.issued) (not (is_outstanding disk (slice_index completed k)))
     (le-leb (slice_index completed k) disk.issued (h.last k)) (ap not (h.done k))))
 
-port_passes : (d : Devices) (issued keys : List ℕ) (port : ℕ) → (port_of d port).unaccepted ≤ slice_index issued port
+pub port_passes : (d : Devices) (issued keys : List ℕ) (port : ℕ) → (port_of d port).unaccepted ≤ slice_index issued port
     → slice_index issued port ≤ GREATEST_NUMBER → slice_index keys port ≤ GREATEST_NUMBER
     → port_stands d issued keys port ≡ true
 port_passes d issued keys port sent few rare =
@@ -101,7 +101,7 @@ with-among m all op there among name found e =
     (λ differs. among name found (sym (operation_at-with_other m op name differs) ∙ e))
     (name_cases name (id_of op))
 
-each-among : (m all : Operations) (ops : List Operation) → All (λ op. operation_at all (id_of op) ≡ Some op) ops
+pub each-among : (m all : Operations) (ops : List Operation) → All (λ op. operation_at all (id_of op) ≡ Some op) ops
     → AreAmong m all → AreAmong (with_each m ops) all
 each-among m all [] there among = among
 each-among m all (op ∷ ops) there among =
@@ -137,11 +137,11 @@ port-among d issued unaccepted m all p window shown among =
     ∙ ap (λ i. Some (operation.Byte p i (slice_index bytes j))) (sym e)
     ∙ ap (λ b. Some (operation.Byte p k b)) (sym (get_or-take u bytes j 0 low)))) among
 
-empty-among : (all : Operations) → AreAmong finite.empty all
+pub empty-among : (all : Operations) → AreAmong finite.empty all
 empty-among all name op e = let none = operation_at-empty name in cc
 
 -- two maps with operations under the same names are equal, if one is among the other
-same_by_names : (m all : Operations) → AreAmong m all
+pub same_by_names : (m all : Operations) → AreAmong m all
     → ((name : OpId) → is_some (operation_at m name) ≡ is_some (operation_at all name)) → m ≡ all
 same_by_names m all among names =
     same_operations m all among (λ name op e. found name op (operation_at m name) refl e)
@@ -156,7 +156,7 @@ same_by_names m all among names =
         some ∙ sym there ∙ e
 
 -- two maps that agree with the same devices have operations under the same names
-same_names : (d : Devices) (m n : Operations) (issued : List ℕ) → AreAwaited d m issued → AreAwaited d n issued
+pub same_names : (d : Devices) (m n : Operations) (issued : List ℕ) → AreAwaited d m issued → AreAwaited d n issued
     → (name : OpId) → is_some (operation_at m name) ≡ is_some (operation_at n name)
 same_names d m n issued a b (id.Byte port number) = a.bytes port number ∙ sym (b.bytes port number)
 same_names d m n issued a b (id.Write number) = a.writes number ∙ sym (b.writes number)
