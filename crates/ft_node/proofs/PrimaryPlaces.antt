@@ -4,9 +4,9 @@ use Rattle.std.proofs.Common.{◌≡◌, ℕ, Option, Some, None, Ok, refl, ◌�
 use Rattle.ft_node.proofs.Words.{AdvancesSome, AdvancesUnless, AllTurns, AreFew, AreOfOutstanding, Begin, ComesAndGoes, Covering, Fault, HasPlace, IsCovering, IsFrugal, IsRefused, Log, Machine, More, OpId, Quiet, RunsOn, Stopped, advance_refusal, id_of}
 use Rattle.guest_lockstep.specs.declared.reads.Reads.TheVariants.{Logged}
 use Rattle.recorder.proofs.Advances.{records_steps}
-use Rattle.recorder.proofs.Recorded.{is_run}
 use Rattle.guest_lockstep.specs.Recorded.{Counts}
 use Rattle.guest_lockstep.specs.Running.{Gives}
+use Rattle.guest_lockstep.proofs.Moves.{recorded-runs}
 use Rattle.ft_node.proofs.PrimaryNotes.{AreOfOutstanding-noted, room_for_note}
 
 -- ---- a run that was made
@@ -44,5 +44,5 @@ pub place_for_note : {S : Type 0} (M : Machine S) (s t : S) (l new : Log) (turns
 place_for_note M s t l new turns a c counts laws frugal outstanding stands made =
     let some = made_some M s t l new turns a (advance_refusal M s l turns) made in
     let run = records_steps M Logged s t l new turns a counts some.1.0 in
-    place_at M s t turns a c laws (frugal run.moves t (is_run M s t run.moves run.records.runs)) outstanding stands
+    place_at M s t turns a c laws (frugal run.moves t (recorded-runs M s t run.moves run.records.runs)) outstanding stands
     some.1.0.runs

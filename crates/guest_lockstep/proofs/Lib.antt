@@ -1,3 +1,4 @@
 pub mod QuietSteps
 pub mod WrittenPages
 pub mod Booted
+pub mod Moves

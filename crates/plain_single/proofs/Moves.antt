@@ -3,6 +3,7 @@ use Rattle.std.proofs.Common.{◌≡◌, ℕ, suc, ◌+◌, List, [], ◌∷◌,
 use Rattle.std.specs.Prelude.{reverse}
 use Rattle.std.specs.Option.{option_map_or}
 use Rattle.std.proofs.lemmas.List.{append-nil, reverse-append}
+use Rattle.std.proofs.lemmas.Option.{same_Some}
 use Rattle.disk_dcdd.specs.declared.address.SectorAddress.{SectorAddress}
 use Rattle.disk_dcdd.specs.declared.sector.SectorWrite.{SectorWrite}
 use Rattle.event_callbacks.specs.declared.operations.Operation.{Operation}
@@ -10,18 +11,9 @@ use Rattle.event_callbacks.specs.declared.operations.Operation.TheVariants.{Byte
 use Rattle.guest_lockstep.specs.Machine.{Machine, Move, Do, Take, Runs}
 use Rattle.guest_lockstep.specs.declared.input.Input.{Input}
 use Rattle.guest_lockstep.specs.declared.input.Input.TheVariants as input
-use Rattle.guest_lockstep.specs.Reach.{timed, inputs, steps, output, writes, byte_to, write_of, image_from, bytes_after, Owns}
+use Rattle.guest_lockstep.specs.Reach.{steps, output, writes, byte_to, write_of, image_from, bytes_after, Owns}
 
 -- ---- where the moves lead
-
-pub runs_on : {S : Type 0} (M : Machine S) (s t u : S) (xs ys : List Move) → Runs M s xs t → Runs M t ys u
-    → Runs M s (xs ++ ys) u
-runs_on M s t u [] ys e r = subst (λ v. Runs M v ys u) (sym e) r
-runs_on M s t u (Do gives ∷ xs) ys h r = (h.0, h.1, runs_on M h.0 t u xs ys h.2 r)
-runs_on M s t u (Take i ∷ xs) ys h r = (h.0, h.1, runs_on M h.0 t u xs ys h.2 r)
-
-one_state : {S : Type 0} (o : Option S) (v u : S) → o ≡ Some v → o ≡ Some u → v ≡ u
-one_state o v u e f = cc
 
 one_step : {S : Type 0} (o : Option (S × Option Operation)) (v u : S) (gives : Option Operation)
     → o ≡ Some (v, gives) → o ≡ Some (u, gives) → v ≡ u
@@ -43,17 +35,11 @@ owns_on {S} M before all s t (Take i ∷ xs) ys e o r h = (
   λ u taken. owns_on M (before ++ Take i ∷ []) all u t xs ys
       (e ∙ sym (append_assoc before (Take i ∷ []) xs))
       (o.1 u taken)
-      (subst (λ v. Runs M v xs t) (one_state (M.take s i) r.0 u r.1 taken) r.2)
+      (subst (λ v. Runs M v xs t) (same_Some r.0 u (sym r.1 ∙ taken)) r.2)
       h,
 )
 
 -- ---- what the moves are
-
-pub inputs_do : (count : ℕ) (xs : List Move) (gives : Option Operation)
-    → inputs count (xs ++ Do gives ∷ []) ≡ inputs count xs
-inputs_do count [] gives = refl
-inputs_do count (Do g ∷ xs) gives = inputs_do (suc count) xs gives
-inputs_do count (Take i ∷ xs) gives = ap (λ ts. timed count i ∷ ts) (inputs_do count xs gives)
 
 pub steps_do : (xs : List Move) (gives : Option Operation) → steps (xs ++ Do gives ∷ []) ≡ steps xs + 1
 steps_do [] gives = refl
@@ -64,19 +50,6 @@ pub steps_take : (xs : List Move) (i : Input) → steps (xs ++ Take i ∷ []) �
 steps_take [] i = refl
 steps_take (Do g ∷ xs) i = ap suc (steps_take xs i)
 steps_take (Take j ∷ xs) i = steps_take xs i
-
-no_more : (a : ℕ) → a ≡ a + 0
-no_more a = omega arith
-
-move_count : (a b : ℕ) → suc a + b ≡ a + suc b
-move_count a b = omega arith
-
-pub inputs_take : (count : ℕ) (xs : List Move) (i : Input)
-    → inputs count (xs ++ Take i ∷ []) ≡ inputs count xs ++ timed (count + steps xs) i ∷ []
-inputs_take count [] i = ap (λ n. timed n i ∷ []) (no_more count)
-inputs_take count (Do g ∷ xs) i =
-    inputs_take (suc count) xs i ∙ ap (λ n. inputs (suc count) xs ++ timed n i ∷ []) (move_count count (steps xs))
-inputs_take count (Take j ∷ xs) i = ap (λ ts. timed count j ∷ ts) (inputs_take count xs i)
 
 -- what a step sends and writes
 abbrev pub sent : ℕ → Option Operation → List ℕ

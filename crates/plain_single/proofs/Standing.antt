@@ -19,7 +19,8 @@ use Rattle.plain_single.specs.Behind.{with_byte, with_write}
 use Rattle.guest_lockstep.specs.Reach.{image_from}
 use Rattle.plain_single.specs.Reaching.{StandsAt, StopsBy, is_spent_at, FailsBefore}
 use Rattle.guest_lockstep.specs.declared.timed.Timed.{Timed}
-use Rattle.plain_single.proofs.Moves.{runs_on, owns_on, inputs_do, steps_do, sent, written, output_do, writes_do, image_on}
+use Rattle.guest_lockstep.proofs.Moves.{inputs-do, runs-append}
+use Rattle.plain_single.proofs.Moves.{owns_on, steps_do, sent, written, output_do, writes_do, image_on}
 use Rattle.plain_single.proofs.Stepping.{next_is, step_is}
 
 -- ---- what a step adds
@@ -61,9 +62,9 @@ steps_on last setup sectors list a x e =
       moves = x.moves ++ Do gives ∷ [];
       reach = record {
         last = u;
-        runs = runs_on M M.boot t u x.moves (Do gives ∷ []) x.reach.runs (u, steps, refl);
+        runs = runs-append M M.boot t u x.moves (Do gives ∷ []) x.reach.runs (u, steps, refl);
         owns = owns_on M [] x.moves M.boot t x.moves (Do gives ∷ []) refl x.reach.owns x.reach.runs (λ v s. tt);
-        list_is = inputs_do 0 x.moves gives ∙ x.reach.list_is;
+        list_is = inputs-do 0 x.moves gives ∙ x.reach.list_is;
         count_is = steps_do x.moves gives ∙ ap (λ n. n + 1) x.reach.count_is;
       };
       stands = record {

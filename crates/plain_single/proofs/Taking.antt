@@ -26,7 +26,8 @@ use Rattle.plain_single.specs.Serial.{due_unless}
 use Rattle.guest_lockstep.specs.declared.timed.Bare.{Bare}
 use Rattle.guest_lockstep.specs.declared.timed.Bare.TheVariants.{Rx, Sent, Sector, Written}
 use Rattle.guest_lockstep.specs.declared.timed.Timed.{Timed}
-use Rattle.plain_single.proofs.Moves.{runs_on, owns_on, inputs_take, steps_take, output_take, writes_take, image_on}
+use Rattle.guest_lockstep.proofs.Moves.{inputs-take, runs-append}
+use Rattle.plain_single.proofs.Moves.{owns_on, steps_take, output_take, writes_take, image_on}
 
 -- ---- the same questions
 
@@ -238,9 +239,9 @@ takes_on setup sectors list a t disk x e reads at same =
       moves = x.moves ++ Take y.i ∷ [];
       reach = record {
         last = y.next;
-        runs = runs_on M M.boot s y.next x.moves (Take y.i ∷ []) x.reach.runs (y.next, y.takes, refl);
+        runs = runs-append M M.boot s y.next x.moves (Take y.i ∷ []) x.reach.runs (y.next, y.takes, refl);
         owns = owns_on M [] x.moves M.boot s x.moves (Take y.i ∷ []) refl x.reach.owns x.reach.runs (y.own, λ u h. tt);
-        list_is = inputs_take 0 x.moves y.i ∙ ap (λ ts. ts ++ timed (0 + steps x.moves) y.i ∷ []) x.reach.list_is
+        list_is = inputs-take 0 x.moves y.i ∙ ap (λ ts. ts ++ timed (0 + steps x.moves) y.i ∷ []) x.reach.list_is
             ∙ ap (λ one. list ++ one ∷ []) is_t;
         count_is = steps_take x.moves y.i ∙ x.reach.count_is;
       };

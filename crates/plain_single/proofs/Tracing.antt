@@ -1,6 +1,7 @@
 -- If the inputs of a list lead to a count, the trace of the first of them is a prefix of that trace: it does not end short
 -- of the next input or of the count, and no input is refused or left.
 use Rattle.std.proofs.Common.{◌≡◌, ℕ, suc, ◌+◌, ◌<◌, ◌≤◌, List, [], ◌∷◌, ◌++◌, Option, None, Some, Bool, true, false, refl, sym, ap, ◌∙◌, subst, arith, inl, inr}
+use Rattle.std.proofs.lemmas.Option.{none-some, same_Some}
 use Rattle.event_callbacks.specs.declared.operations.Operation.{Operation}
 use Rattle.i8080_words.specs.declared.refusal.Fault.{Fault}
 use Rattle.i8080_words.specs.declared.refusal.Fault.TheVariants as faults
@@ -8,43 +9,12 @@ use Rattle.guest_parts.specs.Guest.{Guest}
 use Rattle.guest_lockstep.specs.Machine.{Machine, Move, Do, Take, Runs}
 use Rattle.guest_lockstep.specs.declared.input.Input.{Input}
 use Rattle.guest_lockstep.specs.declared.input.Input.TheVariants as input
-use Rattle.guest_lockstep.specs.Reach.{Own, Owns, Reach, bare, image, inputs, steps, timed}
+use Rattle.guest_lockstep.specs.Reach.{Owns, Reach, bare, inputs, steps, timed}
 use Rattle.plain_single.specs.Reaching.{Fails, LeavesInput, MeetsRefused, StopsShort, next_count}
 use Rattle.guest_lockstep.specs.declared.timed.Timed.{Timed}
+use Rattle.guest_lockstep.proofs.Moves.{inputs_at, own_once}
 
 -- ---- one step, one input
-
-same_some : {A : Type 0} (x y : A) (o : Option A) → o ≡ Some x → o ≡ Some y → x ≡ y
-same_some x y o e f = cc
-
-none_some : {A : Type 0} (x : A) (o : Option A) → o ≡ None → o ≡ Some x → ⊥
-none_some x o e f = absurd (cc)
-
--- an input is determined by what it is without what the log carries, and by the machine's own disk
-own_once : {S : Type 0} (M : Machine S) (before : List Move) (s : S) (i j : Input)
-    → Own M before s i → Own M before s j → bare i ≡ bare j → i ≡ j
-own_once M before s (input.Rx p b) (input.Rx q c) h k e = (cc)
-own_once M before s (input.Rx p b) (input.Sent q) h k e = (cc)
-own_once M before s (input.Rx p b) (input.Sector d r n bs) h k e = (cc)
-own_once M before s (input.Rx p b) (input.Written n) h k e = (cc)
-own_once M before s (input.Sent p) (input.Rx q c) h k e = (cc)
-own_once M before s (input.Sent p) (input.Sent q) h k e = (cc)
-own_once M before s (input.Sent p) (input.Sector d r n bs) h k e = (cc)
-own_once M before s (input.Sent p) (input.Written n) h k e = (cc)
-own_once M before s (input.Sector c q m as') (input.Rx p b) h k e = (cc)
-own_once M before s (input.Sector c q m as') (input.Sent p) h k e = (cc)
-own_once M before s (input.Sector c q m as') (input.Sector d r n bs) h k e =
-    let f : c ≡ d = (cc) in
-    let g : q ≡ r = (cc) in
-    let a : M.address s c q ≡ M.address s d r = ap (λ z. M.address s z q) f ∙ ap (M.address s d) g in
-    let n_is : m ≡ n = sym h.0 ∙ ap (M.done s) a ∙ k.0 in
-    let b_is : as' ≡ bs = sym h.1 ∙ ap (image M before) a ∙ k.1 in
-    λ x. input.Sector (f x) (g x) (n_is x) (b_is x)
-own_once M before s (input.Sector c q m as') (input.Written n) h k e = (cc)
-own_once M before s (input.Written m) (input.Rx p b) h k e = (cc)
-own_once M before s (input.Written m) (input.Sent p) h k e = (cc)
-own_once M before s (input.Written m) (input.Sector d r n bs) h k e = (cc)
-own_once M before s (input.Written m) (input.Written n) h k e = (cc)
 
 -- ---- counts
 
@@ -55,11 +25,6 @@ Late n (t ∷ ts) = n ≤ t.count
 
 same_count : (t u : Timed) → t ≡ u → t.count ≡ u.count
 same_count t u e = ap (λ (z : Timed). z.count) e
-
-inputs_at : (c : ℕ) (xs : List Move) (t : Timed) (ts : List Timed) → inputs c xs ≡ t ∷ ts → c ≤ t.count
-inputs_at c [] t ts h = (cc)
-inputs_at c (Do o ∷ xs) t ts h = let k = inputs_at (suc c) xs t ts h in omega arith
-inputs_at c (Take i ∷ xs) t ts h = let k : timed c i ≡ t = (cc) in let l = same_count (timed c i) t k in omega arith
 
 too_late : (c : ℕ) (xs : List Move) (t : Timed) (ts : List Timed) → t.count ≤ c → inputs (suc c) xs ≡ t ∷ ts → ⊥
 too_late c xs t ts e h = let k = inputs_at (suc c) xs t ts h in omega arith
@@ -117,7 +82,7 @@ rest_of M before s t u c n [] ys rest h k o p e at late few =
     }
 rest_of M before s t u c n (Do a ∷ xs) [] rest h k o p e at late few = absurd (omega arith)
 rest_of {S} M before s t u c n (Do a ∷ xs) (Do b ∷ ys) rest h k o p e at late few =
-    let q : ◌≡◌ {A = S × Option Operation} (h.0, a) (k.0, b) = same_some (h.0, a) (k.0, b) (M.step s) h.1 k.1 in
+    let q : ◌≡◌ {A = S × Option Operation} (h.0, a) (k.0, b) = same_Some (h.0, a) (k.0, b) (sym h.1 ∙ k.1) in
     let v : h.0 ≡ k.0 = ap (λ (z : S × Option Operation). z.0) q in
     let w : a ≡ b = ap (λ (z : S × Option Operation). z.1) q in
     let next : suc c + steps xs ≡ n = omega arith in
@@ -138,7 +103,7 @@ rest_of M before s t u c n (Take i ∷ xs) (Take j ∷ ys) rest h k o p e at lat
     let tail : inputs c ys ≡ inputs c xs ++ rest = (cc) in
     let w : i ≡ j = own_once M before s i j o.0 p.0 (ap (λ (z : Timed). z.input) g) in
     let taken : M.take s i ≡ Some k.0 = ap (M.take s) w ∙ k.1 in
-    let v : h.0 ≡ k.0 = same_some h.0 k.0 (M.take s i) h.1 taken in
+    let v : h.0 ≡ k.0 = same_Some h.0 k.0 (sym h.1 ∙ taken) in
     rest_of M (before ++ Take i ∷ []) k.0 t u c n xs ys rest (subst (λ z. Runs M z xs t) v h.2) k.2
     (o.1 k.0 taken)
     (subst (λ z. Owns M (before ++ Take z ∷ []) k.0 ys) (sym w) (p.1 k.0 k.1)) tail at late few
@@ -159,7 +124,7 @@ stuck_nowhere : {S : Type 0} (M : Machine S) (t u : S) (at count : ℕ) (rest : 
     → Runs M t zs u → inputs at zs ≡ rest → steps zs + at ≡ count → at < next_count count rest → M.step t ≡ None → ⊥
 stuck_nowhere M t u at count [] [] h e n early stuck = omega arith
 stuck_nowhere M t u at count (r ∷ rest) [] h e n early stuck = (cc)
-stuck_nowhere M t u at count rest (Do a ∷ zs) h e n early stuck = none_some (h.0, a) (M.step t) stuck h.1
+stuck_nowhere M t u at count rest (Do a ∷ zs) h e n early stuck = none-some (h.0, a) (sym stuck ∙ h.1)
 stuck_nowhere M t u at count [] (Take i ∷ zs) h e n early stuck = (cc)
 stuck_nowhere M t u at count (r ∷ rest) (Take i ∷ zs) h e n early stuck =
     let k : timed at i ≡ r = (cc) in let l = same_count (timed at i) r k in omega arith
@@ -189,7 +154,7 @@ taken_or_later M t u c after [] h e untaken = (cc)
 taken_or_later M t u c after (Do a ∷ zs) h e untaken = too_late c.count zs c after (omega arith) e
 taken_or_later M t u c after (Take i ∷ zs) h e untaken =
     let k : timed c.count i ≡ c = (cc) in
-    none_some h.0 (M.take t i) (untaken i (ap (λ (z : Timed). z.input) k)) h.1
+    none-some h.0 (sym (untaken i (ap (λ (z : Timed). z.input) k)) ∙ h.1)
 
 never_refused : (M : Machine Guest) (list : List Timed) (count : ℕ) (fault : Fault) (moves : List Move)
     → Reach M list count moves → MeetsRefused M list count fault → ⊥

@@ -3,7 +3,8 @@
 -- are those of the first followed by those of the second, and what each pushes is what the whole run pushes.
 use Rattle.std.proofs.Common.{◌≡◌, suc, ◌+◌, arith, List, [], ◌∷◌, ◌++◌, sym, ap, subst, ◌∙◌}
 use Rattle.std.proofs.lemmas.List.{append_assoc}
-use Rattle.guest_lockstep.specs.Machine.{Machine, Move, Do, Take, Runs}
+pub use Rattle.guest_lockstep.proofs.Moves.{recorded-append as Recorded-append}
+use Rattle.guest_lockstep.specs.Machine.{Machine, Move, Do, Take}
 use Rattle.guest_lockstep.specs.Recorded.{Counts, Recorded}
 use Rattle.guest_lockstep.specs.declared.reads.Reads.{Reads}
 use Rattle.log_buffer.specs.Log.{Log}
@@ -11,17 +12,6 @@ use Rattle.log_entry.specs.Entries.{entries, marks, entry_of}
 use Rattle.log_entry.specs.declared.entry.Entry.{Entry}
 use Rattle.guest_lockstep.specs.Reach.{steps}
 use Rattle.recorder.specs.Laws.{Records}
-
-pub is_run : {S : Type 0} (M : Machine S) (s t : S) (moves : List Move) → Recorded M s moves t → Runs M s moves t
-is_run M s t [] r = r
-is_run M s t (Do gives ∷ moves) r = (r.0, r.1, is_run M r.0 t moves r.2)
-is_run M s t (Take input ∷ moves) r = (r.0, r.1.taken, is_run M r.0 t moves r.2)
-
-pub Recorded-append : {S : Type 0} (M : Machine S) (s t u : S) (moves more : List Move) → Recorded M s moves t
-    → Recorded M t more u → Recorded M s (moves ++ more) u
-Recorded-append M s t u [] more a b = subst (λ t. Recorded M t more u) (sym a) b
-Recorded-append M s t u (Do gives ∷ moves) more a b = (a.0, a.1, Recorded-append M a.0 t u moves more a.2 b)
-Recorded-append M s t u (Take input ∷ moves) more a b = (a.0, a.1, Recorded-append M a.0 t u moves more a.2 b)
 
 pub count-Recorded : {S : Type 0} (M : Machine S) (s t : S) (moves : List Move) → Counts M → Recorded M s moves t
     → M.count t ≡ M.count s + steps moves

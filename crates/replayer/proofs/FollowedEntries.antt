@@ -17,11 +17,12 @@ use Rattle.guest_lockstep.specs.declared.running.StopReason.TheVariants as reaso
 use Rattle.guest_lockstep.specs.declared.running.Stopped.{Stopped}
 use Rattle.guest_lockstep.proofs.QuietSteps.{none_made, quiet_count}
 use Rattle.guest_lockstep.specs.declared.reads.Reads.TheVariants.{Logged}
+use Rattle.guest_lockstep.proofs.Moves.{recorded-append}
 use Rattle.i8080_words.specs.declared.refusal.Fault.{Fault}
 use Rattle.log_entry.specs.Entries.{count_of, entries, entry_of, input_of, timed_of}
 use Rattle.log_entry.specs.declared.entry.Entry.{Entry}
 use Rattle.log_entry.specs.declared.entry.Entry.TheVariants as entry
-use Rattle.recorder.proofs.Recorded.{Recorded-append, entries-append}
+use Rattle.recorder.proofs.Recorded.{entries-append}
 use Rattle.replayer.specs.Following.{Follows, Logs, Reaches, Strays, GivesNothing, GivesAtLast, Ran, FollowingIsRecording}
 use Rattle.replayer.specs.declared.following.Followed.TheVariants.{Stepped, Differs}
 
@@ -310,7 +311,7 @@ unlogged M counts s _ u (More {n = n} {t = t} q allowed made) =
     let before = unlogged M counts s n t q in
     record {
       moves = before.moves ++ Do None ∷ [];
-      runs = Recorded-append M s t u before.moves (Do None ∷ []) before.runs (u, made, refl);
+      runs = recorded-append M s t u before.moves (Do None ∷ []) before.runs (u, made, refl);
       none =
           entries-append M Logged s t before.moves (Do None ∷ []) counts before.runs
           ∙ append-nil (entries Logged (M.count s) before.moves)
@@ -325,7 +326,7 @@ following_is_recording {S} M counts start s list ran = record { quietly = quietl
         let more = unlogged M counts s n t q in
         record {
           moves = ran.moves ++ more.moves;
-          runs = Recorded-append M start s t ran.moves more.moves ran.runs more.runs;
+          runs = recorded-append M start s t ran.moves more.moves ran.runs more.runs;
           entries_are =
               entries-append M Logged start s ran.moves more.moves counts ran.runs
               ∙ ap (λ l. entries Logged (M.count start) ran.moves ++ l) more.none
@@ -337,7 +338,7 @@ following_is_recording {S} M counts start s list ran = record { quietly = quietl
         let before = quietly r.steps r.last r.quietly in (
           record {
             moves = before.moves ++ r.logs.move ∷ [];
-            runs = Recorded-append M start r.last t before.moves (r.logs.move ∷ []) before.runs r.logs.runs;
+            runs = recorded-append M start r.last t before.moves (r.logs.move ∷ []) before.runs r.logs.runs;
             entries_are =
                 entries-append M Logged start r.last before.moves (r.logs.move ∷ []) counts before.runs
                 ∙ ap (λ l. entries Logged (M.count start) before.moves ++ l) r.logs.entry

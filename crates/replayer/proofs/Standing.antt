@@ -11,11 +11,12 @@ use Rattle.guest_lockstep.specs.Recorded.{Counts, Accepts, Recorded}
 use Rattle.guest_lockstep.specs.declared.input.Input.{Input}
 use Rattle.guest_lockstep.specs.declared.input.Input.TheVariants.{Sector}
 use Rattle.guest_lockstep.specs.declared.reads.Reads.{Reads}
+use Rattle.guest_lockstep.proofs.Moves.{recorded-append}
 use Rattle.log_entry.specs.Entries.{entries, marks}
 use Rattle.log_entry.specs.Standing.{owed, Stands, TakesFetched}
 use Rattle.log_entry.specs.declared.entry.Entry.{Entry}
 use Rattle.log_entry.specs.declared.entry.Entry.TheVariants.{Read}
-use Rattle.recorder.proofs.Recorded.{Recorded-append, entries-append}
+use Rattle.recorder.proofs.Recorded.{entries-append}
 use Rattle.replayer.specs.Replaying.{Moves, Steps, Passes, Takes, Reads as ReadsSector, Replays, Begin, Then}
 use Rattle.replayer.specs.Standing.{StaysOn}
 use Rattle.replayer.proofs.Fronts.{NextDoes, next_does, NextTakes, next_takes, next_reads, NextPasses, next_passes, none_for, none_at_step, takes_none, mark_not_read, input_not_read}
@@ -58,7 +59,7 @@ after_step M reads s t u last held left still owes moves gives counts x made nex
       owes_still = gave gives;
       moves_are =
           x.moves_are ∙ ap (λ (r : List Move). x.made ++ r) rest_is ∙ sym (append_assoc x.made step next.rest);
-      runs = Recorded-append M s t u x.made step x.runs (u, made, refl);
+      runs = recorded-append M s t u x.made step x.runs (u, made, refl);
       stands = record {
         runs = runs_on;
         later = x.stands.later;
@@ -139,7 +140,7 @@ after_input M reads s t u last held left es still after owes moves e input count
       owes_still = false;
       moves_are =
           x.moves_are ∙ ap (λ (r : List Move). x.made ++ r) next.moves_are ∙ sym (append_assoc x.made one next.rest);
-      runs = Recorded-append M s t u x.made one x.runs (u, accepts, refl);
+      runs = recorded-append M s t u x.made one x.runs (u, accepts, refl);
       stands = record {
         runs = runs_on;
         later = x.stands.later;

@@ -1,29 +1,23 @@
 -- The log and the notes of a primary after one more move.
 use Rattle.std.proofs.Common.{[], ◌++◌, ◌+◌, ◌<◌, ◌∙◌, ◌∷◌, ◌≡◌, ◌≤◌, ◌⊎◌, Bool, List, None, Option, Some, ap, append-nil, append_assoc, arith, cond, eq-eqb, false, inl, inr, length, length-append, refl, subst, suc, sym, true, zero, ℕ}
 use Rattle.std.specs.Prelude.{◌&&◌, ◌==◌, slice_get}
+use Rattle.guest_lockstep.proofs.Moves.{inputs-do, inputs-take}
 use Rattle.pair_protocol.proofs.Words.{Among, Byte, Do, Entry, Input, IsPrefix, Mark, Move, Note, OpId, Operation, SectorWrite, Take, Write, cut, entries, id_of, inputs, is_read, marks, note_of, notes_after, operations, same_name, steps, timed, Reads}
 use Rattle.event_callbacks.specs.declared.operations.OpId.TheVariants as id
 use Rattle.pair_protocol.specs.Waiting.{reads_in, up_to_read, waits_for}
 use Rattle.pair_protocol.proofs.Invariant.{AreNoted, IsNoted}
 use Rattle.pair_protocol.proofs.Traces.Cuts.{among-cut, cut-both}
 use Rattle.pair_protocol.proofs.Traces.Lists.{among-prefix, among-split, bool_cases, get-after, get-front, le-cases}
-use Rattle.pair_protocol.proofs.Traces.Moves.{entries-append, inputs-append, operations-append, operations-prefix, steps-append}
+use Rattle.pair_protocol.proofs.Traces.Moves.{entries-append, operations-append, operations-prefix, steps-append}
 
 pub entries-longer : (reads : Reads) (c : ℕ) (xs ys : List Move) → IsPrefix (entries reads c xs) (entries reads c (xs ++ ys))
 entries-longer reads c xs ys = (entries reads (c + steps xs) ys, sym (entries-append reads c xs ys))
 
 -- an instruction brings no input
 
-pub inputs-do : (c : ℕ) (ms : List Move) (o : Option Operation) → inputs c (ms ++ Do o ∷ []) ≡ inputs c ms
-inputs-do c ms o = inputs-append c ms (Do o ∷ []) ∙ append-nil (inputs c ms)
-
 pub whole-do : (base own : List Move) (o : Option Operation) →
     inputs 0 (base ++ (own ++ Do o ∷ [])) ≡ inputs 0 (base ++ own)
 whole-do base own o = ap (inputs 0) (sym (append_assoc base own (Do o ∷ []))) ∙ inputs-do 0 (base ++ own) o
-
-pub inputs-take : (c : ℕ) (ms : List Move) (i : Input) →
-    inputs c (ms ++ Take i ∷ []) ≡ inputs c ms ++ timed (c + steps ms) i ∷ []
-inputs-take c ms i = inputs-append c ms (Take i ∷ [])
 
 pub whole-take : (base own : List Move) (i : Input) (k : ℕ) → k ≡ steps base + steps own →
     inputs 0 (base ++ (own ++ Take i ∷ [])) ≡ inputs 0 (base ++ own) ++ timed k i ∷ []

@@ -4,6 +4,7 @@ use Rattle.std.proofs.Common.{[], ◌++◌, ◌∙◌, ◌∷◌, ◌≡◌, ◌
 use Rattle.guest_lockstep.specs.declared.input.Input.TheVariants as input
 use Rattle.guest_lockstep.specs.declared.reads.Reads.TheVariants.{Logged, Shared}
 use Rattle.guest_lockstep.specs.declared.timed.Bare.TheVariants as kind
+use Rattle.guest_lockstep.proofs.Moves.{own_once}
 use Rattle.log_entry.specs.declared.entry.Entry.TheVariants as entry
 use Rattle.pair_protocol.proofs.Words.{Among, Copying, Do, Entry, Input, IsPrefix, IsUnwritten, IsWritten, Lawful, Machine, Move, Node, Own, Owns, Reads, Runs, SectorAddress, SectorWrite, Take, World, Write, bare, cut, entry_of, image, operations}
 use Rattle.pair_protocol.proofs.Invariant.Acting.{ActingBackup, line_at}
@@ -14,7 +15,6 @@ use Rattle.pair_protocol.proofs.Keeps.Replay.{Ahead, NextInput, ahead, next-inpu
 use Rattle.pair_protocol.proofs.Promises.Outputs.{trace_runs}
 use Rattle.pair_protocol.proofs.Traces.Lists.{among-prefix, prefix-append, prefix-trans}
 use Rattle.pair_protocol.proofs.Traces.Moves.{operations-prefix, owns-prefix, runs-append}
-use Rattle.pair_protocol.proofs.Traces.OneTrace.{own_once}
 
 -- the move of a read is a sector that comes, of that number
 pub read_move : (reads : Reads) (c count drive sector number : ℕ) (i : Input) →

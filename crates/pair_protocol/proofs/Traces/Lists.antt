@@ -1,16 +1,13 @@
 -- Lists: their elements and places, prefixes, and lists in which one place is set.
-use Rattle.std.proofs.Common.{[], ◌++◌, ◌<◌, ◌∙◌, ◌∷◌, ◌≡◌, ◌≤◌, ◌⊎◌, List, None, Option, Some, ap, append-nil, append_assoc, arith, drop, inl, inr, length, length-append, refl, subst, suc, sym, take, zero, ℕ}
+use Rattle.std.proofs.Common.{[], ◌++◌, ◌<◌, ◌∙◌, ◌∷◌, ◌≡◌, ◌≤◌, ◌⊎◌, List, Option, Some, ap, append-nil, append_assoc, arith, drop, inl, inr, length, length-append, refl, subst, suc, sym, take, zero, ℕ}
 pub use Rattle.std.proofs.lemmas.Bool.{and_parts, cases_Bool as bool_cases, cases_eq as same_or_not}
 pub use Rattle.std.proofs.lemmas.List.{map-append}
 use Rattle.std.specs.Prelude.{slice_get, slice_set}
+use Rattle.std.proofs.lemmas.Option.{same_Some}
 use Rattle.pair_protocol.proofs.Words.{Among, IsPrefix}
 
-abbrev some_or : {A : Type 0} → A → Option A → A
-some_or d None = d
-some_or d (Some x) = x
-
 pub same_some : {A : Type 0} (x y : A) (o : Option A) → o ≡ Some x → o ≡ Some y → x ≡ y
-same_some x y o h k = ap (some_or x) (sym h ∙ k)
+same_some x y o h k = same_Some x y (sym h ∙ k)
 
 -- elements of lists, and prefixes
 

@@ -1,16 +1,12 @@
 -- Moves joined end to end: their counts, inputs, entries, operations and runs.
 use Rattle.std.proofs.Common.{[], ◌++◌, ◌+◌, ◌∙◌, ◌∷◌, ◌≡◌, ◌≤◌, List, None, Option, Some, ap, append-nil, append_assoc, arith, map, refl, subst, suc, sym, ℕ}
 use Rattle.pair_protocol.proofs.Words.{Do, Entry, Input, IsPrefix, Lawful, Machine, Mark, Move, Operation, Owns, Runs, SectorWrite, Take, Timed, acceptances, accepted_at, bare, bare_of, byte_to, count_of, entries, entry_of, input_of, inputs, inputs_of, key_at, keys, operations, output, steps, timed, timed_in, timed_of, Reads}
+pub use Rattle.guest_lockstep.proofs.Moves.{inputs-append, runs-append, steps-append}
 use Rattle.guest_lockstep.specs.declared.input.Input.TheVariants as input
 use Rattle.guest_lockstep.specs.declared.reads.Reads.TheVariants.{Logged, Shared}
 use Rattle.guest_lockstep.specs.declared.timed.Bare.TheVariants.{Written}
 use Rattle.pair_protocol.proofs.Invariant.{ArePut}
 use Rattle.pair_protocol.proofs.Traces.Lists.{among-prefix, map-append, same_some}
-
-pub steps-append : (xs ys : List Move) → steps (xs ++ ys) ≡ steps xs + steps ys
-steps-append [] ys = omega arith
-steps-append (Do o ∷ xs) ys = let h = steps-append xs ys in omega arith
-steps-append (Take i ∷ xs) ys = steps-append xs ys
 
 pub entries-append : (reads : Reads) (c : ℕ) (xs ys : List Move) → entries reads c (xs ++ ys) ≡ entries reads c xs ++ entries reads (c + steps xs) ys
 entries-append reads c [] ys = let e : c ≡ c + 0 = omega arith in ap (λ k. entries reads k ys) e
@@ -21,13 +17,6 @@ entries-append reads c (Do (Some o) ∷ xs) ys =
     let e : suc c + steps xs ≡ c + suc (steps xs) = omega arith in
     ap (λ es. Mark (suc c) ∷ es) (entries-append reads (suc c) xs ys ∙ ap (λ k. entries reads (suc c) xs ++ entries reads k ys) e)
 entries-append reads c (Take i ∷ xs) ys = ap (λ es. entry_of reads c i ∷ es) (entries-append reads c xs ys)
-
-pub inputs-append : (c : ℕ) (xs ys : List Move) → inputs c (xs ++ ys) ≡ inputs c xs ++ inputs (c + steps xs) ys
-inputs-append c [] ys = let e : c ≡ c + 0 = omega arith in ap (λ k. inputs k ys) e
-inputs-append c (Do o ∷ xs) ys =
-    let e : suc c + steps xs ≡ c + suc (steps xs) = omega arith in
-    inputs-append (suc c) xs ys ∙ ap (λ k. inputs (suc c) xs ++ inputs k ys) e
-inputs-append c (Take i ∷ xs) ys = ap (λ es. timed c i ∷ es) (inputs-append c xs ys)
 
 pub operations-append : (xs ys : List Move) → operations (xs ++ ys) ≡ operations xs ++ operations ys
 operations-append [] ys = refl
@@ -119,11 +108,6 @@ inputs_of-entries reads c (Take i ∷ ms) = ap (λ ts. timed_in (timed_of (entry
 
 module _ {S : Type 0} (M : Machine S) where
   -- runs
-
-  pub runs-append : (s t u : S) (xs ys : List Move) → Runs M s xs t → Runs M t ys u → Runs M s (xs ++ ys) u
-  runs-append s t u [] ys h k = subst (λ v. Runs M v ys u) (sym h) k
-  runs-append s t u (Do o ∷ xs) ys h k = (h.0, h.1, runs-append h.0 t u xs ys h.2 k)
-  runs-append s t u (Take i ∷ xs) ys h k = (h.0, h.1, runs-append h.0 t u xs ys h.2 k)
 
   pub runs-split : (s u : S) (xs ys : List Move) → Runs M s (xs ++ ys) u → (t : S) × Runs M s xs t × Runs M t ys u
   runs-split s u [] ys h = (s, refl, h)

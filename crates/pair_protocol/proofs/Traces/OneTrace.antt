@@ -1,35 +1,15 @@
 -- One trace for each list and count: the count says where an input is taken, a step gives what it gives, and the bytes of
 -- a sector are those of the machine's own disk. And what the first entries of a trace give.
 use Rattle.std.proofs.Common.{[], ◌++◌, ◌∙◌, ◌∷◌, ◌≡◌, ◌≤◌, List, None, Option, Some, ap, append-nil, arith, length, refl, subst, suc, sym, take, zero, ℕ}
-use Rattle.pair_protocol.proofs.Words.{Do, Input, Machine, Move, Operation, Own, Owns, Reach, Runs, Take, Timed, bare, cut, entries, image, inputs, inputs_of, last_count, quiet, steps, timed, Reads}
+use Rattle.pair_protocol.proofs.Words.{Do, Input, Machine, Move, Operation, Owns, Reach, Runs, Take, Timed, cut, entries, inputs, inputs_of, last_count, quiet, steps, timed, Reads}
 use Rattle.guest_lockstep.specs.declared.input.Input.TheVariants as input
+use Rattle.guest_lockstep.proofs.Moves.{inputs_at, own_once}
 use Rattle.pair_protocol.proofs.Traces.Cuts.{cut-prefix, entries-cut, last-cut}
 use Rattle.pair_protocol.proofs.Traces.Lists.{same_some}
 use Rattle.pair_protocol.proofs.Traces.Moves.{inputs_of-entries, owns-prefix, runs-prefix, runs-rest}
 
 pub one_end : {S : Type 0} (M : Machine S) (s t u : S) (xs : List Move) → Runs M s xs t → Runs M s xs u → t ≡ u
 one_end M s t u xs h k = runs-rest M s t u xs [] h (subst (λ zs. Runs M s zs u) (sym (append-nil xs)) k)
-
--- what the log carries of an input, and the machine's own disk, determine the input
-pub own_once : {S : Type 0} (M : Machine S) (before : List Move) (s : S) (i j : Input) → Own M before s i →
-    Own M before s j → bare i ≡ bare j → i ≡ j
-own_once M before s (input.Rx p b) (input.Rx q c) h k e = (cc)
-own_once M before s (input.Sent p) (input.Sent q) h k e = (cc)
-own_once M before s (input.Written m) (input.Written n) h k e = (cc)
-own_once M before s (input.Sector c q m as') (input.Sector d r n bs) h k e =
-    let f : c ≡ d = (cc) in
-    let g : q ≡ r = (cc) in
-    let a : M.address s c q ≡ M.address s d r = ap (λ z. M.address s z q) f ∙ ap (M.address s d) g in
-    let n_is : m ≡ n = sym h.0 ∙ ap (M.done s) a ∙ k.0 in
-    let b_is : as' ≡ bs = sym h.1 ∙ ap (image M before) a ∙ k.1 in
-    λ x. input.Sector (f x) (g x) (n_is x) (b_is x)
-own_once M before s i j h k e = (cc)
-
--- the inputs of moves that begin at a count are at that count or later
-inputs_at : (c : ℕ) (xs : List Move) (t : Timed) (ts : List Timed) → inputs c xs ≡ t ∷ ts → c ≤ t.count
-inputs_at c [] t ts h = (cc)
-inputs_at c (Do o ∷ xs) t ts h = let k = inputs_at (suc c) xs t ts h in omega arith
-inputs_at c (Take i ∷ xs) t ts h = let k : timed c i ≡ t = (cc) in let l = ap (λ (z : Timed). z.count) k in omega arith
 
 too_late : (c : ℕ) (xs : List Move) (i : Input) (ts : List Timed) → inputs (suc c) xs ≡ timed c i ∷ ts → ⊥
 too_late c xs i ts h = let k = inputs_at (suc c) xs (timed c i) ts h in omega arith

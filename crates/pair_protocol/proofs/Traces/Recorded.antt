@@ -2,20 +2,10 @@
 -- follows a prefix; and one more move after it makes another recorded run, if an input there is also accepted.
 use Rattle.std.proofs.Common.{[], ◌++◌, ◌∷◌, ◌≡◌, List, Option, ap, refl, subst, sym}
 use Rattle.pair_protocol.proofs.Words.{Do, Input, IsPrefix, Machine, Move, Operation, Recorded, Runs, Take}
+pub use Rattle.guest_lockstep.proofs.Moves.{recorded-append, recorded-runs}
 use Rattle.guest_lockstep.specs.Recorded.{Accepts}
 use Rattle.pair_protocol.proofs.Traces.Lists.{same_some}
 use Rattle.pair_protocol.proofs.Traces.Moves.{runs-rest}
-
-pub recorded-runs : {S : Type 0} (M : Machine S) (s t : S) (xs : List Move) → Recorded M s xs t → Runs M s xs t
-recorded-runs M s t [] h = h
-recorded-runs M s t (Do o ∷ xs) h = (h.0, h.1, recorded-runs M h.0 t xs h.2)
-recorded-runs M s t (Take i ∷ xs) h = (h.0, h.1.taken, recorded-runs M h.0 t xs h.2)
-
-pub recorded-append : {S : Type 0} (M : Machine S) (s t u : S) (xs ys : List Move) → Recorded M s xs t →
-    Recorded M t ys u → Recorded M s (xs ++ ys) u
-recorded-append M s t u [] ys h k = subst (λ v. Recorded M v ys u) (sym h) k
-recorded-append M s t u (Do o ∷ xs) ys h k = (h.0, h.1, recorded-append M h.0 t u xs ys h.2 k)
-recorded-append M s t u (Take i ∷ xs) ys h k = (h.0, h.1, recorded-append M h.0 t u xs ys h.2 k)
 
 module _ {S : Type 0} (M : Machine S) where
   recorded-front : (s u : S) (xs ys : List Move) → Recorded M s (xs ++ ys) u → (t : S) × Recorded M s xs t
