@@ -70,7 +70,7 @@ grown_keeps es more popped r holds =
     }
 
 -- the first of a list that has one, and the others
-first_and_rest : (es : List Entry) (e : Entry) → slice_get es 0 ≡ Some e → es ≡ e ∷ drop 1 es
+pub first_and_rest : (es : List Entry) (e : Entry) → slice_get es 0 ≡ Some e → es ≡ e ∷ drop 1 es
 first_and_rest [] e first = absurd cc
 first_and_rest (x ∷ es) e first = ap (λ (y : Entry). y ∷ es) (same_Some _ _ first)
 

@@ -1,14 +1,15 @@
 -- Recorded runs and what they push. A run after a run is a run, and since a machine's count rises by one at a step and
 -- is unchanged by an input, the entries of the second begin at the count where the first ends. So the entries of both
 -- are those of the first followed by those of the second, and what each pushes is what the whole run pushes.
-use Rattle.std.proofs.Common.{◌≡◌, suc, ◌+◌, arith, List, [], ◌∷◌, ◌++◌, sym, ap, subst, ◌∙◌}
+use Rattle.std.proofs.Common.{◌≡◌, ◌+◌, arith, List, [], ◌∷◌, ◌++◌, sym, ap, ◌∙◌}
 use Rattle.std.proofs.lemmas.List.{append_assoc}
 pub use Rattle.guest_lockstep.proofs.Moves.{recorded-append as Recorded-append}
 use Rattle.guest_lockstep.specs.Machine.{Machine, Move, Do, Take}
 use Rattle.guest_lockstep.specs.Recorded.{Counts, Recorded}
 use Rattle.guest_lockstep.specs.declared.reads.Reads.{Reads}
 use Rattle.log_buffer.specs.Log.{Log}
-use Rattle.log_entry.specs.Entries.{entries, marks, entry_of}
+use Rattle.log_entry.proofs.TraceEntries as traces
+use Rattle.log_entry.specs.Entries.{entries}
 use Rattle.log_entry.specs.declared.entry.Entry.{Entry}
 use Rattle.guest_lockstep.specs.Reach.{steps}
 use Rattle.recorder.specs.Laws.{Records}
@@ -29,17 +30,9 @@ count-Recorded M s t (Take input ∷ moves) counts r =
 pub entries-append : {S : Type 0} (M : Machine S) (reads : Reads) (s t : S) (moves more : List Move) → Counts M
     → Recorded M s moves t
     → entries reads (M.count s) (moves ++ more) ≡ entries reads (M.count s) moves ++ entries reads (M.count t) more
-entries-append M reads s t [] more counts r = ap (λ s. entries reads (M.count s) more) r
-entries-append M reads s t (Do gives ∷ moves) more counts r =
-    ap (λ rest. marks (suc (M.count s)) gives ++ rest)
-    (subst (λ n. entries reads n (moves ++ more) ≡ entries reads n moves ++ entries reads (M.count t) more)
-    (counts.by_step s r.0 gives r.1) (entries-append M reads r.0 t moves more counts r.2))
-    ∙ sym (append_assoc (marks (suc (M.count s)) gives) (entries reads (suc (M.count s)) moves)
-    (entries reads (M.count t) more))
-entries-append M reads s t (Take input ∷ moves) more counts r =
-    ap (λ rest. entry_of reads (M.count s) input ∷ rest)
-    (subst (λ n. entries reads n (moves ++ more) ≡ entries reads n moves ++ entries reads (M.count t) more)
-    (counts.by_input s r.0 input r.1.taken) (entries-append M reads r.0 t moves more counts r.2))
+entries-append M reads s t moves more counts r =
+    traces.entries-append reads (M.count s) moves more
+    ∙ ap (λ n. entries reads (M.count s) moves ++ entries reads n more) (sym (count-Recorded M s t moves counts r))
 
 pub Records-append : {S : Type 0} (M : Machine S) (reads : Reads) (s t u : S) (log middle new : Log)
     (moves more : List Move) → Counts M → Records M reads s log moves t middle → Records M reads t middle more u new

@@ -1,8 +1,8 @@
 -- A replayer never passes the count of the last entry that was held. The counts of what is held never fall, from the
 -- machine's own on, and the last of them stays what it was: a step leaves the machine at or below the first, and an
 -- entry is popped when the machine is at its count.
-use Rattle.std.proofs.Common.{◌≡◌, ℕ, suc, ◌≤◌, Bool, true, false, List, [], ◌∷◌, ◌++◌, Option, Some, None, refl, sym, ap, subst, ◌∙◌, arith}
-use Rattle.guest_lockstep.specs.Machine.{Machine, Move, Do, Take}
+use Rattle.std.proofs.Common.{◌≡◌, ℕ, ◌≤◌, Bool, true, false, List, [], ◌∷◌, ◌++◌, Option, refl, sym, ap, subst, ◌∙◌, arith}
+use Rattle.guest_lockstep.specs.Machine.{Machine, Move}
 use Rattle.guest_lockstep.specs.Recorded.{Counts}
 use Rattle.guest_lockstep.specs.declared.input.Input.TheVariants.{Sector}
 use Rattle.guest_lockstep.specs.declared.reads.Reads.{Reads}
@@ -11,29 +11,15 @@ use Rattle.log_entry.specs.Laws.{NeverFalls}
 use Rattle.log_entry.specs.Standing.{owed, IsOnTrace}
 use Rattle.log_entry.specs.declared.entry.Entry.{Entry}
 use Rattle.log_entry.specs.declared.entry.Entry.TheVariants.{Read}
+use Rattle.log_entry.proofs.TraceEntries.{never_falls}
 use Rattle.replayer.specs.Replaying.{Moves, Steps, Passes, Takes, Reads as ReadsSector, Replays, Begin, Then}
-use Rattle.replayer.proofs.Fronts.{count_of-entry_of}
 
 -- ---- the entries of a run
 
-NeverFalls-lower : (a b : ℕ) (es : List Entry) → a ≤ b → NeverFalls b es → NeverFalls a es
-NeverFalls-lower a b [] le f = tt
-NeverFalls-lower a b (e ∷ es) le f = let first = f.0 in (omega arith, f.1)
-
-NeverFalls-entries : (reads : Reads) (count : ℕ) (moves : List Move) → NeverFalls count (entries reads count moves)
-NeverFalls-entries reads count [] = tt
-NeverFalls-entries reads count (Do None ∷ moves) =
-    NeverFalls-lower count (suc count) (entries reads (suc count) moves) (omega arith)
-    (NeverFalls-entries reads (suc count) moves)
-NeverFalls-entries reads count (Do (Some given) ∷ moves) = (omega arith, NeverFalls-entries reads (suc count) moves)
-NeverFalls-entries reads count (Take input ∷ moves) =
-    let at = count_of-entry_of reads count input in
-    (omega arith, subst (λ n. NeverFalls n (entries reads count moves)) (sym at) (NeverFalls-entries reads count moves))
-
 NeverFalls-owed : (reads : Reads) (count : ℕ) (owes : Bool) (moves : List Move)
     → NeverFalls count (owed count owes ++ entries reads count moves)
-NeverFalls-owed reads count true moves = (omega arith, NeverFalls-entries reads count moves)
-NeverFalls-owed reads count false moves = NeverFalls-entries reads count moves
+NeverFalls-owed reads count true moves = (omega arith, never_falls reads count moves)
+NeverFalls-owed reads count false moves = never_falls reads count moves
 
 NeverFalls-front : (count : ℕ) (xs ys : List Entry) → NeverFalls count (xs ++ ys) → NeverFalls count xs
 NeverFalls-front count [] ys f = tt

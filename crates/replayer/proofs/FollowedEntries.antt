@@ -22,6 +22,7 @@ use Rattle.i8080_words.specs.declared.refusal.Fault.{Fault}
 use Rattle.log_entry.specs.Entries.{count_of, entries, entry_of, input_of, timed_of}
 use Rattle.log_entry.specs.declared.entry.Entry.{Entry}
 use Rattle.log_entry.specs.declared.entry.Entry.TheVariants as entry
+use Rattle.log_entry.proofs.TraceEntries.{count_entry}
 use Rattle.recorder.proofs.Recorded.{entries-append}
 use Rattle.replayer.specs.Following.{Follows, Logs, Reaches, Strays, GivesNothing, GivesAtLast, Ran, FollowingIsRecording}
 use Rattle.replayer.specs.declared.following.Followed.TheVariants.{Stepped, Differs}
@@ -37,12 +38,6 @@ input_again count (input.Rx port byte) = refl
 input_again count (input.Sent port) = refl
 input_again count (input.Sector drive sector number bytes) = refl
 input_again count (input.Written number) = refl
-
-count_again : (count : ℕ) (i : Input) → count_of (entry_of Logged count i) ≡ count
-count_again count (input.Rx port byte) = refl
-count_again count (input.Sent port) = refl
-count_again count (input.Sector drive sector number bytes) = refl
-count_again count (input.Written number) = refl
 
 the_entry : (e f : Entry) → ◌≡◌ {A = List Entry} (e ∷ []) (f ∷ []) → e ≡ f
 the_entry e f same = cc
@@ -123,7 +118,7 @@ module _ {S : Type 0} (M : Machine S) where
             let count : count_of e ≡ suc (M.count r.last) = ap count_of is in
             let a = at in omega (arith, count, le, a)
         go (Inputs {i = i} a is) =
-            let count : count_of e ≡ M.count r.last = ap count_of is ∙ count_again (M.count r.last) i in
+            let count : count_of e ≡ M.count r.last = ap count_of is ∙ count_entry Logged (M.count r.last) i in
             let lt = input_past i (ap input_of is ∙ input_again (M.count r.last) i) in
             let b = at in omega (arith, count, lt, b)
 
@@ -138,7 +133,7 @@ module _ {S : Type 0} (M : Machine S) where
         go : Does r.last e u → ⊥
         go (Operates o is) = let no : None ≡ Some i = sym (ap input_of is) ∙ of_e in cc
         go (Inputs {i = j} a is) =
-            let count : count_of e ≡ M.count r.last = ap count_of is ∙ count_again (M.count r.last) j in
+            let count : count_of e ≡ M.count r.last = ap count_of is ∙ count_entry Logged (M.count r.last) j in
             let b = at in
             let zero : r.steps ≡ 0 = omega (arith, count, here, b) in
             let same : r.last ≡ s = none_made M s r.last r.steps zero r.quietly in
@@ -166,7 +161,7 @@ module _ {S : Type 0} (M : Machine S) where
             let lt = mark_later (ap timed_of is) in
             let b = at in let few = short in omega (arith, count, lt, b, few)
         go (Inputs {i = i} a is) =
-            let count : count_of e ≡ M.count r.last = ap count_of is ∙ count_again (M.count r.last) i in
+            let count : count_of e ≡ M.count r.last = ap count_of is ∙ count_entry Logged (M.count r.last) i in
             let b = at in let few = short in omega (arith, count, le, b, few)
 
   -- ---- what a run of steps does
@@ -350,4 +345,4 @@ following_is_recording {S} M counts start s list ran = record { quietly = quietl
         ends : Does M r.last e t → M.count t ≡ count_of e
         ends (Operates {o = o} made is) = counts.by_step r.last t (Some o) made ∙ sym (ap count_of is)
         ends (Inputs {i = i} a is) =
-            counts.by_input r.last t i a.taken ∙ sym (count_again (M.count r.last) i) ∙ sym (ap count_of is)
+            counts.by_input r.last t i a.taken ∙ sym (count_entry Logged (M.count r.last) i) ∙ sym (ap count_of is)

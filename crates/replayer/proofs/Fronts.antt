@@ -3,49 +3,23 @@
 -- the machine's count and has an input, that input is the next move; if it is a read whose bytes have arrived, the next
 -- move takes the sector with these bytes; and if it is a mark, it is the one that is owed.
 use Rattle.std.proofs.Common.{◌≡◌, ℕ, suc, ◌<◌, ◌≤◌, Bool, true, false, List, [], ◌∷◌, ◌++◌, Option, Some, None, refl, sym, ap, subst, ◌∙◌, arith}
-use Rattle.std.proofs.lemmas.Option.{same_Some}
+use Rattle.std.proofs.lemmas.Option.{none-some}
 use Rattle.event_callbacks.specs.declared.operations.Operation.{Operation}
 use Rattle.guest_lockstep.specs.Machine.{Machine, Move, Do, Take}
 use Rattle.guest_lockstep.specs.Recorded.{Accepts, Recorded}
 use Rattle.guest_lockstep.specs.declared.input.Input.{Input}
 use Rattle.guest_lockstep.specs.declared.input.Input.TheVariants.{Rx, Sent, Sector, Written}
 use Rattle.guest_lockstep.specs.declared.reads.Reads.{Reads}
-use Rattle.guest_lockstep.specs.declared.reads.Reads.TheVariants.{Logged, Shared}
+use Rattle.guest_lockstep.specs.Reach.{bare}
 use Rattle.log_entry.specs.Entries.{count_of, entry_of, input_of, bare_of, is_read, entries}
 use Rattle.log_entry.specs.Standing.{owed, TakesFetched}
 use Rattle.log_entry.specs.declared.entry.Entry.{Entry}
 use Rattle.log_entry.specs.declared.entry.Entry.TheVariants as entry
-
-pub count_of-entry_of : (reads : Reads) (count : ℕ) (input : Input) → count_of (entry_of reads count input) ≡ count
-count_of-entry_of reads count (Rx port byte) = refl
-count_of-entry_of reads count (Sent port) = refl
-count_of-entry_of Logged count (Sector drive sector number bytes) = refl
-count_of-entry_of Shared count (Sector drive sector number bytes) = refl
-count_of-entry_of reads count (Written number) = refl
-
--- an entry that carries an input is the entry of that input alone
-carries-entry_of : (reads : Reads) (count : ℕ) (other input : Input)
-    → input_of (entry_of reads count other) ≡ Some input → other ≡ input
-carries-entry_of reads count (Rx port byte) input e = same_Some (Rx port byte) input e
-carries-entry_of reads count (Sent port) input e = same_Some (Sent port) input e
-carries-entry_of Logged count (Sector drive sector number bytes) input e =
-    same_Some (Sector drive sector number bytes) input e
-carries-entry_of Shared count (Sector drive sector number bytes) input e = absurd cc
-carries-entry_of reads count (Written number) input e = same_Some (Written number) input e
+use Rattle.log_entry.proofs.TraceEntries.{count_entry, input_entry, same_first, same_rest, unmarked}
 
 -- the entry of an input is no mark
 no_mark-entry_of : (reads : Reads) (count : ℕ) (input : Input) → bare_of (entry_of reads count input) ≡ None → ⊥
-no_mark-entry_of reads count (Rx port byte) e = cc
-no_mark-entry_of reads count (Sent port) e = cc
-no_mark-entry_of Logged count (Sector drive sector number bytes) e = cc
-no_mark-entry_of Shared count (Sector drive sector number bytes) e = cc
-no_mark-entry_of reads count (Written number) e = cc
-
-same_first : (a b : Entry) (xs ys : List Entry) → a ∷ xs ≡ b ∷ ys → a ≡ b
-same_first a b xs ys e = cc
-
-same_rest : (a b : Entry) (xs ys : List Entry) → a ∷ xs ≡ b ∷ ys → xs ≡ ys
-same_rest a b xs ys e = cc
+no_mark-entry_of reads count input e = none-some (bare input) (sym e ∙ unmarked reads count input)
 
 -- no entry is before the count at which the moves begin
 not_before : (reads : Reads) (count : ℕ) (moves : List Move) (e : Entry) (es : List Entry)
@@ -60,7 +34,7 @@ not_before reads count (Do (Some given) ∷ moves) e es h =
 not_before reads count (Take input ∷ moves) e es h =
     let at : count_of e ≡ count =
     ap count_of (same_first e (entry_of reads count input) es (entries reads count moves) h)
-    ∙ count_of-entry_of reads count input in
+    ∙ count_entry reads count input in
     omega arith
 
 -- nor before the machine, whether it owes a mark or not
@@ -93,7 +67,7 @@ next_does M reads s last e es false [] r h later = absurd cc
 next_does M reads s last e es false (Take input ∷ moves) r h later =
     let at : count_of e ≡ M.count s =
     ap count_of (same_first e (entry_of reads (M.count s) input) es (entries reads (M.count s) moves) h)
-    ∙ count_of-entry_of reads (M.count s) input in
+    ∙ count_entry reads (M.count s) input in
     absurd (omega arith)
 next_does M reads s last e es false (Do gives ∷ moves) r h later = record {
   t = r.0;
@@ -138,7 +112,7 @@ next_takes M reads s last e es false (Take other ∷ moves) input r h at has =
     let entry_is : e ≡ entry_of reads (M.count s) other =
     same_first e (entry_of reads (M.count s) other) es (entries reads (M.count s) moves) h in
     let same : other ≡ input =
-    carries-entry_of reads (M.count s) other input (sym (ap input_of entry_is) ∙ has) in
+    input_entry reads (M.count s) other input (sym (ap input_of entry_is) ∙ has) in
     let taken : NextTakes M reads s last e es false (Take other ∷ moves) other = record {
       t = r.0;
       rest = moves;

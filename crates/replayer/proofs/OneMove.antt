@@ -17,14 +17,11 @@ use Rattle.log_entry.specs.Entries.{count_of, entries, input_of, bare_of, read_o
 use Rattle.log_entry.specs.Standing.{owed, IsOnTrace, TakesFetched}
 use Rattle.log_entry.specs.declared.entry.Entry.{Entry}
 use Rattle.log_entry.specs.declared.entry.Entry.TheVariants as entry
+use Rattle.log_channel.proofs.SentEntries.{first_and_rest}
 use Rattle.replayer.specs.Replaying.{Moves, Passes, Takes, Reads, Replays, input_with, read_at, wanted, wanted_of, stop_at}
 use Rattle.replayer.specs.Standing.{StaysOn}
 use Rattle.replayer.proofs.Fronts.{not_behind, NextDoes, next_does, NextTakes, next_takes, next_reads, none_for, input_not_read}
 use Rattle.replayer.proofs.Standing.{stays_on}
-
-pub front_is : (held : List Entry) (e : Entry) → slice_get held 0 ≡ Some e → held ≡ e ∷ drop 1 held
-front_is [] e h = absurd cc
-front_is (x ∷ xs) e h = ap (λ x. x ∷ xs) (same_Some x e h)
 
 -- moves by the entries that are held keep to the run
 pub still_on : {S : Type 0} (M : Machine S) (s t : S) (held left : List Entry) (fetched still : Option (List ℕ)) (n : ℕ)
@@ -39,7 +36,7 @@ next_ones : {S : Type 0} (M : Machine S) (s : S) (held : List Entry) (fetched : 
     (on : IsOnTrace M s held fetched) → slice_get held 0 ≡ Some e
     → e ∷ (drop 1 held ++ on.stands.later) ≡ owed (M.count s) on.owes ++ entries on.reads (M.count s) on.moves
 next_ones M s held fetched e on first =
-    ap (λ (h : List Entry). h ++ on.stands.later) (sym (front_is held e first)) ∙ on.stands.next_ones
+    ap (λ (h : List Entry). h ++ on.stands.later) (sym (first_and_rest held e first)) ∙ on.stands.next_ones
 
 -- ---- a step
 
@@ -88,7 +85,7 @@ stands_at M s held fetched e on first no_later = let le = not_before M s held fe
 first_takes : {S : Type 0} (M : Machine S) (s : S) (held : List Entry) (fetched : Option (List ℕ)) (e : Entry)
     (on : IsOnTrace M s held fetched) → slice_get held 0 ≡ Some e → TakesFetched fetched (e ∷ drop 1 held) on.moves
 first_takes M s held fetched e on first =
-    subst (λ h. TakesFetched fetched h on.moves) (front_is held e first) on.stands.takes
+    subst (λ h. TakesFetched fetched h on.moves) (first_and_rest held e first) on.stands.takes
 
 pub record MayTake {S : Type 0} (M : Machine S) (s : S) (input : Input) : Type 0 where
   pub t : S
@@ -166,9 +163,9 @@ takes {S} M s t held left fetched still e input on first no_later has did popped
         none_for e (drop 1 held) fetched on.moves (input_not_read e input carried)
         (first_takes M s held fetched e on first) in
         subst (λ f. Moves M s held fetched t (drop 1 held) f) no_bytes
-        (Takes (front_is held e first) at carried accepts)
+        (Takes (first_and_rest held e first) at carried accepts)
     go (ReadsIt is come sector_is) =
-        Reads (front_is held e first ∙ ap (λ e. e ∷ drop 1 held) is) (at ∙ ap count_of is) come
+        Reads (first_and_rest held e first ∙ ap (λ e. e ∷ drop 1 held) is) (at ∙ ap count_of is) come
         (subst (λ i. Accepts M s i t) sector_is accepts)
 
 -- ---- a mark
@@ -213,4 +210,4 @@ pub passes : {S : Type 0} (M : Machine S) (s : S) (held left : List Entry) (fetc
 passes M s held left fetched e on first no_later none ready popped =
     let at = stands_at M s held fetched e on first no_later in
     subst (λ left. Moves M s held fetched s left fetched) (sym popped)
-    (Passes (front_is held e first) at (no_input fetched e none (not_waiting M s held fetched e first at ready)))
+    (Passes (first_and_rest held e first) at (no_input fetched e none (not_waiting M s held fetched e first at ready)))

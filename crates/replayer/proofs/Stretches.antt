@@ -13,8 +13,9 @@ use Rattle.i8080_words.specs.declared.refusal.Fault.{Fault}
 use Rattle.log_entry.specs.Entries.{count_of}
 use Rattle.log_entry.specs.Standing.{IsOnTrace}
 use Rattle.log_entry.specs.declared.entry.Entry.{Entry}
+use Rattle.log_channel.proofs.SentEntries.{first_and_rest}
 use Rattle.replayer.specs.Replaying.{Moves, Steps, Replays, Begin, Then, IsBehind, AnswersStretch}
-use Rattle.replayer.proofs.OneMove.{front_is, MayStep, may_step}
+use Rattle.replayer.proofs.OneMove.{MayStep, may_step}
 
 -- ---- steps up to the first entry
 
@@ -46,7 +47,7 @@ pub steps_made : {S : Type 0} (M : Machine S) (s t : S) (held : List Entry) (fet
     → most ≤ turns
     → RunsOn M s most ran t → 0 < ran.steps → AnswersStretch M s held fetched turns (Ok ran.steps) t held fetched
 steps_made M s t held fetched e turns most ran counts first within few runs some =
-    let all = replays_run M s t held (drop 1 held) fetched e most ran counts (front_is held e first) within runs in
+    let all = replays_run M s t held (drop 1 held) fetched e most ran counts (first_and_rest held e first) within runs in
     let steps = all.0 in
     (some, omega arith, all.1)
 
@@ -71,7 +72,7 @@ needs_memory M s t held fetched e turns most ran fault counts on first later som
     let may : MayStep M s = may_step M s held fetched e counts on first later in
     let refused = refused_at_once M s t most ran fault some why none runs in
     let behind : IsBehind M s held =
-    record { first = e; rest = drop 1 held; held_are = front_is held e first; later = later } in
+    record { first = e; rest = drop 1 held; held_are = first_and_rest held e first; later = later } in
     (refused.0 ∙ ap fault_of may.allowed, behind, refused.1, refl, refl)
 
 pub still_there : {S : Type 0} (M : Machine S) (s t : S) (held : List Entry) (fetched : Option (List ℕ)) → t ≡ s

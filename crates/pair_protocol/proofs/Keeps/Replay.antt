@@ -7,6 +7,7 @@ use Rattle.pair_protocol.proofs.Words.{Do, Entry, Input, bare, bare_of, IsPrefix
 use Rattle.guest_lockstep.specs.declared.timed.Bare.{Bare}
 use Rattle.guest_lockstep.specs.declared.timed.Bare.TheVariants as kind
 use Rattle.log_entry.specs.declared.entry.Entry.TheVariants as entry
+use Rattle.log_entry.proofs.TraceEntries.{same_first}
 use Rattle.pair_protocol.proofs.Invariant.Frames.{with_backup}
 use Rattle.pair_protocol.proofs.Invariant.{AtPlace, HasReplayed, Line}
 use Rattle.pair_protocol.proofs.Keeps.PrimaryLog.{steps-do, steps-take}
@@ -26,9 +27,6 @@ behind : {A : Type 0} (held lag rest : List A) (k : ℕ) (e : A) → (take k hel
     slice_get held k ≡ Some e → lag ++ rest ≡ e ∷ drop (suc k) held
 behind held lag rest k e h g = unreplayed held lag rest k h ∙ drop-at held k e g
 
-head_is : (e f : Entry) (es fs : List Entry) → e ∷ es ≡ f ∷ fs → e ≡ f
-head_is e f es fs h = (cc)
-
 pub entries-held : (reads : Reads) (c : ℕ) (own : List Move) (held : List Entry) → IsPrefix held (entries reads c own) →
     entries reads c (cut (length held) own) ≡ held
 entries-held reads c own held p = entries-cut reads (length held) c own ∙ ap (take (length held)) (sym p.1)
@@ -39,25 +37,25 @@ entries-later : (reads : Reads) (c : ℕ) (ms : List Move) (e : Entry) (es : Lis
 entries-later reads c [] e es h = (cc)
 entries-later reads c (Do None ∷ ms) e es h = let k = entries-later reads (suc c) ms e es h in omega arith
 entries-later reads c (Do (Some o) ∷ ms) e es h = let k : suc c ≡ count_of e =
-    ap count_of (head_is (Mark (suc c)) e (entries reads (suc c) ms) es h) in omega arith
+    ap count_of (same_first (Mark (suc c)) e (entries reads (suc c) ms) es h) in omega arith
 entries-later reads c (Take i ∷ ms) e es h = let k : c ≡ count_of e = sym (count_entry reads c i)
-    ∙ ap count_of (head_is (entry_of reads c i) e (entries reads c ms) es h) in omega arith
+    ∙ ap count_of (same_first (entry_of reads c i) e (entries reads c ms) es h) in omega arith
 
 next_do : (reads : Reads) (c : ℕ) (rest : List Move) (e : Entry) (es : List Entry) → entries reads c rest ≡ e ∷ es → c < count_of e →
     (o : Option Operation) × (r : List Move) × (rest ≡ Do o ∷ r)
 next_do reads c [] e es h l = (cc)
 next_do reads c (Do o ∷ r) e es h l = (o, r, refl)
 next_do reads c (Take i ∷ r) e es h l = let k : c ≡ count_of e = sym (count_entry reads c i)
-    ∙ ap count_of (head_is (entry_of reads c i) e (entries reads c r) es h) in absurd (omega arith)
+    ∙ ap count_of (same_first (entry_of reads c i) e (entries reads c r) es h) in absurd (omega arith)
 
 no_mark : (reads : Reads) (c : ℕ) (rest : List Move) (e : Entry) (es : List Entry) → entries reads c rest ≡ e ∷ es →
     c ≡ count_of e → bare_of e ≡ None → ⊥
 no_mark reads c [] e es h l m = (cc)
 no_mark reads c (Do None ∷ r) e es h l m = let k = entries-later reads (suc c) r e es h in omega arith
 no_mark reads c (Do (Some o) ∷ r) e es h l m = let k : suc c ≡ count_of e =
-    ap count_of (head_is (Mark (suc c)) e (entries reads (suc c) r) es h) in omega arith
+    ap count_of (same_first (Mark (suc c)) e (entries reads (suc c) r) es h) in omega arith
 no_mark reads c (Take i ∷ r) e es h l m = let k : Some (bare i) ≡ bare_of e = sym (unmarked reads c i)
-    ∙ ap bare_of (head_is (entry_of reads c i) e (entries reads c r) es h) in (cc)
+    ∙ ap bare_of (same_first (entry_of reads c i) e (entries reads c r) es h) in (cc)
 
 -- an entry that is no mark is the next input's
 next_input : (reads : Reads) (c : ℕ) (rest : List Move) (e : Entry) (es : List Entry) (b : Bare) →
@@ -67,8 +65,8 @@ next_input reads c [] e es b h l m = (cc)
 next_input reads c (Do None ∷ r) e es b h l m =
     let k = entries-later reads (suc c) r e es h in absurd (omega arith)
 next_input reads c (Do (Some o) ∷ r) e es b h l m = let k : suc c ≡ count_of e =
-    ap count_of (head_is (Mark (suc c)) e (entries reads (suc c) r) es h) in absurd (omega arith)
-next_input reads c (Take i ∷ r) e es b h l m = (i, r, refl, head_is (entry_of reads c i) e (entries reads c r) es h)
+    ap count_of (same_first (Mark (suc c)) e (entries reads (suc c) r) es h) in absurd (omega arith)
+next_input reads c (Take i ∷ r) e es b h l m = (i, r, refl, same_first (entry_of reads c i) e (entries reads c r) es h)
 
 -- an entry that carries an input is no mark
 carries : (e : Entry) (i : Input) → input_of e ≡ Some i → (b : Bare) × (bare_of e ≡ Some b)
@@ -132,7 +130,7 @@ module _ {S : Type 0} (M : Machine S) (l : Line S) (last : S) (b : Node S)
   lagging f e g k =
       let n = entries l.reads (M.count b.machine) (ahead f).rest in
       let m : Entry = Mark (steps l.base + steps f.ms) in
-      head_is m e n (drop (suc b.replayed) b.held)
+      same_first m e n (drop (suc b.replayed) b.held)
       (behind b.held (m ∷ []) n b.replayed e (ap (λ zs. zs ++ n) (sym k) ∙ (ahead f).entries_are) g)
 
   pub replayed-step : (e : Entry) (s : S) (o : Option Operation) → slice_get b.held b.replayed ≡ Some e →

@@ -1,22 +1,13 @@
 -- Moves joined end to end: their counts, inputs, entries, operations and runs.
 use Rattle.std.proofs.Common.{[], ◌++◌, ◌+◌, ◌∙◌, ◌∷◌, ◌≡◌, ◌≤◌, List, None, Option, Some, ap, append-nil, append_assoc, arith, map, refl, subst, suc, sym, ℕ}
-use Rattle.pair_protocol.proofs.Words.{Do, Entry, Input, IsPrefix, Lawful, Machine, Mark, Move, Operation, Owns, Runs, SectorWrite, Take, Timed, acceptances, accepted_at, bare, bare_of, byte_to, count_of, entries, entry_of, input_of, inputs, inputs_of, key_at, keys, operations, output, steps, timed, timed_in, timed_of, Reads}
+use Rattle.pair_protocol.proofs.Words.{Do, Entry, Input, IsPrefix, Lawful, Machine, Move, Operation, Owns, Runs, SectorWrite, Take, Timed, acceptances, accepted_at, bare, byte_to, entries, entry_of, inputs, inputs_of, key_at, keys, operations, output, steps, timed, timed_in, timed_of, Reads}
 pub use Rattle.guest_lockstep.proofs.Moves.{inputs-append, runs-append, steps-append}
 use Rattle.guest_lockstep.specs.declared.input.Input.TheVariants as input
-use Rattle.guest_lockstep.specs.declared.reads.Reads.TheVariants.{Logged, Shared}
+pub use Rattle.log_entry.proofs.TraceEntries.{count_entry, entries-append, input_entry, unmarked}
+use Rattle.log_entry.proofs.TraceEntries.{input_comes_back, keeps_inputs}
 use Rattle.guest_lockstep.specs.declared.timed.Bare.TheVariants.{Written}
 use Rattle.pair_protocol.proofs.Invariant.{ArePut}
 use Rattle.pair_protocol.proofs.Traces.Lists.{among-prefix, map-append, same_some}
-
-pub entries-append : (reads : Reads) (c : ℕ) (xs ys : List Move) → entries reads c (xs ++ ys) ≡ entries reads c xs ++ entries reads (c + steps xs) ys
-entries-append reads c [] ys = let e : c ≡ c + 0 = omega arith in ap (λ k. entries reads k ys) e
-entries-append reads c (Do None ∷ xs) ys =
-    let e : suc c + steps xs ≡ c + suc (steps xs) = omega arith in
-    entries-append reads (suc c) xs ys ∙ ap (λ k. entries reads (suc c) xs ++ entries reads k ys) e
-entries-append reads c (Do (Some o) ∷ xs) ys =
-    let e : suc c + steps xs ≡ c + suc (steps xs) = omega arith in
-    ap (λ es. Mark (suc c) ∷ es) (entries-append reads (suc c) xs ys ∙ ap (λ k. entries reads (suc c) xs ++ entries reads k ys) e)
-entries-append reads c (Take i ∷ xs) ys = ap (λ es. entry_of reads c i ∷ es) (entries-append reads c xs ys)
 
 pub operations-append : (xs ys : List Move) → operations (xs ++ ys) ≡ operations xs ++ operations ys
 operations-append [] ys = refl
@@ -70,41 +61,10 @@ inputs_of-append (e ∷ xs) ys = ap (λ os. timed_in (timed_of e) ++ os) (inputs
 
 -- the timed input in the entry of an input
 pub timed_entry : (reads : Reads) (c : ℕ) (i : Input) → timed_in (timed_of (entry_of reads c i)) ≡ timed c i ∷ []
-timed_entry reads c (input.Rx port byte) = refl
-timed_entry reads c (input.Sent port) = refl
-timed_entry Logged c (input.Sector drive sector number bytes) = refl
-timed_entry Shared c (input.Sector drive sector number bytes) = refl
-timed_entry reads c (input.Written number) = refl
-
--- the input that an entry carries is the one that it was made of
-pub input_entry : (reads : Reads) (c : ℕ) (i j : Input) → input_of (entry_of reads c i) ≡ Some j → i ≡ j
-input_entry reads c (input.Rx port byte) j h = (cc)
-input_entry reads c (input.Sent port) j h = (cc)
-input_entry Logged c (input.Sector drive sector number bytes) j h = (cc)
-input_entry Shared c (input.Sector drive sector number bytes) j h = (cc)
-input_entry reads c (input.Written number) j h = (cc)
-
--- it is no mark
-pub unmarked : (reads : Reads) (c : ℕ) (i : Input) → bare_of (entry_of reads c i) ≡ Some (bare i)
-unmarked reads c (input.Rx port byte) = refl
-unmarked reads c (input.Sent port) = refl
-unmarked Logged c (input.Sector drive sector number bytes) = refl
-unmarked Shared c (input.Sector drive sector number bytes) = refl
-unmarked reads c (input.Written number) = refl
-
-pub count_entry : (reads : Reads) (c : ℕ) (i : Input) → count_of (entry_of reads c i) ≡ c
-count_entry reads c (input.Rx port byte) = refl
-count_entry reads c (input.Sent port) = refl
-count_entry Logged c (input.Sector drive sector number bytes) = refl
-count_entry Shared c (input.Sector drive sector number bytes) = refl
-count_entry reads c (input.Written number) = refl
+timed_entry reads c i = ap timed_in (input_comes_back reads c i)
 
 pub inputs_of-entries : (reads : Reads) (c : ℕ) (ms : List Move) → inputs_of (entries reads c ms) ≡ inputs c ms
-inputs_of-entries reads c [] = refl
-inputs_of-entries reads c (Do None ∷ ms) = inputs_of-entries reads (suc c) ms
-inputs_of-entries reads c (Do (Some o) ∷ ms) = inputs_of-entries reads (suc c) ms
-inputs_of-entries reads c (Take i ∷ ms) = ap (λ ts. timed_in (timed_of (entry_of reads c i)) ++ ts) (inputs_of-entries reads c ms)
-    ∙ ap (λ ts. ts ++ inputs c ms) (timed_entry reads c i)
+inputs_of-entries = keeps_inputs
 
 module _ {S : Type 0} (M : Machine S) where
   -- runs
