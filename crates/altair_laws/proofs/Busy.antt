@@ -2,8 +2,8 @@
 use Rattle.std.proofs.Common.{◌≡◌, ℕ, Bool, true, false, List, [], ◌∷◌, inl, inr, refl, sym, ap, ◌∙◌}
 use Rattle.std.specs.Prelude.{◌||◌}
 use Rattle.std.specs.List.{list_any}
+use Rattle.disk_dcdd.proofs.Addresses.{same_address-refl}
 use Rattle.altair_laws.proofs.Words.{Among, AreWrites, Guest, IsPending, SectorWrite, address_of, address_under, drive_of, is_at, is_busy_on, place_of}
-use Rattle.pair_protocol.proofs.Keeps.Disk.{same_address-refl}
 
 some_is : {A : Type 0} (test : A → Bool) (xs : List A) (x : A) → Among x xs → test x ≡ true → list_any test xs ≡ true
 some_is test [] x m h = absurd m

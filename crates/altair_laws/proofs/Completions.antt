@@ -8,6 +8,7 @@ use Rattle.std.proofs.lemmas.Bool.{cases_Bool, and_parts, not-true, both_ways, e
 use Rattle.std.proofs.lemmas.Bool.Decides.{eqb_tells}
 use Rattle.std.proofs.lemmas.List.{length-set}
 use Rattle.std.proofs.lemmas.Option.{cond_some}
+use Rattle.disk_dcdd.proofs.Addresses.{same_address-is, same_address-refl}
 use Rattle.altair_laws.proofs.Words.{Among, Guest, Input, IsIssued, Move, Operations, Place, Reaches, Rx, Sector, SectorAddress, SectorWrite, Sent, Setup, Take, Write, Written, address_of, after_rx, after_sector, after_sent, after_written, altair, image_from, index_of, is_outstanding, is_sector_busy, is_sector_due, is_selected, oldest_byte, operation_at, operation_at-without_other, operations, place_of, same_address, take_from, with_completed, without_operation}
 use Rattle.event_callbacks.specs.declared.operations.OpId.TheVariants as id
 use Rattle.guest_lockstep.specs.declared.timed.Bare.TheVariants as bare
@@ -16,7 +17,7 @@ use Rattle.altair_laws.proofs.Operations.{AreGiven, given-take, given-gone, with
 use Rattle.altair_laws.proofs.Drives.{Stands}
 use Rattle.altair_laws.proofs.Sectors.{stands-sector, stands-written}
 use Rattle.altair_laws.proofs.Steps.{steps_from}
-use Rattle.altair_laws.proofs.Images.{Apart, number_of, with_number, number-set, address-same, same-address, among-filter, filter-keeps, filter-holds, any-find, writes_in, writes-from, writes-to, image_after, image-take, bytes-are, done-left, done-last}
+use Rattle.altair_laws.proofs.Images.{Apart, number_of, with_number, number-set, among-filter, filter-keeps, filter-holds, any-find, writes_in, writes-from, writes-to, image_after, image-take, bytes-are, done-left, done-last}
 use Rattle.altair_laws.proofs.Writes.{writes-boot, Has, WasIssued, IsSettled, OwnIs, Writes, given, known-place, single, alike, operations_take, name_number, byte_name}
 use Rattle.altair_laws.proofs.Issues.{same_operations, writes-step}
 
@@ -115,12 +116,12 @@ writes-completed apart start moves g n w d pends is_n = record {
         → IsSettled now left v
     settled_at v (inl t) k s a =
         let e = number_there (address_of v)
-        (same-address (address_of w) (address_of v) (ap address_of (sym (only v a t.1)))) in
+        (same_address-refl (address_of w) (address_of v) (ap address_of (sym (only v a t.1)))) in
         let z = t.1 in inl (omega arith)
     settled_at v (inr t) k (inr s) a = inr (keep v s t.0)
     settled_at v (inr t) (inl k) (inl s) a =
         let e = number_there (address_of v) k in
-        let z = ap (number_of g.completed) (address-same (address_of w) (address_of v) k) in
+        let z = ap (number_of g.completed) (same_address-is (address_of w) (address_of v) k) in
         let l = d.later w pends in let i = is_n in inl (omega arith)
     settled_at v (inr t) (inr k) (inl s) a = let e = number_else (address_of v) k in inl (omega arith)
 
@@ -128,7 +129,7 @@ writes-completed apart start moves g n w d pends is_n = record {
         → IsSameOrNot (address_of w) (address_of v)
         → number_of now (address_of v) < v.number
     later_at v a (inl k) =
-        let e : w ≡ v = single start moves g d w v pends (rest v a) (address-same (address_of w) (address_of v) k) in
+        let e : w ≡ v = single start moves g d w v pends (rest v a) (same_address-is (address_of w) (address_of v) k) in
         absurd (both_ways (v.number == n) (unequal v a) (eq-eqb v.number n (ap (λ (x : SectorWrite). x.number) (sym e)
         ∙ is_n)))
     later_at v a (inr k) = let e = number_else (address_of v) k in let l = d.later v (rest v a) in omega arith
@@ -152,7 +153,7 @@ writes-completed apart start moves g n w d pends is_n = record {
         inr (
           w,
           there w (given start moves g d w pends),
-          address-same (address_of w) q k,
+          same_address-is (address_of w) q k,
           is_n ∙ sym (number_there q k),
           sym (image_is q ∙ ap (λ c. cond c w.bytes (image_from [] q (start q) moves)) k),
           done-last (bare.Written w.number) moves (Written n) (ap (λ m. bare.Written m) is_n),

@@ -1,37 +1,17 @@
 -- What a sector of the machine's own disk has after one more move: a step leaves it, and so does an input, except one
 -- that completes a write of the sector. And the table of the last completed writes after one is set.
 use Rattle.std.proofs.Common.{◌≡◌, ℕ, suc, ◌+◌, ◌*◌, ◌<◌, Bool, true, false, cond, List, [], ◌∷◌, ◌++◌, length, get_or, map, Option, Some, None, ◌⊎◌, inl, inr, refl, sym, ap, ◌∙◌, subst, arith}
-use Rattle.std.specs.Prelude.{◌&&◌, ◌||◌, ◌==◌, nat_lt, slice_index, slice_set}
+use Rattle.std.specs.Prelude.{◌||◌, nat_lt, slice_index, slice_set}
 use Rattle.std.specs.List.{filter, list_any}
 use Rattle.std.specs.Option.{option_map_or}
-use Rattle.std.proofs.lemmas.Bool.{cases_Bool, and_parts, and_from, eqb-true, eq-eqb, lt-ltb, both_ways}
+use Rattle.std.proofs.lemmas.Bool.{cases_Bool, and_from, lt-ltb, both_ways}
 use Rattle.std.proofs.lemmas.Bool.Decides.{eqb_tells}
 use Rattle.std.proofs.lemmas.List.{get_or-set_same, get_or-set_other}
+use Rattle.disk_dcdd.proofs.Addresses.{same_address-is, same_address-refl}
 use Rattle.altair_laws.proofs.Words.{Among, Byte, DRIVE_SECTORS, Do, Input, Move, Operation, SECTORS, SectorAddress, SectorWrite, TRACKS, Take, Write, Written, address_of, bare, bytes_after, image_from, index_of, inputs, inputs-append, operations, same_address, steps}
 use Rattle.guest_lockstep.specs.declared.timed.Bare.{Bare}
 use Rattle.guest_lockstep.specs.declared.timed.Timed.{Timed}
 use Rattle.altair_laws.proofs.Moves.{Tells}
-
--- ---- addresses
-
-pub address-same : (a b : SectorAddress) → same_address a b ≡ true → a ≡ b
-address-same a b h =
-    let p = and_parts (a.drive == b.drive && a.track == b.track) (a.sector == b.sector) h in
-    let q = and_parts (a.drive == b.drive) (a.track == b.track) p.0 in
-    let i = eqb-true a.drive b.drive q.0 in
-    let j = eqb-true a.track b.track q.1 in
-    let k = eqb-true a.sector b.sector p.1 in
-    ap (λ n. record { drive = n; track = a.track; sector = a.sector }) i
-    ∙ ap (λ n. record { drive = b.drive; track = n; sector = a.sector }) j
-    ∙ ap (λ n. record { drive = b.drive; track = b.track; sector = n }) k
-
-pub same-address : (a b : SectorAddress) → a ≡ b → same_address a b ≡ true
-same-address a b h =
-    and_from (a.drive == b.drive && a.track == b.track) (a.sector == b.sector)
-    (and_from (a.drive == b.drive) (a.track == b.track)
-    (eq-eqb a.drive b.drive (ap (λ (x : SectorAddress). x.drive) h))
-    (eq-eqb a.track b.track (ap (λ (x : SectorAddress). x.track) h)))
-    (eq-eqb a.sector b.sector (ap (λ (x : SectorAddress). x.sector) h))
 
 -- ---- the table of last completed writes
 
@@ -82,12 +62,12 @@ number-set apart completed attached write size drive track sector a =
     other f (Some j) e =
         get_or-set_other completed (write.drive * DRIVE_SECTORS + write.track * SECTORS + write.sector) j write.number 0
         (λ q. both_ways (same_address (address_of write) a) f
-        (same-address (address_of write) a (apart (address_of write) a j (is ∙ ap Some (sym q)) e)))
+        (same_address-refl (address_of write) a (apart (address_of write) a j (is ∙ ap Some (sym q)) e)))
 
     go : (same_address (address_of write) a ≡ true) ⊎ (same_address (address_of write) a ≡ false)
         → number_of new a ≡ cond (same_address (address_of write) a) write.number (number_of completed a)
     go (inl t) =
-        ap (number_of new) (sym (address-same (address_of write) a t))
+        ap (number_of new) (sym (same_address-is (address_of write) a t))
         ∙ ap (λ o. option_map_or (λ i. slice_index new i) o 0) is
         ∙ get_or-set_same completed
         (write.drive * DRIVE_SECTORS + write.track * SECTORS + write.sector) write.number 0 inside

@@ -1,12 +1,11 @@
 -- What is not calm: a write is issued, a sector comes under the head, a write is done. Each keeps the controller
 -- well-formed, since no write of a sector under the head is outstanding, so its write goes to another sector than the
 -- outstanding ones.
-use Rattle.std.proofs.Common.{◌≡◌, ℕ, ◌+◌, ◌≤◌, ◌<◌, Bool, true, false, cond, not, ◌==◌, List, [], ◌∷◌, length, get_or, Option, Some, None, ◌⊎◌, inl, inr, refl, sym, ap, ◌∙◌, subst, arith}
+use Rattle.std.proofs.Common.{◌≡◌, ℕ, ◌+◌, ◌≤◌, ◌<◌, Bool, true, false, cond, not, ◌==◌, List, length, get_or, Option, Some, None, ◌⊎◌, inl, inr, refl, sym, ap, ◌∙◌, subst, arith}
 use Rattle.std.specs.Prelude.{IfSome, ◌&&◌, nat_lt, is_none}
-use Rattle.std.specs.List.{filter, list_any}
+use Rattle.std.specs.List.{list_any}
 use Rattle.std.specs.Option.{option_map_or}
 use Rattle.std.proofs.lemmas.Bool.{cases_Bool, and_parts, ltb-true, both_ways}
-use Rattle.std.proofs.lemmas.Grind.{common_steps}
 use Rattle.std.proofs.lemmas.List.{length_push, length-set}
 use Rattle.std.proofs.lemmas.List.Elements.{All-push, All-filter}
 use Rattle.std.proofs.lemmas.List.Folds.{list_any_at}
@@ -15,6 +14,7 @@ use Rattle.std.proofs.lemmas.List.Quantifiers.{all_pairs_push}
 use Rattle.std.proofs.lemmas.Option.{cond_some, option_and_then_some}
 use Rattle.altair_laws.proofs.Words.{CurrentSector, Drives, Follows, GREATEST_NUMBER, IsDrives, IsIssued, IsUnderHead, OUTSTANDING, Place, SECTORS, SECTOR_BYTES, SectorWrite, TRACKS, after_data, after_issue, after_keep, drive_of, has_room, is_at, is_busy_on, is_head_loaded, is_sector_busy, is_sector_due, issued_by, place_of, with_byte_filled, write_of}
 use Rattle.disk_dcdd.specs.Completion.{after_sector, after_written}
+use Rattle.disk_dcdd.proofs.Outstanding.{length-filter_le, list_any-filter}
 use Rattle.altair_laws.proofs.Drives.{LAST_BYTE, IsOver, Stands, IsWholeSector}
 use Rattle.altair_laws.proofs.Commands.{drive-track}
 
@@ -153,14 +153,6 @@ stands-sector d sector bytes due idle h =
     }
 
 -- ---- a write is done
-
-list_any-filter : {X : Type 0} (p q : X → Bool) (xs : List X) → list_any p xs ≡ false → list_any p (filter q xs) ≡ false
-list_any-filter p q [] none = refl
-list_any-filter p q (x ∷ xs) none = grind (arith, common_steps, list_any-filter p q xs)
-
-length-filter_le : {X : Type 0} (q : X → Bool) (xs : List X) → length (filter q xs) ≤ length xs
-length-filter_le q [] = omega arith
-length-filter_le q (x ∷ xs) = grind (arith, length-filter_le q xs)
 
 pub stands-written : (d : Drives) (number : ℕ) → Stands d → Stands (after_written d number)
 stands-written d number h = record {

@@ -9,13 +9,14 @@ use Rattle.guest_lockstep.specs.declared.timed.Bare.{Bare}
 use Rattle.guest_lockstep.specs.declared.timed.Bare.TheVariants as bare
 use Rattle.altair_laws.proofs.Operations.{AreGiven, with-cases, given-boot}
 use Rattle.altair_laws.proofs.Drives.{Stands}
-use Rattle.altair_laws.proofs.Images.{number_of, same-address, place-among, write-same, bares}
+use Rattle.altair_laws.proofs.Images.{number_of, place-among, write-same, bares}
 use Rattle.std.specs.Prelude.{slice_index, replicate}
 use Rattle.std.specs.Option.{option_map_or}
 use Rattle.std.proofs.lemmas.List.{length-replicate}
 use Rattle.std.proofs.lemmas.List.Elements.{All-replicate, All-drop, All-nil}
 use Rattle.std.proofs.lemmas.Option.{none-some}
 use Rattle.disk_dcdd.specs.declared.drive.Drive.{Drive}
+use Rattle.disk_dcdd.proofs.Addresses.{same_address-refl}
 use Rattle.guest_memory.specs.Pages.{zeros}
 use Rattle.guest_memory.proofs.NewMemory.{only_zeros}
 use Rattle.std.specs.FinMap as map
@@ -80,7 +81,7 @@ apart-places start moves g d v w i j l inside is_v is_w e =
     ∙ ap (λ (x : Place). is_at x.drive x.track x.sector (get_or g.devices.disk.outstanding i (place_of v)))
     (sym (is_w (place_of v)))
     ∙ f.elsewhere in
-    both_ways (same_address (address_of v) (address_of w)) k (same-address (address_of v) (address_of w) e)
+    both_ways (same_address (address_of v) (address_of w)) k (same_address-refl (address_of v) (address_of w) e)
 
 -- at most one write of a sector is outstanding
 pub single : (start : SectorAddress → List ℕ) (moves : List Move) (g : Guest) → Writes start moves g

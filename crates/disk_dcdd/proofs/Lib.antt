@@ -1,1 +1,2 @@
 pub mod Outstanding
+pub mod Addresses

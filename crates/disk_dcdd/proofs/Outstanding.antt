@@ -19,12 +19,12 @@ use Rattle.disk_dcdd.specs.Completion.{is_busy_on, is_sector_busy, after_written
 use Rattle.disk_dcdd.specs.Controller.{IsUnderHead, IsIssued, Follows, MayFollow, AreOutstanding, IsDrives}
 
 -- a filter finds nothing that was not there
-list_any-filter : {X : Type 0} (p q : X → Bool) (xs : List X) → list_any p xs ≡ false → list_any p (filter q xs) ≡ false
+pub list_any-filter : {X : Type 0} (p q : X → Bool) (xs : List X) → list_any p xs ≡ false → list_any p (filter q xs) ≡ false
 list_any-filter p q [] none = refl
 list_any-filter p q (x ∷ xs) none = grind (arith, common_steps, list_any-filter p q xs)
 
 -- a filter makes no list longer
-length-filter_le : {X : Type 0} (q : X → Bool) (xs : List X) → length (filter q xs) ≤ length xs
+pub length-filter_le : {X : Type 0} (q : X → Bool) (xs : List X) → length (filter q xs) ≤ length xs
 length-filter_le q [] = omega arith
 length-filter_le q (x ∷ xs) = grind (arith, length-filter_le q xs)
 

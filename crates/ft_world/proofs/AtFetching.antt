@@ -2,6 +2,7 @@
 -- the run that it follows takes that sector there, so it was ready at the selected drive, and is a sector of the disk. If
 -- the answer has the number of the read, its bytes are those that the run takes, as in every world that actions reach; so
 -- they may be kept.
+use Rattle.disk_dcdd.proofs.Addresses.{same_address-is}
 use Rattle.ft_world.proofs.Words.{After, Applies, Backup, Course, Do, Draining, Entry, Fault, Fetched, Fetches, GetsSector, Guest, Host, Input, IsFollower, IsHost, IsNode, IsOnTrace-back, Machine, MayFetch, Message, Move, Never, Node, NotDue, OfNode, OutOfMemory, Reached, Reads, Record, Replaying, Reply, Role, Running, SectorAddress, SectorRead, Shows, StaleRead, Station, Stays, Take, Unknown, Wants, World, acts_as, at_fetched, at_node, drop-at, entries, entry_of, faults_in, fetch_refusal, fetched_refusal, fetches, first-passed, get_set, has_sector, is-at-read, machine_of, next_read, node-passed, nodes_stand, read_address, refusal, replaying, role_refusal, same_address, sector_of, wanted, wanted_of, with_node}
 use Rattle.std.proofs.Common.{◌≡◌, ◌≤◌, ◌+◌, ◌∙◌, ◌++◌, [], ◌∷◌, Bool, Err, List, None, Ok, Option, Some, ap, arith, drop, eqb-true, false, inl, inr, not, refl, subst, suc, sym, true, zero, ℕ}
 use Rattle.std.specs.Option.{option_and_then}
@@ -17,7 +18,6 @@ use Rattle.replayer.specs.Replaying.{bytes_refusal}
 use Rattle.replayer.proofs.Fronts.{not_behind}
 use Rattle.pair_protocol.specs.Effects as effect
 use Rattle.pair_protocol.specs.World as sent
-use Rattle.pair_protocol.proofs.Keeps.Disk.{same_address-is}
 use Rattle.ft_node.specs.declared.node.Node as code
 use Rattle.ft_node.specs.declared.node.Node.TheVariants as seat
 use Rattle.pair_events.specs.declared.event.Event.TheVariants as event

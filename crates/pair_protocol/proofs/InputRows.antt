@@ -2,6 +2,7 @@
 use Rattle.std.proofs.Common.{◌∙◌, ◌≡◌, ◌≤◌, None, Option, Some, ap, eqb-true, inl, inr, length, ltb-false, not, refl, subst, sym, true, ℕ}
 use Rattle.std.specs.Prelude.{◌==◌, slice_get}
 use Rattle.std.proofs.lemmas.Bool.{or_parts}
+use Rattle.disk_dcdd.proofs.Addresses.{same_address-is}
 use Rattle.pair_protocol.proofs.Words.{Acts, AloneTakes, Among, Change, Changes, Copying, Input, Machine, MayTake, Node, PrimaryTakes, Role, SectorRead, Serving, World, WriteDone, accepted, refusal_of, same_address, terminal, with_node}
 use Rattle.guest_lockstep.specs.declared.input.Input.TheVariants as input
 use Rattle.i8080_words.specs.declared.refusal.Fault.TheVariants.{NotDue, Unknown, WrongNumber}
@@ -10,7 +11,6 @@ use Rattle.pair_events.specs.declared.event.Event.TheVariants.{GetReply, PutRepl
 use Rattle.pair_protocol.specs.Reply.{Reply}
 use Rattle.pair_protocol.specs.Refusals.{at_sector_read, at_write_done, fault_if, get_reply_refusal, is_number, not_accepted, not_typed, put_reply_refusal, refusal, serves, take_key_refusal, tell_sent_refusal}
 use Rattle.pair_protocol.specs.Rows.{Takes, TakesGetReply, TakesKey, TakesPutReply}
-use Rattle.pair_protocol.proofs.Keeps.Disk.{same_address-is}
 use Rattle.pair_protocol.proofs.Passed.{changed, first-passed, node-passed, not-stands, only-passed, passes-if, serving}
 use Rattle.pair_protocol.proofs.Traces.Lists.{among-get}
 

@@ -1,12 +1,13 @@
 -- A record put into a sector is read there, and every other sector keeps its own, since no two sectors share a place. A
 -- new store has blank records at the places of its drives' sectors, and none past them.
-use Rattle.std.proofs.Common.{◌≡◌, ℕ, zero, suc, ◌+◌, ◌*◌, ◌<◌, ◌≤◌, Bool, true, false, cond, eqb, ◌&&◌, List, [], ◌∷◌, length, replicate, Option, Some, None, refl, sym, ap, subst, ◌∙◌, arith}
+use Rattle.std.proofs.Common.{◌≡◌, ℕ, zero, suc, ◌+◌, ◌*◌, ◌<◌, ◌≤◌, Bool, true, false, cond, ◌&&◌, List, [], ◌∷◌, length, replicate, Option, Some, None, refl, sym, ap, ◌∙◌, arith}
 use Rattle.std.specs.Prelude.{◌≢◌, nat_lt, slice_get, slice_set}
 use Rattle.std.specs.Option.{option_and_then, option_map_or}
-use Rattle.std.proofs.lemmas.Bool.{eq-eqb, eqb-true, ltb-true, ltb-false}
+use Rattle.std.proofs.lemmas.Bool.{ltb-true, ltb-false}
 use Rattle.std.proofs.lemmas.List.{length-replicate, set_past}
 use Rattle.std.proofs.lemmas.Option.{same_Some, slice_get_past}
-use Rattle.disk_dcdd.specs.Address.{has_sector, index_of, same_address}
+pub use Rattle.disk_dcdd.proofs.Addresses.{same_address-is as is_same, same_address-other as is_other}
+use Rattle.disk_dcdd.specs.Address.{has_sector, index_of}
 use Rattle.disk_dcdd.specs.declared.address.SectorAddress.{SectorAddress}
 use Rattle.disk_dcdd.specs.declared.address.TheConstants.{DRIVE_SECTORS}
 use Rattle.disk_dcdd.specs.declared.drive.TheConstants.{TRACKS}
@@ -23,28 +24,6 @@ one_address a b d t s =
     ap (λ x. address x a.track a.sector) d
     ∙ ap (λ x. address b.drive x a.sector) t
     ∙ ap (λ x. address b.drive b.track x) s
-
-same_at : (p q r : Bool) (a b : SectorAddress)
-    → eqb a.drive b.drive ≡ p → eqb a.track b.track ≡ q → eqb a.sector b.sector ≡ r
-    → (p && q && r) ≡ true → a ≡ b
-same_at true true true a b d t s same = one_address a b (eqb-true _ _ d) (eqb-true _ _ t) (eqb-true _ _ s)
-same_at true true false a b d t s same = absurd (cc)
-same_at true false r a b d t s same = absurd (cc)
-same_at false q r a b d t s same = absurd (cc)
-
--- the test of two sectors tells them apart
-pub is_same : (a b : SectorAddress) → same_address a b ≡ true → a ≡ b
-is_same a b same = same_at (eqb a.drive b.drive) (eqb a.track b.track) (eqb a.sector b.sector) a b refl refl refl same
-
-same_itself : (a : SectorAddress) → same_address a a ≡ true
-same_itself a =
-    ap (λ p. p && eqb a.track a.track && eqb a.sector a.sector) (eq-eqb a.drive a.drive refl)
-    ∙ ap (λ p. p && eqb a.sector a.sector) (eq-eqb a.track a.track refl)
-    ∙ eq-eqb a.sector a.sector refl
-
-pub is_other : (a b : SectorAddress) → same_address a b ≡ false → a ≢ b
-is_other a b other same =
-    let yes : same_address a b ≡ true = subst (λ z. same_address a z ≡ true) same (same_itself a) in absurd (cc)
 
 -- a sector with a place is on a track, and its place goes by drive, track and number
 record HasPlace (a : SectorAddress) (place : ℕ) : Type 0 where

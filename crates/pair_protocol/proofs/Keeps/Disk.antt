@@ -1,29 +1,13 @@
 -- What the disk has for a sector is its record at boot, or the write of greatest number that arrived there.
-use Rattle.std.proofs.Common.{[], ◌++◌, ◌<◌, ◌∙◌, ◌∷◌, ◌≡◌, ◌≤◌, Bool, List, ap, arith, cond, eq-eqb, eqb-true, false, inl, inr, ltb-false, ltb-true, refl, subst, sym, true, ℕ}
-use Rattle.std.specs.Prelude.{◌&&◌, ◌==◌, nat_lt}
-use Rattle.std.proofs.lemmas.Bool.{and_parts}
+use Rattle.std.proofs.Common.{[], ◌++◌, ◌<◌, ◌∙◌, ◌∷◌, ◌≡◌, ◌≤◌, Bool, List, ap, arith, cond, false, inl, inr, ltb-false, ltb-true, refl, subst, sym, true, ℕ}
+use Rattle.std.specs.Prelude.{nat_lt}
+pub use Rattle.disk_dcdd.proofs.Addresses.{same_address-is, same_address-refl}
 use Rattle.pair_protocol.proofs.Words.{Among, Copying, Machine, Released, SectorAddress, SectorRead, SectorRecord, SectorWrite, World, Write, WriteDone, address_of, latest, operations, record_after, same_address, sector_record, with_message, with_put}
 use Rattle.pair_protocol.proofs.Invariant.{AtStart, HasPut, Inv, IsRecord, Next, OfWrite}
 use Rattle.pair_protocol.proofs.Keeps.Link.{message-true}
 use Rattle.pair_protocol.proofs.Traces.Lists.{among-left, among-right, among-split}
 
 -- the record of a sector is its record at boot or a settled write's
-
-pub same_address-is : (a b : SectorAddress) → same_address a b ≡ true → a ≡ b
-same_address-is a b h =
-    let s = and_parts ((a.drive == b.drive) && (a.track == b.track)) (a.sector == b.sector) h in
-    let t = and_parts (a.drive == b.drive) (a.track == b.track) s.0 in
-    let d : a.drive ≡ b.drive = eqb-true a.drive b.drive t.0 in
-    let e : a.track ≡ b.track = eqb-true a.track b.track t.1 in
-    let f : a.sector ≡ b.sector = eqb-true a.sector b.sector s.1 in
-    λ i. record { drive = d i; track = e i; sector = f i }
-
-pub same_address-refl : (a b : SectorAddress) → a ≡ b → same_address a b ≡ true
-same_address-refl a b h =
-    let d = eq-eqb a.drive b.drive (ap (λ z. z.drive) h) in
-    let e = eq-eqb a.track b.track (ap (λ z. z.track) h) in
-    let f = eq-eqb a.sector b.sector (ap (λ z. z.sector) h) in
-    ap (λ v. (v && (a.track == b.track)) && (a.sector == b.sector)) d ∙ ap (λ v. v && (a.sector == b.sector)) e ∙ f
 
 abbrev pub record_of : SectorWrite → SectorRecord
 record_of v = record { number = v.number; bytes = v.bytes }
