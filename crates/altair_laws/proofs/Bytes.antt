@@ -8,10 +8,10 @@ use Rattle.std.proofs.lemmas.Bool.Decides.{eqb_tells}
 use Rattle.std.proofs.lemmas.List.{length-set, get_or-set_same, get_or-set_other, get_or_past}
 use Rattle.std.proofs.lemmas.Option.{cond_some, same_Some}
 use Rattle.serial_2sio.specs.Port as serial
+use Rattle.guest_board.proofs.Boot.{two_zeros}
 use Rattle.altair_laws.proofs.Words.{Byte, Do, Guest, Input, Move, Operation, Processor, Reaches, Rx, SectorAddress, Sent, Setup, Take, Wired, Write, acceptances, acceptances_of-append, after_byte, after_rx, after_sent, altair, due_byte, guest_at_boot, inputs, oldest_byte, output, port_of, runs-split, stepped, take_from, wired}
 use Rattle.altair_laws.proofs.Moves.{Tells, from_boot, length-output}
 use Rattle.altair_laws.proofs.Steps.{Gave, GaveNothing, GaveByte, GaveWrite, Steps, steps_from, after_step, same_unaccepted}
-use Rattle.altair_laws.proofs.Counts.{zeros}
 
 pub record Bytes (moves : List Move) (g : Guest) : Type 0 where
   pub two : length g.devices.ports ≡ 2
@@ -31,9 +31,9 @@ pub bytes-boot : (setup : Setup) → Bytes [] (guest_at_boot setup)
 bytes-boot setup = record {
   two = refl;
   counts = refl;
-  sent = λ port l. zeros port;
+  sent = λ port l. two_zeros port;
   none = λ port l. refl;
-  balance = λ port l. (let z = zeros port in let n = no_bytes port in (omega arith));
+  balance = λ port l. (let z = two_zeros port in let n = no_bytes port in (omega arith));
   few = λ port. (let n = no_bytes port in (omega arith));
 }
 

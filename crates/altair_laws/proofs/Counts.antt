@@ -1,10 +1,11 @@
 -- The count of a trace is the number of its steps, and at each port it has taken the keys that its inputs have.
-use Rattle.std.proofs.Common.{◌≡◌, ℕ, zero, suc, ◌+◌, ◌≤◌, ◌<◌, Bool, true, false, cond, List, [], ◌∷◌, ◌++◌, length, Option, Some, ◌⊎◌, inl, inr, refl, sym, ap, ◌∙◌, subst, arith}
+use Rattle.std.proofs.Common.{◌≡◌, ℕ, ◌+◌, ◌≤◌, ◌<◌, Bool, true, false, cond, List, [], ◌∷◌, ◌++◌, length, Option, Some, ◌⊎◌, inl, inr, refl, sym, ap, ◌∙◌, subst, arith}
 use Rattle.std.specs.Prelude.{slice_index, slice_set, nat_lt, ◌==◌, ◌&&◌}
 use Rattle.std.proofs.lemmas.Bool.{ltb-true, and_parts, cases_lt}
 use Rattle.std.proofs.lemmas.Bool.Decides.{eqb_tells}
 use Rattle.std.proofs.lemmas.List.{length-set, get_or-set_same, get_or-set_other, get_or_past}
 use Rattle.std.proofs.lemmas.Option.{cond_some}
+use Rattle.guest_board.proofs.Boot.{two_zeros}
 use Rattle.altair_laws.proofs.Words.{Do, GREATEST_NUMBER, Guest, Input, Move, Operation, Reaches, Rx, SectorAddress, Setup, Take, after_rx, altair, guest_at_boot, inputs, keys, steps, steps-append, take_from}
 use Rattle.altair_laws.proofs.Moves.{Tells, from_boot, length-keys}
 use Rattle.altair_laws.proofs.Steps.{Steps, steps_from, after_step}
@@ -15,14 +16,8 @@ pub record Counts (moves : List Move) (g : Guest) : Type 0 where
   pub taken : (port : ℕ) → port < 2 → slice_index g.keys port ≡ length (keys port (inputs 0 moves))
   pub none : (port : ℕ) → 2 ≤ port → length (keys port (inputs 0 moves)) ≡ 0
 
--- 0 at each of two ports
-pub zeros : (port : ℕ) → slice_index (0 ∷ 0 ∷ []) port ≡ 0
-zeros zero = refl
-zeros (suc zero) = refl
-zeros (suc (suc port)) = refl
-
 counts-boot : (setup : Setup) → Counts [] (guest_at_boot setup)
-counts-boot setup = record { count = refl; two = refl; taken = λ port l. zeros port; none = λ port l. refl }
+counts-boot setup = record { count = refl; two = refl; taken = λ port l. two_zeros port; none = λ port l. refl }
 
 -- no key is taken
 counts-still : (moves : List Move) (m : Move) (g u : Guest) → Counts moves g → u.count ≡ g.count + steps (m ∷ [])

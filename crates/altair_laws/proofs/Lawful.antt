@@ -1,7 +1,7 @@
 -- The laws of a pair's machine hold of the Altair, each by one of the invariants of its traces.
-use Rattle.std.proofs.Common.{◌≡◌, ℕ, true, cond, List, Some, None, ◌⊎◌, inl, inr, refl, ap}
-use Rattle.std.specs.Prelude.{◌||◌}
-use Rattle.altair_laws.proofs.Words.{Guest, IsUnwritten, IsWritten, Lawful, Move, SectorAddress, Setup, altair, is_idle, is_spent, next, step_from, wired_after}
+use Rattle.std.proofs.Common.{ℕ, List, ◌⊎◌, inl, inr, refl}
+use Rattle.guest_board.specs.MoveLaws.{spent}
+use Rattle.altair_laws.proofs.Words.{Guest, IsUnwritten, IsWritten, Lawful, Move, SectorAddress, Setup, altair}
 use Rattle.altair_laws.proofs.Images.{Apart}
 use Rattle.altair_laws.proofs.Counts.{counts_after, keys_taken}
 use Rattle.altair_laws.proofs.Limits.{within_after}
@@ -13,10 +13,6 @@ use Rattle.altair_laws.proofs.Windows.{bytes_pending}
 use Rattle.altair_laws.proofs.Writes.{OwnIs}
 use Rattle.altair_laws.proofs.Completions.{writes_after}
 use Rattle.altair_laws.proofs.Standing.{stands}
-
--- a guest that is spent makes no step
-spent_stays : (g : Guest) → is_spent g ≡ true → step_from g ≡ None
-spent_stays g e = ap (λ b. cond (b || is_idle g) None (Some (next g, (wired_after g).given))) e
 
 -- what its own disk has, in the words of the law
 own_is : (setup : Setup) (sectors : SectorAddress → List ℕ) (moves : List Move) (g : Guest) (address : SectorAddress)
@@ -31,7 +27,7 @@ lawful apart setup sectors = record {
   counts = λ moves s r. (counts_after setup sectors moves s r).count;
   takes_keys = λ moves s port r. keys_taken moves s port (counts_after setup sectors moves s r);
   limit = λ moves s r. (within_after setup sectors moves s r).count;
-  spent = λ moves s r e. spent_stays s e;
+  spent = λ moves s r e. spent s e;
   window = λ moves s port r. window_is moves s port (bytes_after setup sectors moves s r);
   numbered = λ moves s port number byte r. numbered_is setup sectors moves s port number byte r;
   due = λ moves s port number r e. due_is moves s port number (bytes_after setup sectors moves s r) e;

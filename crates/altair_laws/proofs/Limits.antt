@@ -1,16 +1,17 @@
 -- No number passes its limit. A step is made only if no number is at its limit, and raises the count by one and the
 -- number of bytes of one port or of writes by at most one; a key is taken only while the number of keys is below the
 -- limit.
-use Rattle.std.proofs.Common.{◌≡◌, ℕ, zero, suc, ◌+◌, ◌≤◌, ◌<◌, false, List, [], ◌∷◌, Some, ◌⊎◌, inl, inr, refl, sym, ap, subst, arith}
-use Rattle.std.specs.Prelude.{slice_index, slice_index_or, slice_set, nat_lt, nat_le, ◌&&◌, ◌||◌}
-use Rattle.std.proofs.lemmas.Bool.{ltb-true, leb-false, and_parts, or_parts}
+use Rattle.std.proofs.Common.{◌≡◌, ℕ, zero, suc, ◌+◌, ◌≤◌, ◌<◌, List, [], ◌∷◌, Some, ◌⊎◌, inl, inr, refl, sym, ap, subst, arith}
+use Rattle.std.specs.Prelude.{slice_index, slice_index_or, slice_set, nat_lt, ◌&&◌}
+use Rattle.std.proofs.lemmas.Bool.{ltb-true, and_parts}
 use Rattle.std.proofs.lemmas.Option.{cond_some}
 use Rattle.disk_dcdd.specs.Drive as drives
-use Rattle.altair_laws.proofs.Words.{GREATEST_NUMBER, Guest, Input, IsWithin, Move, Processor, Reaches, Rx, SectorAddress, Setup, Wired, after_rx, altair, guest_at_boot, is_spent, stepped, take_from, top, wired}
+use Rattle.guest_board.proofs.Stepping.{not_spent}
+use Rattle.guest_board.proofs.Boot.{two_zeros}
+use Rattle.altair_laws.proofs.Words.{GREATEST_NUMBER, Guest, Input, IsWithin, Move, Processor, Reaches, Rx, SectorAddress, Setup, Wired, after_rx, altair, guest_at_boot, stepped, take_from, top, wired}
 use Rattle.altair_laws.proofs.Moves.{from_boot}
 use Rattle.altair_laws.proofs.Steps.{Gave, GaveNothing, GaveByte, GaveWrite, steps_from, after_step}
 use Rattle.altair_laws.proofs.Sectors.{issues, after_data-issue}
-use Rattle.altair_laws.proofs.Counts.{zeros}
 
 pub top_is : top ≡ GREATEST_NUMBER
 unfolding top
@@ -35,22 +36,12 @@ set-within xs i x most h l k = go (set-cases xs i x 0 k)
     go (inl e) = omega arith
     go (inr e) = let m = h k in omega arith
 
--- a guest that is not spent has made fewer steps than it may
-unspent : (g : Guest) → is_spent g ≡ false → g.count < GREATEST_NUMBER
-unspent g e =
-    let count = nat_le GREATEST_NUMBER g.count in
-    let first = nat_le GREATEST_NUMBER (slice_index g.issued 0) in
-    let second = nat_le GREATEST_NUMBER (slice_index g.issued 1) in
-    let a = or_parts (count || first || second) (nat_le GREATEST_NUMBER g.devices.disk.issued) e in
-    let b = or_parts (count || first) second a.0 in
-    leb-false GREATEST_NUMBER g.count (or_parts count first b.0).0
-
 within-boot : (setup : Setup) → IsWithin (guest_at_boot setup)
 within-boot setup = record {
   count = (let t = top_is in (omega arith));
-  issued = λ port. (let z = zeros port in (omega arith));
+  issued = λ port. (let z = two_zeros port in (omega arith));
   writes = (let t = top_is in (omega arith));
-  keys = λ port. (let z = zeros port in (omega arith));
+  keys = λ port. (let z = two_zeros port in (omega arith));
 }
 
 within-gave : (g : Guest) (processor : Processor) (w : Wired) → IsWithin g → g.count < GREATEST_NUMBER
@@ -96,6 +87,6 @@ pub within_after : (setup : Setup) (sectors : SectorAddress → List ℕ) (moves
 within_after setup sectors = from_boot (altair setup sectors) (λ moves g. IsWithin g) (within-boot setup) (record {
   steps = λ moves g u gives h e. (let k = steps_from g u gives e in
       after_step (λ moves g. IsWithin g) moves g u gives k
-      (within-gave g k.processor k.behind h (unspent g k.unspent) k.gave));
+      (within-gave g k.processor k.behind h (not_spent g k.unspent) k.gave));
   takes = λ moves g u i h e. within-take g u i h e;
 })

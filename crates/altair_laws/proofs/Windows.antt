@@ -7,13 +7,13 @@ use Rattle.std.proofs.lemmas.Grind.{get_or-set_at}
 use Rattle.std.proofs.lemmas.List.{get_or-set_other}
 use Rattle.std.proofs.lemmas.Option.{cond_some, none-some}
 use Rattle.serial_2sio.specs.Port as serial
+use Rattle.guest_board.proofs.Boot.{two_zeros}
 use Rattle.altair_laws.proofs.Words.{AreBytes, Byte, Guest, Input, IsLast, Move, OpId, Operation, Processor, Reaches, Rx, Sector, SectorAddress, Sent, Setup, Wired, Write, Written, after_byte, after_rx, after_sent, altair, guest_at_boot, oldest_byte, operation_at, operation_at-empty, operation_at-with_named, operation_at-with_other, operation_at-without_other, port_of, stepped, take_from, wired, with_given}
 use Rattle.event_callbacks.specs.declared.operations.OpId.TheVariants as id
 use Rattle.altair_laws.proofs.Moves.{from_boot}
 use Rattle.altair_laws.proofs.Operations.{with-cases, without-cases}
 use Rattle.altair_laws.proofs.Steps.{Gave, GaveNothing, GaveByte, GaveWrite, steps_from, after_step, same_unaccepted}
 use Rattle.altair_laws.proofs.Bytes.{Bytes, no_bytes, bytes-boot, bytes-step, bytes-take, sent-more, accepted-less}
-use Rattle.altair_laws.proofs.Counts.{zeros}
 
 record Windows (moves : List Move) (g : Guest) : Type 0 where
   bytes : Bytes moves g
@@ -22,7 +22,7 @@ record Windows (moves : List Move) (g : Guest) : Type 0 where
 windows-boot : (setup : Setup) → (port : ℕ) → AreBytes (guest_at_boot setup) port
 windows-boot setup port = record {
   last = λ number x h. absurd (none-some x (sym (operation_at-empty (id.Byte port number)) ∙ h));
-  pending = λ number l. (let z = zeros port in let y = no_bytes port in let a = l.first in let b = l.last in
+  pending = λ number l. (let z = two_zeros port in let y = no_bytes port in let a = l.first in let b = l.last in
       absurd (omega arith));
 }
 

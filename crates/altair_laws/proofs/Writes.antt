@@ -12,13 +12,12 @@ use Rattle.altair_laws.proofs.Drives.{Stands}
 use Rattle.altair_laws.proofs.Images.{number_of, place-among, write-same, bares}
 use Rattle.std.specs.Prelude.{slice_index, replicate}
 use Rattle.std.specs.Option.{option_map_or}
-use Rattle.std.proofs.lemmas.List.{length-replicate}
 use Rattle.std.proofs.lemmas.List.Elements.{All-replicate, All-drop, All-nil}
 use Rattle.std.proofs.lemmas.Option.{none-some}
 use Rattle.disk_dcdd.specs.declared.drive.Drive.{Drive}
 use Rattle.disk_dcdd.proofs.Addresses.{same_address-refl}
 use Rattle.guest_memory.specs.Pages.{zeros}
-use Rattle.guest_memory.proofs.NewMemory.{only_zeros}
+use Rattle.guest_memory.proofs.NewMemory.{length-zeros, only_zeros}
 use Rattle.std.specs.FinMap as map
 
 -- the write is outstanding
@@ -216,10 +215,6 @@ byte-has m port number byte w h =
     operation_at-with_other m (Byte port number byte) (id.Write w.number) (λ e. byte_name w.number port number e) ∙ h
 
 -- ---- at boot
-
-length-zeros : (n : ℕ) → length (zeros n) ≡ n
-unfolding zeros
-length-zeros n = length-replicate n 0
 
 pub writes-boot : (setup : Setup) (start : SectorAddress → List ℕ) → Writes start [] (guest_at_boot setup)
 writes-boot setup start = record {

@@ -3,20 +3,14 @@ use Rattle.std.proofs.Common.{◌≡◌, ℕ, ◌+◌, ◌-◌, ◌*◌, ◌/◌
 use Rattle.std.specs.Prelude.{◌==◌, nat_lt, slice_index, slice_index_or, slice_set, slice_range}
 use Rattle.std.proofs.lemmas.Bool.{cases_lt, cases_eq, and_from, and_left, and_right, cond-false, cond-true, eqb-true, eqb-false, eq-eqb, ne_eqb, not-false, lt-ltb, le-ltb}
 use Rattle.std.proofs.lemmas.List.{take_at, length-replicate, length-set, length-take-le, length-drop, length-append, get_or-set_same, get_or-set_other, get_or_append_left, get_or-append_right, get_or-take, get_or-drop, ext_get_or}
-use Rattle.guest_memory.specs.Pages.{page_of, zeros}
+use Rattle.guest_memory.specs.Pages.{page_of}
 use Rattle.guest_memory.specs.declared.memory.TheConstants.{BYTES, PAGES}
 use Rattle.guest_parts.specs.Board.{OnBoard}
 use Rattle.board_image.specs.Drafts.{Drafted, HasRoom, HasCopied, IsFreshened, Agrees, none_copied, copied_at, version_of, is_old, is_stale, is_next, stale_below}
 use Rattle.board_image.proofs.StalePages.{none_below, one_more, few_below}
-
-pub page_low : (address : ℕ) → address < BYTES → page_of address < PAGES
-page_low address low = omega (arith, low)
+use Rattle.board_image.proofs.LaterPages.{page_low}
 
 -- ---- room for all pages
-
-pub zeros_long : (n : ℕ) → length (zeros n) ≡ n
-unfolding zeros
-zeros_long n = length-replicate n 0
 
 pub none_long : (n : ℕ) → length (none_copied n) ≡ n
 unfolding none_copied

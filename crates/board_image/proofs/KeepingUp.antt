@@ -14,8 +14,8 @@ use Rattle.board_image.specs.Drafts.{Drafted, IsFreshened, KeepsUp, copied_at, i
 use Rattle.clone_state.specs.Stale.{one_if}
 use Rattle.board_image.specs.DraftLaws.{IsLater, memory_of, DraftsBegin, DraftsKeepUp}
 use Rattle.board_image.proofs.StalePages.{left_below, next_below, none_below}
-use Rattle.board_image.proofs.Freshening.{page_low, still_agrees}
-use Rattle.board_image.proofs.LaterPages.{each, inputs_later, steps_later}
+use Rattle.board_image.proofs.Freshening.{still_agrees}
+use Rattle.board_image.proofs.LaterPages.{each, inputs_later, page_low, steps_later}
 
 -- ---- a new draft
 

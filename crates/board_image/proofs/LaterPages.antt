@@ -1,8 +1,7 @@
 -- Memory after a write is later memory: its page's version is higher, and every other page is as it was. So is memory
 -- after the accesses of a step, which are too few for a version to wrap, and after an input, which writes nothing.
-use Rattle.std.proofs.Common.{◌≡◌, ℕ, zero, suc, ◌+◌, ◌*◌, ◌%◌, ◌^◌, ◌<◌, ◌≤◌, Bool, true, false, cond, List, [], ◌∷◌, length, Option, Some, None, is_none, Result, Ok, Err, refl, sym, ap, subst, ◌∙◌, inl, inr, arith}
-use Rattle.std.specs.Prelude.{◌==◌, nat_lt, slice_index, slice_set}
-use Rattle.std.specs.Option.{option_map_or}
+use Rattle.std.proofs.Common.{◌≡◌, ℕ, zero, suc, ◌+◌, ◌*◌, ◌%◌, ◌^◌, ◌<◌, ◌≤◌, Bool, true, false, cond, List, [], ◌∷◌, length, Some, None, is_none, Result, Ok, Err, refl, sym, ap, subst, ◌∙◌, inl, inr, arith}
+use Rattle.std.specs.Prelude.{slice_index, slice_set}
 use Rattle.std.proofs.lemmas.Bool.{cases_eq}
 use Rattle.std.proofs.lemmas.List.{length-set, get_or-set_same, get_or-set_other}
 use Rattle.i8080_words.specs.Effects.{Access, after_accesses}
@@ -11,16 +10,17 @@ use Rattle.i8080_words.specs.declared.limits.TheConstants.{GREATEST_NUMBER}
 use Rattle.i8080_words.specs.declared.refusal.Fault.{Fault}
 use Rattle.i8080_words.proofs.Accesses.{few_accesses}
 use Rattle.serial_2sio.specs.Port as serial
-use Rattle.event_callbacks.specs.Completions.{port_of}
 use Rattle.guest_memory.specs.Pages.{Pages, page_of, version_at, written}
 use Rattle.guest_memory.specs.declared.memory.TheConstants.{BYTES, PAGES}
 use Rattle.guest_parts.specs.Board.{IsBoard, OnBoard}
 use Rattle.guest_parts.specs.Guest.{Guest}
 use Rattle.guest_board.specs.Guest.{wired, step_of, wired_after, line_of, next, take_from, after_rx, after_sent, after_sector, after_written}
-use Rattle.guest_board.specs.Ports.{Wired, after_access, after_byte, after_disk_data, after_out, after_serial_data, device_at, memory_byte, port_byte}
+use Rattle.guest_board.specs.Ports.{Wired, after_access, after_out, device_at, memory_byte, port_byte}
 use Rattle.guest_board.specs.Wiring.{versions_after}
 use Rattle.guest_board.specs.Stepping.{next_versions}
 use Rattle.guest_board.specs.declared.executed.Executed.{Executed}
+use Rattle.guest_board.proofs.Outputs.{cond_memory, out_memory}
+use Rattle.guest_board.proofs.Steps.{access_little}
 use Rattle.guest_lockstep.specs.declared.input.Input.{Input as AnInput}
 use Rattle.guest_lockstep.specs.declared.input.Input.TheVariants as input
 use Rattle.board_image.specs.DraftLaws.{IsLater, board_after, memory_of}
@@ -55,15 +55,7 @@ up (x ∷ xs) zero n (suc k) e low = no_less (slice_index xs k)
 up (x ∷ xs) (suc p) n zero e low = no_less x
 up (x ∷ xs) (suc p) n (suc k) e low = up xs p n k e low
 
-little : (xs : List ℕ) (p n bound k : ℕ) → ((q : ℕ) → slice_index xs q ≤ bound) → n ≤ bound
-    → slice_index (slice_set xs p ((n + 1) % 2 ^ 64)) k ≤ bound + 1
-little [] p n bound k all few = let here : slice_index [] k ≤ bound = all k in omega (arith, here)
-little (x ∷ xs) zero n bound zero all few = omega (arith, few)
-little (x ∷ xs) zero n bound (suc k) all few = let here : slice_index xs k ≤ bound = all (suc k) in omega (arith, here)
-little (x ∷ xs) (suc p) n bound zero all few = let here : x ≤ bound = all zero in omega (arith, here)
-little (x ∷ xs) (suc p) n bound (suc k) all few = little xs p n bound k (λ q. all (suc q)) few
-
-page_low : (address : ℕ) → address < BYTES → page_of address < PAGES
+pub page_low : (address : ℕ) → address < BYTES → page_of address < PAGES
 page_low address low = omega (arith, low)
 
 wraps : (v bound : ℕ) → v ≤ bound → bound + 1 < 2 ^ 64 → (v + 1) % 2 ^ 64 ≡ v → ⊥
@@ -98,44 +90,6 @@ written_later pages address byte bound long all low =
 abbrev pages_with : Wired → List ℕ → Pages
 pages_with w versions = record { bytes = w.memory; versions = versions }
 
-sent_memory : (w : Wired) (port byte : ℕ) (room : Bool) (answer : Option ℕ)
-    → (cond room (option_map_or (after_byte w port) answer w) w).memory ≡ w.memory
-sent_memory w port byte true None = refl
-sent_memory w port byte true (Some sent) = refl
-sent_memory w port byte false answer = refl
-
-either_memory : (b : Bool) (x y w : Wired) → x.memory ≡ w.memory → y.memory ≡ w.memory → (cond b x y).memory ≡ w.memory
-either_memory true x y w e f = e
-either_memory false x y w e f = f
-
-either : {D : Type 0} (P : D → Type 0) (b : Bool) (x y : D) → P x → P y → P (cond b x y)
-either P true x y p q = p
-either P false x y p q = q
-
--- whatever device is at a port
-at_ports : {D : Type 0} (P : D → Type 0) (a b c d e f g h i : D) (A B C D' E F G H : Bool)
-    → P a → P b → P c → P d → P e → P f → P g → P h → P i
-    → P (cond A a (cond B b (cond C c (cond D' d (cond E e (cond F f (cond G g (cond H h i))))))))
-at_ports P a b c d e f g h i A B C D' E F G H pa pb pc pd pe pf pg ph pi =
-    either P A a _ pa (either P B b _ pb (either P C c _ pc (either P D' d _ pd (either P E e _ pe
-    (either P F f _ pf (either P G g _ pg (either P H h i ph pi)))))))
-
-serial_memory : (w : Wired) (port byte : ℕ) → (after_serial_data w port byte).memory ≡ w.memory
-serial_memory w port byte =
-    sent_memory w port byte (nat_lt (slice_index w.issued port) GREATEST_NUMBER) (serial.data_out_answer (port_of w.devices port) byte)
-
-disk_memory : (w : Wired) (byte : ℕ) → (after_disk_data w byte).memory ≡ w.memory
-disk_memory w byte = either_memory (nat_lt w.devices.disk.issued GREATEST_NUMBER) _ w w refl refl
-
-out_memory : (w : Wired) (number byte : ℕ) → (after_out w (device_at number) byte).memory ≡ w.memory
-out_memory w number byte =
-    at_ports (λ device. (after_out w device byte).memory ≡ w.memory)
-    (device_at 0x10) (device_at 0x11) (device_at 0x12) (device_at 0x13) (device_at 0x08) (device_at 0x09)
-    (device_at 0x0A) (device_at 0xFF) (device_at 0x00)
-    (number == 0x10) (number == 0x11) (number == 0x12) (number == 0x13) (number == 0x08) (number == 0x09)
-    (number == 0x0A) (number == 0xFF)
-    refl (serial_memory w 0 byte) refl (serial_memory w 1 byte) refl refl (disk_memory w byte) refl refl
-
 access_later : (access : Access) (w : Wired) (versions : List ℕ) (bound : ℕ) → length versions ≡ PAGES
     → ((page : ℕ) → slice_index versions page ≤ bound) → bound + 1 < 2 ^ 64
     → IsLater (pages_with w versions) (pages_with (after_access access w) (versions_after access versions))
@@ -144,16 +98,9 @@ access_later (Write address byte) w versions bound long all low =
 access_later (Input number) w versions bound long all low = unchanged (pages_with w versions)
 access_later (Output number byte) w versions bound long all low =
     let same : (after_access (Output number byte) w).memory ≡ w.memory =
-    either_memory (is_none w.given) (after_out w (device_at number) byte) w w (out_memory w number byte) refl in
+    cond_memory (is_none w.given) (after_out w (device_at number) byte) w (out_memory w number byte) in
     subst (λ (memory : List ℕ). IsLater (pages_with w versions) (record { bytes = memory; versions = versions })) (sym same)
     (unchanged (pages_with w versions))
-
-pub access_little : (access : Access) (versions : List ℕ) (bound : ℕ) → ((q : ℕ) → slice_index versions q ≤ bound)
-    → (q : ℕ) → slice_index (versions_after access versions) q ≤ bound + 1
-access_little (Write address byte) versions bound all q =
-    little versions (page_of address) (slice_index versions (page_of address)) bound q all (all (page_of address))
-access_little (Input number) versions bound all q = let here : slice_index versions q ≤ bound = all q in omega (arith, here)
-access_little (Output number byte) versions bound all q = let here : slice_index versions q ≤ bound = all q in omega (arith, here)
 
 pub access_long : (access : Access) (versions : List ℕ) → length (versions_after access versions) ≡ length versions
 access_long (Write address byte) versions =

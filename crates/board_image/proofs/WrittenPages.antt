@@ -23,14 +23,14 @@ use Rattle.guest_board.specs.Stepping.{next_versions}
 use Rattle.guest_board.specs.Wiring.{versions_after}
 use Rattle.guest_board.specs.declared.executed.Executed.TheVariants.{Ran}
 use Rattle.guest_board.proofs.Stepping.{not_spent}
-use Rattle.guest_board.proofs.Steps.{board_next}
+use Rattle.guest_board.proofs.Steps.{access_little, board_next}
 use Rattle.std.specs.Prelude.{Ok}
 use Rattle.std.proofs.Math.Bool.{and-false, and-true, or-false, or-true}
 use Rattle.clone_state.specs.Stale.{AreCopied, is_lowest}
 use Rattle.board_image.specs.DraftedBoard.{stale_with}
 use Rattle.board_image.specs.Drafts.{Drafted, HasRoom, IsFreshened, KeepsUp, copied_at, is_next, is_old, is_stale, nothing_copied, stale_in, version_of}
 use Rattle.board_image.proofs.KeepingUp.{later, none_at}
-use Rattle.board_image.proofs.LaterPages.{access_little, access_long, few, steps_later, up}
+use Rattle.board_image.proofs.LaterPages.{access_long, few, steps_later, up}
 
 -- ---- the versions after accesses
 

@@ -224,7 +224,7 @@ out_kept operations start w DiskData byte there none h = data_kept operations st
 out_kept operations start w SenseSwitches byte there none h = h
 out_kept operations start w Nothing byte there none h = h
 
-either : {A : Type 0} (P : A → Type 0) (b : Bool) (x y : A) → P x → P y → P (cond b x y)
+pub either : {A : Type 0} (P : A → Type 0) (b : Bool) (x y : A) → P x → P y → P (cond b x y)
 either P true x y p q = p
 either P false x y p q = q
 

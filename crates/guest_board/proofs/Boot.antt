@@ -1,19 +1,14 @@
 -- What holds of every board holds at boot: nothing is outstanding, and every number is 0.
-use Rattle.std.proofs.Common.{◌≡◌, ℕ, zero, suc, ◌*◌, ◌^◌, ◌<◌, List, [], ◌∷◌, length, refl, arith}
+use Rattle.std.proofs.Common.{◌≡◌, ℕ, zero, suc, ◌*◌, ◌^◌, ◌<◌, List, [], ◌∷◌, refl, arith}
 use Rattle.std.specs.Prelude.{slice_index}
-use Rattle.std.proofs.lemmas.List.{length-replicate}
 use Rattle.disk_dcdd.specs.declared.address.TheConstants.{DRIVE_SECTORS}
 use Rattle.guest_board.proofs.Words.{Guest, IsBoard, at_boot, nothing_outstanding}
 use Rattle.guest_memory.specs.Pages.{zeros}
-use Rattle.guest_memory.proofs.NewMemory.{only_zeros}
+use Rattle.guest_memory.proofs.NewMemory.{length-zeros, only_zeros}
 use Rattle.guest_memory.specs.declared.memory.TheConstants.{PAGES}
 use Rattle.guest_board.proofs.Awaited.{awaited-boot}
 
-length-zeros : (n : ℕ) → length (zeros n) ≡ n
-unfolding zeros
-length-zeros n = length-replicate n 0
-
-two_zeros : (k : ℕ) → slice_index (0 ∷ 0 ∷ []) k ≡ 0
+pub two_zeros : (k : ℕ) → slice_index (0 ∷ 0 ∷ []) k ≡ 0
 two_zeros zero = refl
 two_zeros (suc zero) = refl
 two_zeros (suc (suc k)) = refl

@@ -1,22 +1,9 @@
 -- What a board's calls do to its guest is what the calls of a machine in lockstep do to it.
-use Rattle.std.proofs.Common.{◌≡◌, ◌≢◌, true, false, cond, ◌&&◌, ◌||◌, Option, Some, None, is_none, option_map, Result, Ok, Err, IfOk, refl, ap, subst, ◌∙◌, ⊎_elim}
-use Rattle.guest_board.proofs.Words.{Executes, Fault, Guest, Idle, IsAnswer, OpId, Operation, OutOfMemory, Spent, Stepped, Steps, StepsUnless, answer_by, by_name, exec_answer, guest_after, heard, idle, is_idle, is_spent, line_of, memory_byte, name_by, named, next, port_byte, ran, some_altair, step_from, step_of, unless_heard, wired, wired_after}
+use Rattle.std.proofs.Common.{◌≡◌, ◌≢◌, true, false, cond, ◌||◌, Option, Some, None, is_none, option_map, Result, Ok, Err, IfOk, refl, ap, subst, ◌∙◌, ⊎_elim}
+use Rattle.guest_board.proofs.Words.{Executes, Fault, Guest, Idle, IsAnswer, OpId, Operation, OutOfMemory, Spent, Stepped, Steps, StepsUnless, answer_by, by_name, exec_answer, guest_after, is_idle, is_spent, name_by, named, next, some_altair, step_from, step_of, wired_after}
 use Rattle.i8080_words.specs.declared.registers.Stepped.TheVariants as kinds
 use Rattle.guest_board.specs.declared.executed.Step.{Step}
-
--- a guest that does not idle executes a step
-moves : (g : Guest) → is_idle g ≡ false → (step_of g).kind ≢ kinds.Idle
-unfolding step_of
-moves g =
-    elim (heard g.processor.interrupts (line_of g.devices g.levels)) as (λ h. (g.processor.halted && is_none h) ≡ false
-    → (unless_heard h g.processor (memory_byte (wired g)) (port_byte (wired g))).kind ≢ kinds.Idle) [
-      | Some n ↦ λ e k. cc
-      | None ↦ elim g.processor.halted as (λ b. (b && true) ≡ false
-          → (cond b (idle g.processor) (ran g.processor (memory_byte (wired g)) (port_byte (wired g)))).kind ≢ kinds.Idle) [
-            | true ↦ λ e k. cc
-            | false ↦ λ e k. cc
-          ]
-    ]
+use Rattle.guest_board.proofs.Stepping.{acts}
 
 no_refusal : (kind : Stepped) (given : Option Operation) (fault : Fault) → kind ≢ kinds.Idle
     → Err fault ≡ by_name (answer_by kind given) → fault ≡ OutOfMemory
@@ -66,7 +53,7 @@ executes g new answer =
           → new ≡ guest_after answer g → IfOk answer (λ step. option_map named (step_from g) ≡ Some (new, name_by step))
           → StepsUnless some_altair g (cond (is_none made_so) (Some Idle) None) (name_of answer) new) [
             | true ↦ λ e is after step. refused g new answer Idle is after
-            | false ↦ λ e is after step. made g new answer (moves g e) is after step
+            | false ↦ λ e is after step. made g new answer (acts g e) is after step
           ] refl
     ]
 

@@ -38,7 +38,7 @@ is_next g t gives e = made (is_spent g || is_idle g) e
         record { after = ap (λ p. p.0) same; given = ap (λ p. p.1) same }
 
 -- a guest that is spent executes none
-spent : (g : Guest) → is_spent g ≡ true → step_from g ≡ None
+pub spent : (g : Guest) → is_spent g ≡ true → step_from g ≡ None
 spent g e = ap (λ b. cond (b || is_idle g) None (Some (next g, (wired_after g).given))) e
 
 count-step : (g t : Guest) (gives : Option Operation) → step_from g ≡ Some (t, gives) → t.count ≡ suc g.count

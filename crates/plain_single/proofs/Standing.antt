@@ -14,6 +14,7 @@ use Rattle.guest_parts.specs.Guest.{Guest}
 use Rattle.guest_board.specs.Guest.{altair, step_from, next, wired_after, is_spent, is_idle}
 use Rattle.guest_lockstep.specs.Machine.{Machine, Do}
 use Rattle.guest_board.specs.declared.setup.Setup.{Setup}
+use Rattle.guest_board.specs.MoveLaws.{spent}
 use Rattle.plain_single.specs.SingleState.{SingleState, guest_with, guest_of, step_refusal, RefusesStep, after_step}
 use Rattle.plain_single.specs.Behind.{with_byte, with_write}
 use Rattle.guest_lockstep.specs.Reach.{image_from}
@@ -92,9 +93,6 @@ stops_at setup sectors list a target last is_spent x early stuck why = record {
   why = why;
 }
 
-spent_stuck : (g : Guest) → is_spent g ≡ true → step_from g ≡ None
-spent_stuck g e = rw e refl
-
 idle_stuck : (g : Guest) → is_spent g ≡ false → is_idle g ≡ true → step_from g ≡ None
 idle_stuck g e h = rw (e, h) refl
 
@@ -117,7 +115,7 @@ fails_at setup sectors list a target last fault x early e =
     elim (cases (is_spent (guest_of a)) (is_idle (guest_of a)) (nat_lt GREATEST_NUMBER last) fault e) [
       | inl h ↦ subst (FailsBefore (altair setup sectors) list target last) (sym h.1)
           (stops_at setup sectors list a target last true x early
-          (subst (λ s. step_from s ≡ None) x.stands.guest (spent_stuck g h.0))
+          (subst (λ s. step_from s ≡ None) x.stands.guest (spent g h.0))
           (subst (λ s. (nat_lt GREATEST_NUMBER last || is_spent s) ≡ true) x.stands.guest
           (rw h.0 (or-true (nat_lt GREATEST_NUMBER last)))))
       | inr k ↦ elim k [
