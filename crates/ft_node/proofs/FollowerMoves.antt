@@ -34,7 +34,7 @@ nothing_left xs k within e =
     omega arith
 
 -- what is first among those left is the next one
-next_left : {A : Type 0} (xs : List A) (k : ℕ) → slice_get (drop k xs) 0 ≡ slice_get xs k
+pub next_left : {A : Type 0} (xs : List A) (k : ℕ) → slice_get (drop k xs) 0 ≡ slice_get xs k
 next_left [] zero = refl
 next_left [] (suc k) = refl
 next_left (x ∷ xs) zero = refl

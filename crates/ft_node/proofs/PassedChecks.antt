@@ -8,7 +8,7 @@ pub none_there : {A : Type 0} (o : Option A) → ((value : A) → o ≡ Some val
 none_there None other = refl
 none_there (Some value) other = absurd (other value refl)
 
-not_refused : (o : Option Fault) (done : Unit {0}) → Ok done ≡ answered o → o ≡ None
+pub not_refused : (o : Option Fault) (done : Unit {0}) → Ok done ≡ answered o → o ≡ None
 not_refused None done answer = refl
 not_refused (Some fault) done answer = absurd (cc)
 

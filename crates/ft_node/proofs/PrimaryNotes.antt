@@ -10,6 +10,7 @@ use Rattle.std.proofs.lemmas.List.Kept.{AllPairs-filter}
 use Rattle.ft_node.proofs.Words.{AreFew, AreOfOutstanding, ComesAndGoes, Covering, Covers, Entry, IsCovering, Machine, Node, OpId, Operation, Timed, after_forget, after_note, id_of, inputs_of, marks, note_of, notes_after, primary_steps, reads_in, waits_for, waits_in, waits_of}
 use Rattle.event_callbacks.specs.declared.operations.OpId.TheVariants as id
 use Rattle.event_callbacks.specs.declared.operations.Operation.TheVariants as operation
+use Rattle.event_callbacks.proofs.Names.{name_cases}
 use Rattle.log_entry.specs.declared.entry.Entry.TheVariants as entry
 use Rattle.output_rule.specs.Covering.{waits_for as waits_now}
 use Rattle.output_rule.specs.Laws.{AreNotesOf}
@@ -25,13 +26,6 @@ use Rattle.guest_lockstep.specs.Reach as reach
 use Rattle.ft_node.proofs.LastReads.{reads_without}
 
 -- ---- names
-
--- two names are equal or not
-name_cases : (one other : OpId) → (one ≡ other) ⊎ (one ≢ other)
-name_cases one other =
-    ⊎_elim (λ same. inl (equal_from_same one other same))
-    (λ differs. inr (λ e. let itself = ap (λ n. same_name n other) e ∙ same_name-itself other in cc))
-    (cases_Bool (same_name one other))
 
 -- the protocol's test of two names is the coverage's
 alike : (one other : OpId) → same_name one other ≡ protocol.same_name one other

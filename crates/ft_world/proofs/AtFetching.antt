@@ -4,7 +4,7 @@
 -- they may be kept.
 use Rattle.disk_dcdd.proofs.Addresses.{same_address-is}
 use Rattle.ft_world.proofs.Words.{After, Applies, Backup, Course, Do, Draining, Entry, Fault, Fetched, Fetches, GetsSector, Guest, Host, Input, IsFollower, IsHost, IsNode, IsOnTrace-back, Machine, MayFetch, Message, Move, Never, Node, NotDue, OfNode, OutOfMemory, Reached, Reads, Record, Replaying, Reply, Role, Running, SectorAddress, SectorRead, Shows, StaleRead, Station, Stays, Take, Unknown, Wants, World, acts_as, at_fetched, at_node, drop-at, entries, entry_of, faults_in, fetch_refusal, fetched_refusal, fetches, first-passed, get_set, has_sector, is-at-read, machine_of, next_read, node-passed, nodes_stand, read_address, refusal, replaying, role_refusal, same_address, sector_of, wanted, wanted_of, with_node}
-use Rattle.std.proofs.Common.{◌≡◌, ◌≤◌, ◌+◌, ◌∙◌, ◌++◌, [], ◌∷◌, Bool, Err, List, None, Ok, Option, Some, ap, arith, drop, eqb-true, false, inl, inr, not, refl, subst, suc, sym, true, zero, ℕ}
+use Rattle.std.proofs.Common.{◌≡◌, ◌≤◌, ◌+◌, ◌∙◌, ◌++◌, [], ◌∷◌, Bool, Err, List, None, Ok, Option, Some, ap, arith, drop, eqb-true, false, inl, inr, not, refl, subst, suc, sym, true, ℕ}
 use Rattle.std.specs.Option.{option_and_then}
 use Rattle.std.specs.Prelude.{IfErr, IsTrue, Result, if◌then◌else◌, is_none, slice_get, ◌==◌}
 use Rattle.guest_lockstep.specs.Recorded.{Accepts, Recorded}
@@ -13,6 +13,7 @@ use Rattle.guest_lockstep.specs.declared.reads.Reads.TheVariants.{Logged, Shared
 use Rattle.log_channel.specs.Channel.{Receiving}
 use Rattle.log_entry.specs.Standing.{IsOnTrace, owed}
 use Rattle.log_entry.specs.declared.entry.Entry.TheVariants as entry
+use Rattle.log_entry.proofs.TraceEntries.{same_first}
 use Rattle.replayer.specs.Replaying as replayer
 use Rattle.replayer.specs.Replaying.{bytes_refusal}
 use Rattle.replayer.proofs.Fronts.{not_behind}
@@ -20,6 +21,7 @@ use Rattle.pair_protocol.specs.Effects as effect
 use Rattle.pair_protocol.specs.World as sent
 use Rattle.ft_node.specs.declared.node.Node as code
 use Rattle.ft_node.specs.declared.node.Node.TheVariants as seat
+use Rattle.ft_node.proofs.FollowerMoves.{next_left}
 use Rattle.pair_events.specs.declared.event.Event.TheVariants as event
 use Rattle.pair_events.specs.declared.reply.Reply.TheVariants as reply
 use Rattle.ft_world.specs.declared.host.Host.TheVariants as host
@@ -33,9 +35,6 @@ use Rattle.ft_world.proofs.Keeping.{fetched_kept, kept_stays}
 use Rattle.ft_world.proofs.Refusing.{read_stays}
 
 -- ---- the run takes what a node waits for
-
-same_first : (a b : Entry) (xs ys : List Entry) → a ∷ xs ≡ b ∷ ys → a ≡ b
-same_first a b xs ys e = (cc)
 
 -- an entry of a read is that of a sector alone
 same_read : (reads : Reads) (count drive sector number : ℕ) (i : Input) (es rest : List Entry) →
@@ -101,12 +100,6 @@ next_here : (fetched : Option (List ℕ)) (count : ℕ) (next : Option Entry) (r
 next_here None count None r e = e
 next_here None count (Some n) r e = e
 next_here (Some bytes) count next r e = absurd (cc)
-
-get_drop : {A : Type 0} (xs : List A) (k : ℕ) → slice_get (drop k xs) 0 ≡ slice_get xs k
-get_drop [] zero = refl
-get_drop [] (suc k) = refl
-get_drop (x ∷ xs) zero = refl
-get_drop (x ∷ xs) (suc k) = get_drop xs k
 
 module _ {B H D S : Type 0} (state : B → S) (copied : B → Guest) (M : Machine S) (records : D → List Record)
     (old : Running B H D) (c : Course S) (h : Shows state copied M records old c) where
@@ -206,7 +199,7 @@ module _ {B H D S : Type 0} (state : B → S) (copied : B → Guest) (M : Machin
           same_address-is (M.address x.machine next.0 next.1) (read_address read) due.0 in
           let number : next.2 ≡ read.number = eqb-true next.2 read.number due.1 in
           let at = is-at-read (M.count x.machine) next.0 next.1 next.2 (slice_get x.held x.replayed)
-          (ap (effect.read_at (M.count x.machine)) (sym (get_drop x.held x.replayed))
+          (ap (effect.read_at (M.count x.machine)) (sym (next_left x.held x.replayed))
           ∙ next_here x.fetched (M.count x.machine) (slice_get (drop x.replayed x.held) 0) next e) in
           let brings : slice_get c.world.messages m
           ≡ Some (sent.SectorRead (N.address x.machine next.0 next.1) next.2 read.bytes) =

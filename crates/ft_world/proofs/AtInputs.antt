@@ -120,7 +120,7 @@ nothing_refused : (o : Option Fault) → ◌≡◌ {A = Result (Unit {0}) Fault}
 nothing_refused None e = refl
 nothing_refused (Some fault) e = (cc)
 
-is_refused : (o : Option Fault) (fault : Fault) → ◌≡◌ {A = Result (Unit {0}) Fault} (Err fault) (answered o) →
+pub is_refused : (o : Option Fault) (fault : Fault) → ◌≡◌ {A = Result (Unit {0}) Fault} (Err fault) (answered o) →
     o ≡ Some fault
 is_refused None fault e = (cc)
 is_refused (Some f) fault e = let k : f ≡ fault = (cc) in ap Some k

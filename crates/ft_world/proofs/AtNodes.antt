@@ -1,33 +1,16 @@
 -- One node becomes another of the same generation, which is a backup exactly if it was one before; so the highest
 -- generation stays, and so does the only node that may be its backup.
-use Rattle.std.proofs.Common.{◌≡◌, [], ◌∷◌, ◌∙◌, List, Some, ap, inl, inr, refl, suc, sym, zero, ℕ}
-use Rattle.std.specs.Prelude.{max, slice_get, slice_set, ◌⊎◌}
-use Rattle.ft_world.proofs.Words.{AreHosts, Course, Host, IsOnlyBackup, Machine, Node, Record, Running, ShowsParts, highest, is_backup, same_some, with_node}
-
-pub highest_set : {S : Type 0} (nodes : List (Node S)) (n : ℕ) (x y : Node S) → slice_get nodes n ≡ Some x →
-    y.generation ≡ x.generation → highest (slice_set nodes n y) ≡ highest nodes
-highest_set [] n x y e g = refl
-highest_set {S} (z ∷ nodes) zero x y e g =
-    ap (λ k. max k (highest nodes))
-    (g ∙ ap (λ (u : Node S). u.generation) (sym (same_some z x (Some z) refl e)))
-highest_set (z ∷ nodes) (suc n) x y e g = ap (λ k. max z.generation k) (highest_set nodes n x y e g)
-
-pub set_cases : {A : Type 0} (xs : List A) (n k : ℕ) (y z : A) → slice_get (slice_set xs n y) k ≡ Some z →
-    ((k ≡ n) × (z ≡ y)) ⊎ (slice_get xs k ≡ Some z)
-set_cases [] n k y z e = inr e
-set_cases (x ∷ xs) zero zero y z e = inl (refl, sym (same_some y z (Some y) refl e))
-set_cases (x ∷ xs) zero (suc k) y z e = inr e
-set_cases (x ∷ xs) (suc n) zero y z e = inr e
-set_cases (x ∷ xs) (suc n) (suc k) y z e = elim (set_cases xs n k y z e) [
-  | inl p ↦ inl (ap suc p.0, p.1)
-  | inr q ↦ inr q
-]
+use Rattle.std.proofs.Common.{◌≡◌, ◌∙◌, List, Some, ap, inl, inr, sym, ℕ}
+use Rattle.std.specs.Prelude.{slice_get, slice_set}
+use Rattle.pair_protocol.proofs.Promises.Growth.{highest_set}
+use Rattle.pair_protocol.proofs.Traces.Lists.{get_set_cases}
+use Rattle.ft_world.proofs.Words.{AreHosts, Course, Host, IsOnlyBackup, Machine, Node, Record, Running, ShowsParts, is_backup, with_node}
 
 backup_set : {S : Type 0} (nodes : List (Node S)) (n : ℕ) (x y : Node S) (generation backup : ℕ) →
     slice_get nodes n ≡ Some x → y.generation ≡ x.generation → is_backup y.role ≡ is_backup x.role →
     IsOnlyBackup nodes generation backup → IsOnlyBackup (slice_set nodes n y) generation backup
 backup_set {S} nodes n x y generation backup there g b only k z here is role =
-    elim (set_cases nodes n k y z here) [
+    elim (get_set_cases nodes n k y z here) [
       | inl p ↦ p.0 ∙ only n x there (sym g ∙ ap (λ (u : Node S). u.generation) (sym p.1) ∙ is)
           (sym b ∙ ap (λ (u : Node S). is_backup u.role) (sym p.1) ∙ role)
       | inr q ↦ only k z q is role

@@ -7,6 +7,7 @@ use Rattle.std.proofs.lemmas.Bool.{eqb-false, eqb-true, ltb-false, ltb-true}
 use Rattle.std.proofs.lemmas.List.{append-nil, append_assoc, map-append}
 use Rattle.ft_world.proofs.Words.{IsGreatest, Record, SectorAddress, SectorWrite, accepted-one, accepted_after, address_of, boot_record, latest, record_after, record_of, same_address, terminal, written_at}
 use Rattle.shared_disk.proofs.Greatest.{first_is_greatest, greater_comes, no_greater_comes}
+use Rattle.shared_disk.proofs.Arriving.{brought}
 use Rattle.terminals.specs.Arrivals.{Arrival, IsAccepted}
 use Rattle.terminals.proofs.Accepted.{drops_others, nothing_accepted, takes_next}
 use Rattle.pair_protocol.specs.World as protocol
@@ -49,10 +50,6 @@ pub terminals_accept : {S : Type 0} → TerminalsAcceptTheLongest S
 terminals_accept w port = all_arrivals [] (terminal w port).arrivals nothing_accepted
 
 -- ---- the disk
-
--- what one write brings to a sector, if anything
-abbrev brought : Bool → SectorWrite → List Record
-brought here write = map record_of (cond here (write ∷ []) [])
 
 put : (records : List Record) (r : protocol.SectorRecord) (write : SectorWrite) (less : Bool)
     → nat_lt r.number write.number ≡ less → IsGreatest records (kept_of r)

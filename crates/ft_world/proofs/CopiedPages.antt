@@ -3,10 +3,10 @@ use Rattle.std.proofs.Common.{◌≡◌, ◌∙◌, ◌≢◌, ℕ, Bool, Err, L
 use Rattle.std.specs.Option.{option_and_then}
 use Rattle.std.specs.Prelude.{OnOk, Result, slice_get}
 use Rattle.std.proofs.lemmas.Bool.{cases_eq}
+use Rattle.pair_protocol.proofs.Traces.Lists.{get_set_cases}
 use Rattle.ft_world.proofs.Words.{AreFreshened, HasJoined, Host, JoinsHosts, LowestAreCopied, Machine, Opening, PagesChange, PagesKeep, PagesStay, Station, WithStation, alone_at, alone_board, alone_on, get_set, get_set_other}
 use Rattle.ft_node.specs.Pages.{PagesGoOn, SamePages}
 use Rattle.ft_world.specs.declared.host.Host.TheVariants as host
-use Rattle.ft_world.proofs.AtNodes.{set_cases}
 
 same_pages : {B : Type 0} (stale : B → ℕ → Bool) (o : Option B) → PagesGoOn stale (SamePages stale) o o
 same_pages stale None = tt
@@ -77,7 +77,7 @@ module _ {B H : Type 0} (stale : B → ℕ → Bool) where
       go : (k : ℕ) (there : Option (Host B H)) → slice_get new k ≡ there
           → PagesGoOn stale (SamePages stale) (alone_at old k) (alone_at new k)
       go k None e = none k (ap (option_and_then alone_on) e)
-      go k (Some x) e = elim (set_cases mid at k j.joined x (ap (λ hosts. slice_get hosts k) (sym j.put) ∙ e)) [
+      go k (Some x) e = elim (get_set_cases mid at k j.joined x (ap (λ hosts. slice_get hosts k) (sym j.put) ∙ e)) [
         | inl p ↦ none k (ap (option_and_then alone_on) e ∙ ap alone_on p.1 ∙ not_alone j.joined j.is)
         | inr q ↦
             let same : alone_at new k ≡ alone_at mid k = ap (option_and_then alone_on) (e ∙ sym q) in

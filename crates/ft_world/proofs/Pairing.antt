@@ -8,6 +8,7 @@ use Rattle.guest_lockstep.specs.declared.timed.Timed.{Timed}
 use Rattle.pair_protocol.specs.Reply as protocol
 use Rattle.pair_protocol.proofs.Promises.Faithful.{alone_is_highest}
 use Rattle.pair_protocol.proofs.Promises.Settling.{highest_ge, highest_le}
+use Rattle.pair_protocol.proofs.Traces.Lists.{get_set_cases}
 use Rattle.ft_node.specs.Calls as calls
 use Rattle.ft_world.specs.declared.host.Host.TheVariants as host
 use Rattle.pair_events.specs.declared.event.Event.TheVariants as event
@@ -15,7 +16,6 @@ use Rattle.pair_events.specs.declared.reply.Reply.TheVariants as reply
 use Rattle.ft_world.proofs.Agreeing.{agree-other}
 use Rattle.ft_world.proofs.Applying.{applies, refuses}
 use Rattle.ft_world.proofs.AtHosts.{AtHost, not_spare, with_host}
-use Rattle.ft_world.proofs.AtNodes.{set_cases}
 use Rattle.ft_world.proofs.AtOneNode.{call_done, node_refused, second_of}
 use Rattle.ft_world.proofs.CopiedStations.{alone_role}
 
@@ -81,9 +81,9 @@ newest {S} nodes n at generation x y joins there other z spare next ours no_back
 
     -- a node afterwards is one of the two, or was there before
     below : (k : ℕ) (u : Node S) → slice_get later k ≡ Some u → u.generation ≤ generation
-    below k u here = elim (set_cases (slice_set nodes n y) at k joins u here) [
+    below k u here = elim (get_set_cases (slice_set nodes n y) at k joins u here) [
       | inl p ↦ (let e = ap (λ (v : Node S). v.generation) p.1 in omega (arith, e, theirs))
-      | inr q ↦ elim (set_cases nodes n k y u q) [
+      | inr q ↦ elim (get_set_cases nodes n k y u q) [
         | inl p ↦ (let e = ap (λ (v : Node S). v.generation) p.1 in omega (arith, e, ours))
         | inr r ↦ (let e = highest_ge nodes k u r in omega (arith, e, next))
       ]
@@ -98,9 +98,9 @@ newest {S} nodes n at generation x y joins there other z spare next ours no_back
         omega (arith, e, theirs)
 
     only : IsOnlyBackup later generation at
-    only k u here is role = elim (set_cases (slice_set nodes n y) at k joins u here) [
+    only k u here is role = elim (get_set_cases (slice_set nodes n y) at k joins u here) [
       | inl p ↦ p.0
-      | inr q ↦ elim (set_cases nodes n k y u q) [
+      | inr q ↦ elim (get_set_cases nodes n k y u q) [
         | inl p ↦ absurd (let e = ap (λ (v : Node S). is_backup v.role) p.1 in (cc))
         | inr r ↦ absurd (let e = highest_ge nodes k u r in omega (arith, e, next, is))
       ]

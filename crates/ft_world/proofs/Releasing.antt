@@ -16,6 +16,7 @@ use Rattle.ft_world.proofs.Applying.{applies, needs_memory, refuses}
 use Rattle.ft_world.proofs.AtOneNode.{asks_refused, elsewhere_of, first_stands, node_asked, second_of}
 use Rattle.ft_world.proofs.AtTerminals.{port_missing, port_there, screen_is, terminals_set, with_screens}
 use Rattle.ft_world.proofs.Sending.{says_applies}
+use Rattle.ft_world.proofs.AtInputs.{is_refused}
 
 -- ---- an operation is released
 
@@ -23,12 +24,6 @@ use Rattle.ft_world.proofs.Sending.{says_applies}
 device_is : {S : Type 0} (w : World S) (name : OpId) → length w.terminals ≡ PORTS → no_such w name ≡ no_device name
 device_is w (id.Byte port number) e = ap (λ n. fault_if (nat_le n port) Unknown) e
 device_is w (id.Write number) e = refl
-
--- what a check returns says whether it refuses
-checked : (o : Option Fault) (fault : Fault) → ◌≡◌ {A = Result (Unit {0}) Fault} (Err fault) (answered o) →
-    o ≡ Some fault
-checked None fault e = absurd (cc)
-checked (Some f) fault e = let same : fault ≡ f = (cc) in ap Some (sym same)
 
 passes : (o : Option Fault) (done : Unit {0}) → ◌≡◌ {A = Result (Unit {0}) Fault} (Ok done) (answered o) → o ≡ None
 passes None done e = refl
@@ -46,7 +41,7 @@ pub releases_nowhere : {B H D S : Type 0} (state : B → S) (copied : B → Gues
 releases_nowhere state copied M records old c n name fault h e =
     refuses state copied M records old old c (event.Release n name) fault h refl
     (first_stands (no_such c.world name) (at_node (slice_get c.world.nodes n) (release_refusal (machine_of M c) name))
-    fault (device_is c.world name h.parts.terminals.count ∙ checked (no_device name) fault e)) refl
+    fault (device_is c.world name h.parts.terminals.count ∙ is_refused (no_device name) fault e)) refl
 
 -- the device is there, so what is left is the node's part
 node_left : {B H D S : Type 0} (state : B → S) (copied : B → Guest) (M : Machine S) (records : D → List Record) (old : Running B H D)

@@ -4,10 +4,10 @@ use Rattle.std.proofs.lemmas.List.{length-map, length-set}
 use Rattle.std.specs.List.{insert, remove}
 use Rattle.std.specs.Option.{option_map}
 use Rattle.std.specs.Prelude.{length, map, slice_get, slice_set}
+use Rattle.pair_protocol.proofs.Traces.Lists.{get_set_cases}
 use Rattle.ft_world.proofs.Words.{Event, Fault, HasJoined, HasSpare, Host, JoinsHosts, Machine, Opening, Reply, SpareHostsStay, SparesAfter, SparesLeft, Station, Unknown, WithStation, WrongRole, answered, get_set_other, host_refusal, spare_of}
 use Rattle.pair_events.specs.declared.event.Event.TheVariants as event
 use Rattle.ft_world.specs.declared.host.Host.TheVariants as host
-use Rattle.ft_world.proofs.AtNodes.{set_cases}
 
 -- what is taken out and put back has replaced it
 pub put_in_place : {A : Type 0} (xs : List A) (n : ℕ) (y : A) → n < length xs
@@ -42,10 +42,6 @@ spares_after {B} {H} state M old lent new n at s opening w j =
 pub check_refused : (o : Option Fault) (fault : Fault) → Err fault ≡ answered o → o ≡ Some fault
 check_refused None fault e = absurd (cc)
 check_refused (Some k) fault e = let same : k ≡ fault = (cc) in ap Some same
-
-pub check_passed : (o : Option Fault) (done : Unit {0}) → Ok done ≡ answered o → o ≡ None
-check_passed None done e = refl
-check_passed (Some k) done e = absurd (cc)
 
 -- what the hosts tell: there is no such host, the host has a role, or it is spare
 module _ {B H : Type 0} (there here : Option (Host B H)) where
@@ -125,7 +121,7 @@ module _ {B H : Type 0} where
       still : (n : ℕ) (resources : H)
           → slice_get (slice_set (map (spare_of {B = B} {H = H}) old) at None) n ≡ Some (Some resources)
           → slice_get (map (spare_of {B = B} {H = H}) old) n ≡ Some (Some resources)
-      still n resources e = elim (set_cases (map (spare_of {B = B} {H = H}) old) at n None (Some resources) e) [
+      still n resources e = elim (get_set_cases (map (spare_of {B = B} {H = H}) old) at n None (Some resources) e) [
         | inl p ↦ absurd (let k = p.1 in (cc))
         | inr q ↦ q
       ]

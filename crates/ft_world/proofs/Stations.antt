@@ -9,6 +9,7 @@ use Rattle.log_channel.specs.declared.packet.Packet.{Packet}
 use Rattle.log_channel.specs.declared.packet.Packet.TheVariants.{Log, Ack}
 use Rattle.replayer.specs.declared.replayer.Replayed.{Replayed}
 use Rattle.pair_protocol.specs.Refusals as refusals
+use Rattle.pair_protocol.proofs.Promises.Lists.{won_list}
 use Rattle.ft_node.specs.Calls as calls
 use Rattle.ft_node.specs.declared.node.Node as code
 use Rattle.ft_node.specs.declared.ran.Drained.{Drained}
@@ -162,14 +163,6 @@ stops_on {B} {S} state M C drives h node r x i d = retold r
     (let k = halted_kept x y s in (k, same_count M x y x.role k (ap (λ (z : Node S). z.machine) s))))) d
 
 -- ---- a node asks the arbiter
-
-won_list : {S : Type 0} (x : Node S) (q : Role) → list_of (wins x) (won_role q) ≡ list_of x q
-won_list x Primary = refl
-won_list x Backup = refl
-won_list x Joining = refl
-won_list x Draining = refl
-won_list x Alone = refl
-won_list x Spare = refl
 
 won_count : {S : Type 0} (M : Machine S) (x : Node S) (q : Role) → count_in M (wins x) (won_role q) ≡ count_in M x q
 won_count M x Primary = refl

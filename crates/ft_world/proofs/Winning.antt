@@ -6,7 +6,8 @@ use Rattle.std.specs.Option.{option_map}
 use Rattle.ft_world.proofs.Words.{Alone, AreHosts, AreWinners, Asking, Backup, Course, Draining, Host, IsOnlyBackup, Joining, Machine, Node, Primary, Record, Role, Running, ShowsParts, Spare, Winner, after_asking, bool_cases, is_backup, winner_in, winner_of, wins, with_winner, won_role}
 use Rattle.arbiter_core.proofs.FirstAskers.{first_askers_win}
 use Rattle.pair_protocol.proofs.Keeps.Arbiter.{winner-other, winner-push}
-use Rattle.ft_world.proofs.AtNodes.{highest_set, set_cases}
+use Rattle.pair_protocol.proofs.Traces.Lists.{get_set_cases}
+use Rattle.pair_protocol.proofs.Promises.Growth.{highest_set}
 
 asking_other : (askings : List Asking) (g n k : ℕ) → (k ≡ g → ⊥) →
     winner_of (askings ++ record { generation = g; node = n } ∷ []) k ≡ winner_of askings k
@@ -65,7 +66,7 @@ only_backup : {S : Type 0} (nodes : List (Node S)) (n : ℕ) (x : Node S) (gener
     slice_get nodes n ≡ Some x → IsOnlyBackup nodes generation backup →
     IsOnlyBackup (slice_set nodes n (wins x)) generation backup
 only_backup {S} nodes n x generation backup there only k z here is role =
-    elim (set_cases nodes n k (wins x) z here) [
+    elim (get_set_cases nodes n k (wins x) z here) [
       | inl p ↦ p.0 ∙ only n x there (ap (λ (u : Node S). u.generation) (sym p.1) ∙ is)
           (no_new_backup x.role (ap (λ (u : Node S). is_backup u.role) (sym p.1) ∙ role))
       | inr q ↦ only k z q is role

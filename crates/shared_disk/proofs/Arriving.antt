@@ -16,7 +16,7 @@ use Rattle.shared_disk.proofs.Greatest.{greater_comes, no_greater_comes, first_i
 use Rattle.shared_disk.proofs.RecordsBySector.{is_same, is_other, record_at-with_same, record_at-with_other}
 
 -- what one write brings to a sector
-abbrev brought : Bool → SectorWrite → List Record
+abbrev pub brought : Bool → SectorWrite → List Record
 brought here write = map record_of (cond here (write ∷ []) [])
 
 written_at-append : (arrivals : List SectorWrite) (write : SectorWrite) (a : SectorAddress)

@@ -53,7 +53,7 @@ winner_added (b ∷ ws) a g m h k = go (g == b.generation) h k (λ i j. winner_a
 
 -- ---- a node that wins
 
-highest_set : {S : Type 0} (nodes : List (Node S)) (n : ℕ) (x y : Node S) → slice_get nodes n ≡ Some x →
+pub highest_set : {S : Type 0} (nodes : List (Node S)) (n : ℕ) (x y : Node S) → slice_get nodes n ≡ Some x →
     y.generation ≡ x.generation → highest (slice_set nodes n y) ≡ highest nodes
 highest_set [] n x y h e = refl
 highest_set {S} (z ∷ nodes) zero x y h e =

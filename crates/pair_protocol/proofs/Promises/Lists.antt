@@ -47,7 +47,7 @@ holds_longer x e is = (
       ∙ ap (λ ts. x.copy ++ ts) (sym (inputs_of-append x.held (e ∷ []))) ∙ sym (ap (list_of (holds x e)) is),
 )
 
-won_list : {S : Type 0} (x : Node S) (q : Role) → list_of (wins x) (won_role q) ≡ list_of x q
+pub won_list : {S : Type 0} (x : Node S) (q : Role) → list_of (wins x) (won_role q) ≡ list_of x q
 won_list x Primary = refl
 won_list x Alone = refl
 won_list x Backup = refl

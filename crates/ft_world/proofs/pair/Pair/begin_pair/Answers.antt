@@ -1,12 +1,13 @@
 -- The hosts refuse it, or the node does, or the generation has begun.
 use Rattle.std.proofs.Common.{[], ap, is_ok}
 use Rattle.std.specs.Prelude.{slice_get}
+use Rattle.ft_node.proofs.PassedChecks.{not_refused}
 use Rattle.ft_world.specs.Opening.{host_refusal}
 use Rattle.ft_world.specs.Pairs.{running_of}
 use Rattle.ft_world.proofs.Applying.{hands_on}
 use Rattle.ft_world.proofs.AtHosts.{at_this_host, no_call}
 use Rattle.ft_world.proofs.Pairing.{alone_keys, alone_parts, begins_applies, refused_by_hosts, refused_by_node}
-use Rattle.ft_world.proofs.SpareHosts.{check_passed, check_refused, pairs, spare_still, spares_after}
+use Rattle.ft_world.proofs.SpareHosts.{check_refused, pairs, spare_still, spares_after}
 use Rattle.ft_world.proofs.CopiedPages.{pages_joined, pages_keep}
 use Rattle.ft_world.proofs.pair.Pair.begin_pair.Goals as goal
 
@@ -21,7 +22,7 @@ returns-in_err-check_pair-clause-row g c = λ course h.
 
 pub returns-in_err-station-clause-row : goal.returns-in_err-station-clause-row
 returns-in_err-station-clause-row g c = λ course h.
-    let free = check_passed
+    let free = not_refused
     (host_refusal (slice_get c.args.self.now.hosts.items c.args.host) (slice_get c.args.self.now.hosts.items c.args.node))
     c.in_ok-check_pair.field-0 c.in_ok-check_pair.ensures in
     hands_on c.from_residual-in_err-station.result c.in_err-station.field-0.0 c.from_residual-in_err-station.ensures.1
@@ -33,7 +34,7 @@ returns-in_err-station-clause-row g c = λ course h.
 pub returns-in_err-opening-clause-row : goal.returns-in_err-opening-clause-row
 returns-in_err-opening-clause-row g c = λ course h.
     let old = running_of c.args.self.now in
-    let free = check_passed
+    let free = not_refused
     (host_refusal (slice_get c.args.self.now.hosts.items c.args.host) (slice_get c.args.self.now.hosts.items c.args.node))
     c.in_ok-check_pair.field-0 c.in_ok-check_pair.ensures in
     hands_on c.from_residual-in_err-opening.result c.in_err-opening.field-0.0 c.from_residual-in_err-opening.ensures.1
@@ -50,7 +51,7 @@ returns-in_err-opening-clause-row g c = λ course h.
 pub returns-clause-row : goal.returns-clause-row
 returns-clause-row g c = λ course h.
     let old = running_of c.args.self.now in
-    let free = check_passed
+    let free = not_refused
     (host_refusal (slice_get c.args.self.now.hosts.items c.args.host) (slice_get c.args.self.now.hosts.items c.args.node))
     c.in_ok-check_pair.field-0 c.in_ok-check_pair.ensures in
     let p = pairs (slice_get c.args.self.now.hosts.items c.args.host) (slice_get c.args.self.now.hosts.items c.args.node) free in
@@ -72,7 +73,7 @@ returns-clause-spares g c =
 
 pub join-requires : goal.join-requires
 join-requires g c =
-    let free = check_passed
+    let free = not_refused
     (host_refusal (slice_get c.args.self.now.hosts.items c.args.host) (slice_get c.args.self.now.hosts.items c.args.node))
     c.in_ok-check_pair.field-0 c.in_ok-check_pair.ensures in
     spare_still c.args.self.now.hosts.items (c.station_mut.follows.lender c.begin.new.self).items c.args.node c.args.host
