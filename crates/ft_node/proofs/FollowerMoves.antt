@@ -129,7 +129,7 @@ moved M x s v t k n come there still now left r (replaying.Passes {e = e} held_a
           counted M (at x s k come) y (n + suc turns) (suc n + turns) (n + suc made') (suc n + made') (omega arith)
           (omega arith) (r.before (suc turns) (suc made') y (OneMark e first.0 here bare h));
     }
-moved M x s v t k n come there still now left r (replaying.Takes {e = e} {input = input} held_are here has accepts) =
+moved M x s v t k n come there still now left r (replaying.TakesInput {e = e} {input = input} held_are here has accepts) =
     let first = first_left x.held left e r.now (r.left_are ∙ held_are) in
     record {
       now = suc r.now;
@@ -140,7 +140,7 @@ moved M x s v t k n come there still now left r (replaying.Takes {e = e} {input 
           (omega arith) (r.before (suc turns) (suc made') y (OneInput e input t first.0 here has accepts.taken h));
     }
 moved M x s v t k n come there still now left r
-    (replaying.Reads {count = count} {drive = drive} {sector = sector} {number = number} {bytes = bytes} held_are here
+    (replaying.ReadsSector {count = count} {drive = drive} {sector = sector} {number = number} {bytes = bytes} held_are here
     are accepts) =
     let first = first_left x.held left (entry.Read count drive sector number) r.now (r.left_are ∙ held_are) in
     let next = read_now (M.count v) count drive sector number (slice_get x.held r.now) first.0 here in
@@ -157,7 +157,7 @@ moved M x s v t k n come there still now left r
 reached : {S : Type 0} (M : Machine S) (x : Node S) (s : S) (k : ℕ) (come : Option (List ℕ)) (held : List Entry)
     (n : ℕ) (t : S) (left : List Entry) (still : Option (List ℕ)) → drop k x.held ≡ held → k ≤ length x.held
     → replaying.Replays M s held come n t left still → Reached M x s k come n t left still
-reached M x s k come held n t left still e within replaying.Begin = record {
+reached M x s k come held n t left still e within replaying.NoMoves = record {
   now = k;
   left_are = e;
   within = within;
@@ -196,7 +196,7 @@ ended M x t turns n now left still e within (replaying.NeedsMemory some lt late)
 none_made : {S : Type 0} (M : Machine S) (s : S) (held : List Entry) (come : Option (List ℕ)) (n : ℕ) (t : S)
     (left : List Entry) (still : Option (List ℕ)) → n ≡ 0 → replaying.Replays M s held come n t left still
     → (t ≡ s) × (left ≡ held) × (still ≡ come)
-none_made M s held come n t left still e replaying.Begin = (refl, refl, refl)
+none_made M s held come n t left still e replaying.NoMoves = (refl, refl, refl)
 none_made M s held come n t left still e (replaying.Then before one) = absurd (omega arith)
 
 -- a follower's own read, if its machine and its bytes are these

@@ -5,7 +5,7 @@ use Rattle.std.specs.Prelude.{slice_get, slice_index_or, slice_set}
 use Rattle.std.proofs.lemmas.List.{length-set}
 use Rattle.std.proofs.lemmas.Option.{same_Some}
 use Rattle.clone_state.specs.Assembly as table
-use Rattle.ft_node.proofs.Words.{Again, Backup, Call, Comes, Completes, Copying, Fault, Gathering, GetsPart, GotPart, IsFollower, IsJoining, IsLast, Joining, Malformed, Node, OutOfMemory, PartMessage, Slots, Unless, WrongGeneration, answer_to, fault_if, first_of, gathered, generation_refusal, gets_part, is_missing, is_whole, joins, last_refusal, part_comes_refusal, part_refusal, parts_with, refused_as, reply_of, role_refusal, unfit, with_part, without_part}
+use Rattle.ft_node.proofs.Words.{Again, Backup, Call, Comes, Completes, Copying, Fault, Gathering, GetsPart, GotPart, IsFollower, IsJoining, IsLast, Joining, Malformed, Node, OutOfMemory, PartMessage, Slots, Unless, WrongGeneration, answer_to, fault_if, first_of, gathered, generation_refusal, gets_part, is_missing, is_whole, joins, last_refusal, part_comes_refusal, part_refusal, parts_with, refused_as, part_reply, role_refusal, unfit, with_part, without_part}
 use Rattle.ft_node.specs.Joined.{Joined}
 use Rattle.ft_node.specs.declared.ran.PartCame.{PartCame}
 use Rattle.ft_node.specs.declared.ran.PartCame.TheVariants as reply
@@ -46,7 +46,7 @@ module _ {S : Type 0} (C : Copying S) (drives : ℕ) (j : Joined) (x : Node S) (
         go false own answer =
             let e : fault ≡ WrongGeneration = (cc) in
             subst (λ r. Call {A = PartCame} (first_of (r ∷ last_refusal C m x (slice_index_or x.parts m.index None) ∷ []))
-            (IsLast m) (λ part x y. GotPart C m.index m.payload x (reply_of part) y) x (Err fault) Is)
+            (IsLast m) (λ part x y. GotPart C m.index m.payload x (part_reply part) y) x (Err fault) Is)
             (sym (own_generation m false own)) (ap Err e, stays)
 
     -- what is refused of a part of its generation, by what its slot has
@@ -69,11 +69,11 @@ module _ {S : Type 0} (C : Copying S) (drives : ℕ) (j : Joined) (x : Node S) (
     calls_it : (o : Option PartMessage) (free : Bool) (p : IsPart j.gathering o free) (slot : Option (List ℕ))
         (result : Result PartCame Fault) → slice_index_or j.gathering.slots p.m.index None ≡ slot
         → Call (last_refusal C p.m x slot) (IsLast p.m)
-        (λ part x y. GotPart C p.m.index p.m.payload x (reply_of part) y) x result Is
+        (λ part x y. GotPart C p.m.index p.m.payload x (part_reply part) y) x result Is
         → GetsPart C o x result Is
     calls_it o free p slot result e does =
         subst (λ o. GetsPart C o x result Is) (sym p.read)
-        (subst (λ r. Call r (IsLast p.m) (λ part x y. GotPart C p.m.index p.m.payload x (reply_of part) y) x result Is)
+        (subst (λ r. Call r (IsLast p.m) (λ part x y. GotPart C p.m.index p.m.payload x (part_reply part) y) x result Is)
         (sym (slot_refuses o free p slot e)) does)
 
     pub repeated : (o : Option PartMessage) → Ok false ≡ answer_to j.gathering o → Is x
@@ -115,7 +115,7 @@ module _ {S : Type 0} (C : Copying S) (drives : ℕ) (j : Joined) (x : Node S) (
         let one = with_one o p (within p.m p.read) in
         let none : parts_with p.m x ≡ None = one.1 ∙ none_there _ missing in
         calls_it o true p None (Ok reply.New) (is_free _ p.slot)
-        (subst (λ r. Call r (IsLast p.m) (λ part x y. GotPart C p.m.index p.m.payload x (reply_of part) y) x
+        (subst (λ r. Call r (IsLast p.m) (λ part x y. GotPart C p.m.index p.m.payload x (part_reply part) y) x
         (Ok reply.New) Is) (sym (ap (unfit C) none))
         (record {
           y = gets_part x p.m.index p.m.payload;
@@ -139,7 +139,7 @@ module _ {S : Type 0} (C : Copying S) (drives : ℕ) (j : Joined) (x : Node S) (
         let fits : unfit C (parts_with p.m x) ≡ None =
         ap (unfit C) (one.1 ∙ all) ∙ ap (λ (o : Option S). fault_if (is_none o) Malformed) made in
         calls_it o true p None (Ok reply.Whole) (is_free _ p.slot)
-        (subst (λ r. Call r (IsLast p.m) (λ part x y. GotPart C p.m.index p.m.payload x (reply_of part) y) x
+        (subst (λ r. Call r (IsLast p.m) (λ part x y. GotPart C p.m.index p.m.payload x (part_reply part) y) x
         (Ok reply.Whole) Is) (sym fits)
         (record {
           y = joins (gets_part x p.m.index p.m.payload) s;
@@ -157,14 +157,14 @@ module _ {S : Type 0} (C : Copying S) (drives : ℕ) (j : Joined) (x : Node S) (
         let one = with_one o p (within p.m p.read) in
         calls_it o true p None (Err fault) (is_free _ p.slot)
         (subst (λ r. Call {A = PartCame} r (IsLast p.m)
-        (λ part x y. GotPart C p.m.index p.m.payload x (reply_of part) y) x (Err fault) Is)
+        (λ part x y. GotPart C p.m.index p.m.payload x (part_reply part) y) x (Err fault) Is)
         (sym (ap (unfit C) (one.1 ∙ all)))
         (by p.m (C.assemble parts) (fit parts) fits is_fault (parts, one.1 ∙ all)))
       where
         by : (m : PartMessage) (made : Option S) (b : Bool) → is_some made ≡ b → fault ≡ cond b OutOfMemory Malformed
             → IsLast m x
             → Call {A = PartCame} (fault_if (is_none made) Malformed) (IsLast m)
-            (λ part x y. GotPart C m.index m.payload x (reply_of part) y) x (Err fault) Is
+            (λ part x y. GotPart C m.index m.payload x (part_reply part) y) x (Err fault) Is
         by m None true e f lasts = absurd (cc)
         by m None false e f lasts = (ap Err f, stays)
         by m (Some s) true e f lasts = (f, (lasts, stays))

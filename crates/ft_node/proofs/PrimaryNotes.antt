@@ -12,9 +12,9 @@ use Rattle.event_callbacks.specs.declared.operations.OpId.TheVariants as id
 use Rattle.event_callbacks.specs.declared.operations.Operation.TheVariants as operation
 use Rattle.event_callbacks.proofs.Names.{name_cases}
 use Rattle.log_entry.specs.declared.entry.Entry.TheVariants as entry
-use Rattle.output_rule.specs.Covering.{waits_for as waits_now}
+use Rattle.output_rule.specs.Covering.{last_read_for}
 use Rattle.output_rule.specs.Laws.{AreNotesOf}
-use Rattle.output_rule.specs.Notes.{note_of as note_in, same_name, with_note, without_note, AreApart}
+use Rattle.output_rule.specs.Notes.{note_in, same_name, with_note, without_note, AreApart}
 use Rattle.output_rule.specs.declared.notes.Note.{Note}
 use Rattle.output_rule.specs.declared.notes.TheConstants.{PLACES}
 use Rattle.output_rule.proofs.FewNotes.{few_notes}
@@ -140,7 +140,7 @@ note_from x given = record { name = id_of given; index = length x.log; after = w
 
 -- it waits for as much as the coverage notes
 waits_alike : (c : Covering) (log : List Entry) (given : Operation) → c.last_read ≡ reads_in log
-    → waits_now c (id_of given) ≡ waits_for given log
+    → last_read_for c (id_of given) ≡ waits_for given log
 waits_alike c log (operation.Byte port number byte) last = refl
 waits_alike c log (operation.Write write) last = last
 
@@ -151,7 +151,7 @@ new_noted : {S : Type 0} (M : Machine S) (x : Node S) (c : Covering) (t : S) (gi
     → waits_of (noted_after c (id_of given) (length x.log)).notes name
     ≡ waits_in (note_of (notes_after x.notes x.log (Some given)) name)
 new_noted M x c t given name o comes covers there (inl same) =
-    let after = waits_now c (id_of given) in
+    let after = last_read_for c (id_of given) in
     ap (waits_of (noted_after c (id_of given) (length x.log)).notes) same
     ∙ ap (option_map (λ (n : Note). (n.index, n.after))) (new_note c.notes (id_of given) (length x.log) after)
     ∙ ap (λ n. Some (length x.log, n)) (waits_alike c x.log given covers.last_read)
@@ -159,7 +159,7 @@ new_noted M x c t given name o comes covers there (inl same) =
     (sym (ap (λ n. protocol.same_name n (id_of given)) same ∙ same_name-refl (id_of given)))
 new_noted M x c t given name o comes covers there (inr differs) =
     ap (option_map (λ (n : Note). (n.index, n.after)))
-    (other_notes c.notes (id_of given) name (length x.log) (waits_now c (id_of given)) differs)
+    (other_notes c.notes (id_of given) name (length x.log) (last_read_for c (id_of given)) differs)
     ∙ covers.noted name o (sym (comes.1 name differs) ∙ there)
     ∙ ap (λ b. waits_in (cond b (Some (note_from x given)) (note_of x.notes name)))
     (sym (same_name-alike name (id_of given) differs))
@@ -205,7 +205,7 @@ pub room_for_note : {S : Type 0} (M : Machine S) (t : S) (c : Covering) (name : 
     → AreFew M t → AreOfOutstanding M t (noted_after c name index) → length (after_forget c name).notes < PLACES
 room_for_note M t c name index stands few outstanding =
     let left = without_note c.notes name in
-    let after = waits_now c name in
+    let after = last_read_for c name in
     let apart : AllPairs AreApart left = AllPairs-filter AreApart _ c.notes stands.apart in
     let all_apart = apart-with_note left name index after (note_goes c.notes name).itself apart in
     let notes : AreNotesOf few.names (with_note left name index after) =

@@ -4,7 +4,7 @@ use Rattle.std.specs.Option.{option_map}
 use Rattle.std.proofs.Common.{◌≡◌, ℕ, Bool, true, false, not, Option, Some, None, is_none, [], ◌∷◌, refl, sym, ap, ◌∙◌, arith}
 use Rattle.std.specs.Prelude.{nat_lt, nat_le, ◌&&◌, ◌||◌}
 use Rattle.ft_node.proofs.Words.{Covering, Covers, IsPrimary, Log, Machine, Node, NotCovered, NotDue, Note, OpId, Operation, Primary, Reads, Sending, covers, fault_if, first_of, is_noted_covered, is_role, note_of, release_refusal, waits_in}
-use Rattle.output_rule.specs.Notes.{note_of as note_in}
+use Rattle.output_rule.specs.Notes.{note_in}
 use Rattle.output_rule.specs.declared.notes.Note as notes
 use Rattle.ft_node.proofs.PrimaryRefusals.{primary_serves}
 

@@ -28,7 +28,7 @@ pub use Rattle.pair_protocol.specs.Refusals.{begin_pair_refusal, deliver_acknowl
 unfoldable pub use Rattle.pair_protocol.specs.Refusals.{last_generation}
 pub use Rattle.pair_protocol.specs.Waiting.{reads_in, up_to_read, waits_for}
 pub use Rattle.recorder.specs.Recording.{AdvancesSome, AdvancesUnless, Offers, advance_refusal, logged, refusal_behind}
-pub use Rattle.ft_node.specs.Calls.{BeginsPair, Begun, Call, DeliversAcknowledgement, DeliversLog, Ever, Expects, Freshens, GetsPart, Gives, HasTakenKeys, IsLast, Makes, SendsPart, SpellsPart, Unless, last_refusal, next_after, part_refusal, parts_with, reply_of, unfit}
+pub use Rattle.ft_node.specs.Calls.{BeginsPair, Begun, Call, DeliversAcknowledgement, DeliversLog, Ever, Expects, Freshens, GetsPart, Gives, HasTakenKeys, IsLast, Makes, SendsPart, SpellsPart, Unless, last_refusal, next_after, part_refusal, parts_with, part_reply, unfit}
 pub use Rattle.ft_node.specs.Noting.{HasPlace, noted, with_entry}
 pub use Rattle.ft_node.specs.Roles.{AreOfOutstanding, Covers, HasImage, IsAlone, IsFollower, IsImageOf, IsJoining, IsPrimary, waits_in, waits_of}
 pub use Rattle.ft_node.specs.Seats.{Becomes, IsNode, alone_board, board_of}

@@ -269,10 +269,10 @@ SendsPart C index x result =
     Ask (refusals.send_part_refusal C index x) Ever (λ bytes x. SpellsPart C index x bytes) x result
 
 -- the reply to a part
-abbrev pub reply_of : PartCame → event.Reply
-reply_of came.New = event.New
-reply_of came.Old = event.Old
-reply_of came.Whole = event.Whole
+abbrev pub part_reply : PartCame → event.Reply
+part_reply came.New = event.New
+part_reply came.Old = event.Old
+part_reply came.Whole = event.Whole
 
 -- all parts that arrived, with this one
 abbrev pub parts_with : {S : Type 0} → PartMessage → Node S → Option (List (List ℕ))
@@ -301,4 +301,4 @@ abbrev pub GetsPart : {S : Type 0} → Copying S → Option PartMessage → Node
 GetsPart C None x result Is =
     Unless (refusals.first_of (refusals.role_refusal (Joining ∷ []) x ∷ Some Malformed ∷ [])) result (Is x) ⊥
 GetsPart C (Some m) x result Is =
-    Call (part_refusal C m x) (IsLast m) (λ part x y. GotPart C m.index m.payload x (reply_of part) y) x result Is
+    Call (part_refusal C m x) (IsLast m) (λ part x y. GotPart C m.index m.payload x (part_reply part) y) x result Is

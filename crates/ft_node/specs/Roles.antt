@@ -11,7 +11,7 @@ use Rattle.log_buffer.specs.Log.{Log, log}
 use Rattle.log_channel.specs.Channel.{Receiving, Sending}
 use Rattle.output_rule.specs.Covering.{Covering}
 use Rattle.guest_lockstep.specs.declared.reads.Reads.{Reads}
-use Rattle.output_rule.specs.Notes.{note_of as note_in}
+use Rattle.output_rule.specs.Notes.{note_in}
 use Rattle.output_rule.specs.declared.notes.Note as notes
 use Rattle.pair_protocol.specs.Copying.{Copying}
 use Rattle.pair_protocol.specs.Node.{Node, Note, Role, Primary, Backup, Joining, Draining, Alone, Spare, note_of, keys_covered}

@@ -185,17 +185,17 @@ module _ {B H D S : Type 0} (state : B → S) (copied : B → Guest) (M : Machin
     pub as_row : (r : Result PartCame Fault) (Is : Node S → Type 0)
         → calls.GetsPart c.copying (message_at h.drives bytes) x r Is
         → Call (part_comes_refusal b.generation x) (IsLast said)
-        (λ came x y. GotPart c.copying b.index b.part x (calls.reply_of came) y) x r Is
+        (λ came x y. GotPart c.copying b.index b.part x (calls.part_reply came) y) x r Is
     as_row r Is d =
         subst
-        (λ o. Call o (IsLast said) (λ came x y. GotPart c.copying b.index b.part x (calls.reply_of came) y) x r Is)
+        (λ o. Call o (IsLast said) (λ came x y. GotPart c.copying b.index b.part x (calls.part_reply came) y) x r Is)
         same_refusal
         (subst (λ o. calls.GetsPart c.copying o x r Is) read_again d)
 
   -- a call at the node of a number
   abbrev pub AtIt : ℕ → Result PartCame Fault → List (Host B H) → Type 0
   AtIt n r hosts = AtHost state M c.copying h.drives c.world n (part_comes_refusal b.generation) (IsLast said)
-      (λ came x y. GotPart c.copying b.index b.part x (calls.reply_of came) y) r hosts
+      (λ came x y. GotPart c.copying b.index b.part x (calls.part_reply came) y) r hosts
 
   pub part_refused : (n : ℕ) (fault : Fault) (hosts : List (Host B H)) → AtIt n (Err fault) hosts
       → Applies state copied M records c (event.PartComes m n) (Err fault) (record old { hosts = hosts })
@@ -204,7 +204,7 @@ module _ {B H D S : Type 0} (state : B → S) (copied : B → Guest) (M : Machin
       (λ last. record { generation = b.generation; index = b.index; part = b.part; message = b.message; last = last })
       refl at
 
-  pub part_applies : (n : ℕ) (came : PartCame) (r : Reply) (hosts : List (Host B H)) → reply_of r ≡ calls.reply_of came
+  pub part_applies : (n : ℕ) (came : PartCame) (r : Reply) (hosts : List (Host B H)) → reply_of r ≡ calls.part_reply came
       → AtIt n (Ok came) hosts
       → Applies state copied M records c (event.PartComes m n) (Ok r) (record old { hosts = hosts })
   part_applies n came r hosts same at =

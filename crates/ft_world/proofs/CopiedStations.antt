@@ -102,12 +102,12 @@ module _ {B H S : Type 0} (state : B → S) (M : Machine S) (C : Copying S) (dri
       (unmoved state M C drives h node x is) (λ no. no) d
   gets_on (Some m) r x is d =
       let t : Retells {A = PartCame} {S = S} (calls.part_refusal C m x) (calls.IsLast m) (calls.IsLast m)
-      (λ v x y. GotPart C m.index m.payload x (calls.reply_of v) y) x (IsNode state M C drives node)
+      (λ v x y. GotPart C m.index m.payload x (calls.part_reply v) y) x (IsNode state M C drives node)
       (IsStation state M C drives (record h { node = node })) =
       record {
         stays = unmoved state M C drives h node x is;
         needing = λ last. last;
-        becomes = λ v y free got now. got_station m.index m.payload {r = calls.reply_of v} {x = x} {y = y} got
+        becomes = λ v y free got now. got_station m.index m.payload {r = calls.part_reply v} {x = x} {y = y} got
             (joining_role C m x free) is now;
       } in
       retold r t d

@@ -1,7 +1,7 @@
 //! The events of a generation that begins with a copied machine.
 ghost use Rattle.std.specs.Prelude.{◌≡◌, OnErr, OnOk};
 ghost use Rattle.ft_world.specs.Applies.{Happens, ShowsSome};
-ghost use Rattle.ft_node.specs.Calls.{reply_of as came_as};
+ghost use Rattle.ft_node.specs.Calls.{part_reply};
 ghost use Rattle.ft_world.specs.Pairs.{running_of};
 ghost use Rattle.ft_world.specs.Freshened.{Freshens, PagesKeep, TellsStale};
 ghost use Rattle.ft_world.specs.Words.{reply_of};
@@ -89,7 +89,7 @@ impl<B: Copies<H> + Drop, D: SectorStore, H: Drop> Pair<B, D, H> {
 
 // The reply to a part.
 fn reply_to(part: PartCame) -> Reply
-    ensures { reply_of result ≡ came_as part }
+    ensures { reply_of result ≡ part_reply part }
 {
     match part {
         PartCame::New => Reply::New,

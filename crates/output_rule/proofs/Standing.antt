@@ -8,19 +8,19 @@ use Rattle.std.proofs.lemmas.List.Kept.{AllPairs-filter}
 use Rattle.i8080_words.specs.declared.limits.TheConstants.{GREATEST_NUMBER}
 use Rattle.event_callbacks.specs.declared.operations.OpId.{OpId}
 use Rattle.log_buffer.specs.Log.{Log}
-use Rattle.output_rule.specs.Covering.{Covering, IsCovering, after_note, after_forget, waits_for}
+use Rattle.output_rule.specs.Covering.{Covering, IsCovering, after_note, after_forget, last_read_for}
 use Rattle.output_rule.specs.Keys.{between, with_keys}
-use Rattle.output_rule.specs.Notes.{note_of, same_name, AreApart}
+use Rattle.output_rule.specs.Notes.{note_in, same_name, AreApart}
 use Rattle.output_rule.specs.declared.notes.TheConstants.{PLACES}
 use Rattle.output_rule.specs.declared.notes.Note.{Note}
 use Rattle.output_rule.proofs.KeysBetween.{keys_in_between-few}
 use Rattle.output_rule.proofs.NoteLists.{apart-with_note}
 
 pub IsCovering-note : (c : Covering) (id : OpId) (index : ℕ) → IsCovering c → length c.notes < PLACES
-    → note_of c.notes id ≡ None → IsCovering (after_note c id index)
+    → note_in c.notes id ≡ None → IsCovering (after_note c id index)
 IsCovering-note c id index h room none = record {
-  few = let more = length-append c.notes (record { id = id; index = index; after = waits_for c id } ∷ []) in omega arith;
-  apart = apart-with_note c.notes id index (waits_for c id) none h.apart;
+  few = let more = length-append c.notes (record { id = id; index = index; after = last_read_for c id } ∷ []) in omega arith;
+  apart = apart-with_note c.notes id index (last_read_for c id) none h.apart;
   acknowledged = h.acknowledged;
   ports = h.ports;
   keys = h.keys;

@@ -8,7 +8,7 @@ use Rattle.i8080_words.specs.declared.refusal.Fault.{Fault}
 use Rattle.i8080_words.specs.declared.refusal.Fault.TheVariants.{NotCovered}
 use Rattle.log_buffer.specs.Log.{Log}
 use Rattle.output_rule.specs.Keys.{between, with_keys}
-use Rattle.output_rule.specs.Notes.{after_at, note_of, with_note, without_note, AreApart}
+use Rattle.output_rule.specs.Notes.{after_at, note_in, with_note, without_note, AreApart}
 use Rattle.output_rule.specs.declared.notes.TheConstants.{PLACES}
 use Rattle.output_rule.specs.declared.notes.Note.{Note}
 
@@ -49,16 +49,16 @@ is_noted_covered c None = true
 is_noted_covered c (Some note) = covers c note.index note.after
 
 abbrev pub release_answer : Covering → OpId → Result (Unit {0}) Fault
-release_answer c id = if is_noted_covered c (note_of c.notes id) then Ok tt else Err NotCovered
+release_answer c id = if is_noted_covered c (note_in c.notes id) then Ok tt else Err NotCovered
 
 -- a write waits for the reads before it, a byte for none
-abbrev pub waits_for : Covering → OpId → ℕ
-waits_for c (id.Byte port number) = 0
-waits_for c (id.Write number) = c.last_read
+abbrev pub last_read_for : Covering → OpId → ℕ
+last_read_for c (id.Byte port number) = 0
+last_read_for c (id.Write number) = c.last_read
 
 -- an operation's note is added, and removed
 abbrev pub after_note : Covering → OpId → ℕ → Covering
-after_note c id index = record c { notes = with_note c.notes id index (waits_for c id) }
+after_note c id index = record c { notes = with_note c.notes id index (last_read_for c id) }
 
 abbrev pub after_forget : Covering → OpId → Covering
 after_forget c id = record c { notes = without_note c.notes id }

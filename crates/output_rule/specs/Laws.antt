@@ -6,19 +6,19 @@ use Rattle.log_buffer.specs.Log.{Log}
 use Rattle.log_entry.specs.declared.entry.Entry.{Entry}
 use Rattle.output_rule.specs.Covering.{Covering, is_covered, after_acknowledge, after_all}
 use Rattle.output_rule.specs.Keys.{keys_in}
-use Rattle.output_rule.specs.Notes.{note_of, with_note, without_note}
+use Rattle.output_rule.specs.Notes.{note_in, with_note, without_note}
 use Rattle.output_rule.specs.declared.notes.Note.{Note}
 
 -- a new note is found under its name, and every other name has what it had
 pub record Comes (notes : List Note) (id : OpId) (index after : ℕ) : Type 0 where
-  pub itself : note_of notes id ≡ None
-      → note_of (with_note notes id index after) id ≡ Some (record { id = id; index = index; after = after })
-  pub others : (other : OpId) → other ≢ id → note_of (with_note notes id index after) other ≡ note_of notes other
+  pub itself : note_in notes id ≡ None
+      → note_in (with_note notes id index after) id ≡ Some (record { id = id; index = index; after = after })
+  pub others : (other : OpId) → other ≢ id → note_in (with_note notes id index after) other ≡ note_in notes other
 
 -- a forgotten name has no note, and every other name has what it had
 pub record Goes (notes : List Note) (id : OpId) : Type 0 where
-  pub itself : note_of (without_note notes id) id ≡ None
-  pub others : (other : OpId) → other ≢ id → note_of (without_note notes id) other ≡ note_of notes other
+  pub itself : note_in (without_note notes id) id ≡ None
+  pub others : (other : OpId) → other ≢ id → note_in (without_note notes id) other ≡ note_in notes other
 
 -- each note is of one of these operations
 abbrev pub AreNotesOf : List OpId → List Note → Type 0

@@ -16,9 +16,9 @@ same_name (Write number) (Byte other_port other) = false
 same_name (Write number) (Write other) = number == other
 
 -- an operation's note, if it has one
-abbrev pub note_of : List Note → OpId → Option Note
-note_of [] id = None
-note_of (note ∷ notes) id = if same_name note.id id then Some note else note_of notes id
+abbrev pub note_in : List Note → OpId → Option Note
+note_in [] id = None
+note_in (note ∷ notes) id = if same_name note.id id then Some note else note_in notes id
 
 -- how many entries must be replayed for what is noted at an index
 abbrev pub after_at : List Note → ℕ → ℕ

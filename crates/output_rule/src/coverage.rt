@@ -5,7 +5,7 @@ ghost use Rattle.event_callbacks.specs.Operations.{id_of};
 ghost use Rattle.event_callbacks.specs.declared.devices.TheConstants.{PORTS};
 ghost use Rattle.log_buffer.specs.Log.{next_of};
 ghost use Rattle.output_rule.specs.Covering as table;
-ghost use Rattle.output_rule.specs.Notes.{note_of};
+ghost use Rattle.output_rule.specs.Notes.{note_in};
 
 use crate::keys::with_keys;
 use crate::notes::{self, Note, PLACES};
@@ -59,7 +59,7 @@ impl Coverage {
     /// replayed.
     pub fn note(&mut self, id: OpId, index: u64)
         requires room { length self.old.notes < PLACES }
-        requires new { note_of self.old.notes id ≡ None }
+        requires new { note_in self.old.notes id ≡ None }
         ensures { self.new ≡ table.after_note self.old id index }
     {
         let after = self.waits_for(id);
@@ -121,7 +121,7 @@ impl Coverage {
 
     // How many entries the backup must have replayed for an operation that is given now: a byte waits for none.
     fn waits_for(&self, id: OpId) -> u64
-        ensures { result ≡ table.waits_for self.now id }
+        ensures { result ≡ table.last_read_for self.now id }
     {
         match id {
             OpId::Byte(..) => 0,

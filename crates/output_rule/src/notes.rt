@@ -31,7 +31,7 @@ impl Default for Note {
 
 // The note of this operation, if it has one.
 pub(crate) fn note_of(notes: &[Note], id: OpId) -> Option<Note>
-    ensures { result ≡ table.note_of notes.now id }
+    ensures { result ≡ table.note_in notes.now id }
 {
     for note in notes {
         if is_same_name(note.id, id) {

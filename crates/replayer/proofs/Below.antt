@@ -12,7 +12,7 @@ use Rattle.log_entry.specs.Standing.{owed, IsOnTrace}
 use Rattle.log_entry.specs.declared.entry.Entry.{Entry}
 use Rattle.log_entry.specs.declared.entry.Entry.TheVariants.{Read}
 use Rattle.log_entry.proofs.TraceEntries.{never_falls}
-use Rattle.replayer.specs.Replaying.{Moves, Steps, Passes, Takes, Reads as ReadsSector, Replays, Begin, Then}
+use Rattle.replayer.specs.Replaying.{Moves, Steps, Passes, TakesInput, ReadsSector, Replays, NoMoves, Then}
 
 -- ---- the entries of a run
 
@@ -50,7 +50,7 @@ leads_on M last t u now left come still counts (Passes {e = e} {es = es} now_is 
       rising = subst (λ n. NeverFalls n es) (sym at) y.rising.1;
       last_is = ap (λ n. last_count n es) at ∙ y.last_is;
     }
-leads_on M last t u now left come still counts (Takes {e = e} {es = es} {input = input} now_is at has accepts) x =
+leads_on M last t u now left come still counts (TakesInput {e = e} {es = es} {input = input} now_is at has accepts) x =
     let y : Leads M last t (e ∷ es) = subst (λ h. Leads M last t h) now_is x in
     let count : M.count u ≡ count_of e = counts.by_input t u input accepts.taken ∙ at in
     record {
@@ -71,7 +71,7 @@ leads_on M last t u now left come still counts
 leads : {S : Type 0} (M : Machine S) (s : S) (held : List Entry) (fetched : Option (List ℕ)) (t : S)
     (left : List Entry) (still : Option (List ℕ)) (n last : ℕ) → Counts M
     → Replays M s held fetched n t left still → Leads M last s held → Leads M last t left
-leads M s held fetched t left still n last counts Begin x = x
+leads M s held fetched t left still n last counts NoMoves x = x
 leads M s held fetched t left still n last counts (Then {n = m} {t = v} {now = now} {come = come} before one) x =
     leads_on M last v t now left come still counts one (leads M s held fetched v now come m last counts before x)
 

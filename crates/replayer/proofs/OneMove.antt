@@ -5,7 +5,7 @@ use Rattle.std.proofs.Common.{◌≡◌, ℕ, ◌<◌, ◌≤◌, Bool, true, fa
 use Rattle.std.specs.Prelude.{◌==◌}
 use Rattle.std.proofs.lemmas.Option.{same_Some}
 use Rattle.event_callbacks.specs.declared.operations.Operation.{Operation}
-use Rattle.guest_lockstep.specs.Lockstep.{Takes as TakesInput, step_refusal}
+use Rattle.guest_lockstep.specs.Lockstep.{Takes, step_refusal}
 use Rattle.guest_lockstep.specs.Machine.{Machine}
 use Rattle.guest_lockstep.specs.Recorded.{Counts, Accepts}
 use Rattle.guest_lockstep.specs.declared.input.Input.{Input}
@@ -18,7 +18,7 @@ use Rattle.log_entry.specs.Standing.{owed, IsOnTrace, TakesFetched}
 use Rattle.log_entry.specs.declared.entry.Entry.{Entry}
 use Rattle.log_entry.specs.declared.entry.Entry.TheVariants as entry
 use Rattle.log_channel.proofs.SentEntries.{first_and_rest}
-use Rattle.replayer.specs.Replaying.{Moves, Passes, Takes, Reads, Replays, input_with, read_at, wanted, wanted_of, stop_at}
+use Rattle.replayer.specs.Replaying.{Moves, Passes, TakesInput, ReadsSector, Replays, input_with, read_at, wanted, wanted_of, stop_at}
 use Rattle.replayer.specs.Standing.{StaysOn}
 use Rattle.replayer.proofs.Fronts.{not_behind, NextDoes, next_does, NextTakes, next_takes, next_reads, none_for, input_not_read}
 use Rattle.replayer.proofs.Standing.{stays_on}
@@ -134,14 +134,14 @@ may_take M s held fetched e input on first no_later has = go (gives fetched e in
         record { t = next.t; accepts = subst (λ i. Accepts M s i next.t) (sym takes) next.accepts }
 
 pub no_refusal : {S : Type 0} (M : Machine S) (s t : S) (input : Input) (fault : Fault) → MayTake M s input
-    → TakesInput M s input (Err fault) t → ⊥
+    → Takes M s input (Err fault) t → ⊥
 no_refusal M s t input fault may did = let none = may.accepts.allowed in let some = did.0 in cc
 
 -- after an entry with an input no bytes are kept
 pub takes : {S : Type 0} (M : Machine S) (s t : S) (held left : List Entry) (fetched still : Option (List ℕ))
     (e : Entry)
     (input : Input) → IsOnTrace M s held fetched → slice_get held 0 ≡ Some e → (M.count s < count_of e → ⊥)
-    → input_with fetched e ≡ Some input → TakesInput M s input (Ok tt) t → left ≡ drop 1 held → still ≡ None
+    → input_with fetched e ≡ Some input → Takes M s input (Ok tt) t → left ≡ drop 1 held → still ≡ None
     → Moves M s held fetched t left still
 takes {S} M s t held left fetched still e input on first no_later has did popped none =
     subst (λ still. Moves M s held fetched t left still) (sym none)
@@ -163,9 +163,9 @@ takes {S} M s t held left fetched still e input on first no_later has did popped
         none_for e (drop 1 held) fetched on.moves (input_not_read e input carried)
         (first_takes M s held fetched e on first) in
         subst (λ f. Moves M s held fetched t (drop 1 held) f) no_bytes
-        (Takes (first_and_rest held e first) at carried accepts)
+        (TakesInput (first_and_rest held e first) at carried accepts)
     go (ReadsIt is come sector_is) =
-        Reads (first_and_rest held e first ∙ ap (λ e. e ∷ drop 1 held) is) (at ∙ ap count_of is) come
+        ReadsSector (first_and_rest held e first ∙ ap (λ e. e ∷ drop 1 held) is) (at ∙ ap count_of is) come
         (subst (λ i. Accepts M s i t) sector_is accepts)
 
 -- ---- a mark

@@ -14,7 +14,7 @@ use Rattle.i8080_words.specs.declared.refusal.Fault.{Fault}
 use Rattle.log_entry.specs.Entries.{count_of, last_count, read_of}
 use Rattle.log_entry.specs.Standing.{IsOnTrace}
 use Rattle.log_entry.specs.declared.entry.Entry.{Entry}
-use Rattle.replayer.specs.Replaying.{Replays, Begin, Then, IsBehind, Ends, AllTurns, AtEnd, Waits, NeedsMemory, Answers, AnswersStretch, wanted, wanted_of, stop_at, replay_end}
+use Rattle.replayer.specs.Replaying.{Replays, NoMoves, Then, IsBehind, Ends, AllTurns, AtEnd, Waits, NeedsMemory, Answers, AnswersStretch, wanted, wanted_of, stop_at, replay_end}
 use Rattle.replayer.specs.Standing.{StaysOnEach}
 use Rattle.replayer.specs.declared.replayer.Replayed.{Replayed}
 use Rattle.replayer.proofs.Below.{stays_below}
@@ -24,7 +24,7 @@ use Rattle.replayer.proofs.Standing.{stays_on}
 pub goes_on : {S : Type 0} (M : Machine S) (s t : S) (held now : List Entry) (fetched come : Option (List ℕ)) (n : ℕ)
     (u : S) (left : List Entry) (still : Option (List ℕ)) (k : ℕ) → Replays M s held fetched n t now come
     → Replays M t now come k u left still → Replays M s held fetched (n + k) u left still
-goes_on M s t held now fetched come n u left still k before Begin =
+goes_on M s t held now fetched come n u left still k before NoMoves =
     let e : n ≡ n + 0 = omega arith in subst (λ n. Replays M s held fetched n t now come) e before
 goes_on M s t held now fetched come n u left still k before
     (Then {n = m} {t = v} {now = later} {come = kept} after one) =
@@ -48,13 +48,13 @@ pub replayed : {S : Type 0} (M : Machine S) (s t : S) (held left : List Entry) (
     → (n : ℕ) × Replays M s held fetched n t left still
 replayed M s t held left fetched still turns (Ok r) a = (r.moves, a.replays)
 replayed M s t held left fetched still turns (Err fault) a =
-    (0, nothing_more M s s t held held left fetched fetched still 0 a.3 a.4 a.5 Begin)
+    (0, nothing_more M s s t held held left fetched fetched still 0 a.3 a.4 a.5 NoMoves)
 
 -- nothing was done if no move was made
 pub nothing_done : {S : Type 0} (M : Machine S) (s : S) (held : List Entry) (fetched : Option (List ℕ)) (t : S)
     (left : List Entry) (still : Option (List ℕ)) (n : ℕ) → n ≡ 0 → Replays M s held fetched n t left still
     → (t ≡ s) × (left ≡ held) × (still ≡ fetched)
-nothing_done M s held fetched t left still n e Begin = (refl, refl, refl)
+nothing_done M s held fetched t left still n e NoMoves = (refl, refl, refl)
 nothing_done M s held fetched t left still n e (Then before one) = absurd (omega arith)
 
 -- ---- no entry is held, or the first waits for bytes

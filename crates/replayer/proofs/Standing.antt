@@ -17,7 +17,7 @@ use Rattle.log_entry.specs.Standing.{owed, Stands, TakesFetched}
 use Rattle.log_entry.specs.declared.entry.Entry.{Entry}
 use Rattle.log_entry.specs.declared.entry.Entry.TheVariants.{Read}
 use Rattle.recorder.proofs.Recorded.{entries-append}
-use Rattle.replayer.specs.Replaying.{Moves, Steps, Passes, Takes, Reads as ReadsSector, Replays, Begin, Then}
+use Rattle.replayer.specs.Replaying.{Moves, Steps, Passes, TakesInput, ReadsSector, Replays, NoMoves, Then}
 use Rattle.replayer.specs.Standing.{StaysOn}
 use Rattle.replayer.proofs.Fronts.{NextDoes, next_does, NextTakes, next_takes, next_reads, NextPasses, next_passes, none_for, none_at_step, takes_none, mark_not_read, input_not_read}
 
@@ -177,7 +177,7 @@ further M reads s t u last held now left come still owes moves counts (Passes {e
     (next_passes reads (M.count t) e (es ++ x.stands.later) x.owes_still x.rest
     (behind M reads t last now es e come x.owes_still x.rest x.stands now_is) at has)
 further M reads s t u last held now left come still owes moves counts
-    (Takes {e = e} {es = es} {input = input} now_is at has accepts) x =
+    (TakesInput {e = e} {es = es} {input = input} now_is at has accepts) x =
     after_input M reads s t u last held now es come come owes moves e input counts x now_is
     (none_for e es come x.rest (input_not_read e input has)
     (first_takes now es e come x.rest now_is x.stands.takes))
@@ -198,7 +198,7 @@ pub stays_on : {S : Type 0} (M : Machine S) (reads : Reads) (s : S) (held : List
     (t last : S) (left : List Entry) (still : Option (List ℕ)) (n : ℕ) (owes : Bool) (moves : List Move) → Counts M
     → Replays M s held fetched n t left still → Stands M reads s held fetched owes moves last
     → StaysOn M reads s held owes moves last t left still
-stays_on M reads s held fetched t last left still n owes moves counts Begin stands = record {
+stays_on M reads s held fetched t last left still n owes moves counts NoMoves stands = record {
   made = [];
   rest = moves;
   popped = [];

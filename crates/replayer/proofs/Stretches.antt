@@ -6,7 +6,7 @@ use Rattle.guest_lockstep.proofs.QuietSteps.{none_made, quiet_count}
 use Rattle.guest_lockstep.specs.Lockstep.{step_refusal}
 use Rattle.guest_lockstep.specs.Machine.{Machine}
 use Rattle.guest_lockstep.specs.Recorded.{Counts}
-use Rattle.guest_lockstep.specs.Running.{Quiet, Begin as NoSteps, More, RunsOn, AllTurns, Gives, IsRefused, fault_of}
+use Rattle.guest_lockstep.specs.Running.{Quiet, Begin, More, RunsOn, AllTurns, Gives, IsRefused, fault_of}
 use Rattle.guest_lockstep.specs.declared.running.StopReason.TheVariants.{Refused}
 use Rattle.guest_lockstep.specs.declared.running.Stopped.{Stopped}
 use Rattle.i8080_words.specs.declared.refusal.Fault.{Fault}
@@ -14,7 +14,7 @@ use Rattle.log_entry.specs.Entries.{count_of}
 use Rattle.log_entry.specs.Standing.{IsOnTrace}
 use Rattle.log_entry.specs.declared.entry.Entry.{Entry}
 use Rattle.log_channel.proofs.SentEntries.{first_and_rest}
-use Rattle.replayer.specs.Replaying.{Moves, Steps, Replays, Begin, Then, IsBehind, AnswersStretch}
+use Rattle.replayer.specs.Replaying.{Moves, Steps, Replays, NoMoves, Then, IsBehind, AnswersStretch}
 use Rattle.replayer.proofs.OneMove.{MayStep, may_step}
 
 -- ---- steps up to the first entry
@@ -22,7 +22,7 @@ use Rattle.replayer.proofs.OneMove.{MayStep, may_step}
 replays_quiet : {S : Type 0} (M : Machine S) (s t : S) (held es : List Entry) (fetched : Option (List ℕ)) (e : Entry)
     (n : ℕ) → Counts M → held ≡ e ∷ es → M.count s + n ≤ count_of e → Quiet M s n t
     → Replays M s held fetched n t held fetched
-replays_quiet M s t held es fetched e n counts are within NoSteps = Begin
+replays_quiet M s t held es fetched e n counts are within Begin = NoMoves
 replays_quiet M s t held es fetched e n counts are within (More {n = m} {t = v} quiet allowed made) =
     let count = quiet_count M s v m counts quiet in
     Then (replays_quiet M s v held es fetched e m counts are (omega arith) quiet) (Steps are (omega arith) made)
@@ -84,4 +84,4 @@ still_there M s t held fetched same on = subst (λ t. IsOnTrace M t held fetched
 pub one_move : {S : Type 0} (M : Machine S) (s t : S) (held left : List Entry) (fetched still : Option (List ℕ))
     (turns : ℕ) → 0 < turns → Moves M s held fetched t left still
     → AnswersStretch M s held fetched turns (Ok 1) t left still
-one_move M s t held left fetched still turns some one = (omega arith, omega arith, Then Begin one)
+one_move M s t held left fetched still turns some one = (omega arith, omega arith, Then NoMoves one)

@@ -27,16 +27,16 @@ pub data Moves {S : Type 0} (M : Machine S) (s : S) (held : List Entry) (fetched
       → M.step s ≡ Some (t, gives) → Moves M s held fetched t held fetched
   Passes : {e : Entry} {es : List Entry} → held ≡ e ∷ es → M.count s ≡ count_of e → bare_of e ≡ None
       → Moves M s held fetched s es fetched
-  Takes : {t : S} {e : Entry} {es : List Entry} {input : Input} → held ≡ e ∷ es → M.count s ≡ count_of e
+  TakesInput : {t : S} {e : Entry} {es : List Entry} {input : Input} → held ≡ e ∷ es → M.count s ≡ count_of e
       → input_of e ≡ Some input → Accepts M s input t → Moves M s held fetched t es fetched
-  Reads : {t : S} {count drive sector number : ℕ} {bytes : List ℕ} {es : List Entry}
+  ReadsSector : {t : S} {count drive sector number : ℕ} {bytes : List ℕ} {es : List Entry}
       → held ≡ entry.Read count drive sector number ∷ es → M.count s ≡ count → fetched ≡ Some bytes
       → Accepts M s (Sector drive sector number bytes) t → Moves M s held fetched t es None
 
 -- this many moves
 pub data Replays {S : Type 0} (M : Machine S) (s : S) (held : List Entry) (fetched : Option (List ℕ))
     : ℕ → S → List Entry → Option (List ℕ) → Type 0 where
-  Begin : Replays M s held fetched 0 s held fetched
+  NoMoves : Replays M s held fetched 0 s held fetched
   Then : {n : ℕ} {t u : S} {now left : List Entry} {come still : Option (List ℕ)}
       → Replays M s held fetched n t now come → Moves M t now come u left still
       → Replays M s held fetched (suc n) u left still

@@ -3,13 +3,13 @@ use Rattle.std.proofs.Common.{◌-◌, refl, sym, ap, ◌∙◌, arith}
 use Rattle.std.specs.Option.{unwrap_or}
 use Rattle.guest_lockstep.specs.declared.replay_end.ReplayEnd.TheVariants.{Turns}
 use Rattle.log_channel.specs.Channel.{Receiving}
-use Rattle.replayer.specs.Replaying.{Begin}
+use Rattle.replayer.specs.Replaying.{NoMoves}
 use Rattle.replayer.proofs.Runs.{goes_on, at_stop, refused, stopped, all_turns}
 use Rattle.replayer.proofs.replay.run.Goals as goal
 
 pub loop-moves-init : goal.loop-moves-init
 loop-moves-init g c = record {
-  replays = Begin;
+  replays = NoMoves;
   on_trace = c.requires.on_trace;
   within = omega arith;
   held = refl;
