@@ -8,6 +8,7 @@ use Rattle.ft_node.proofs.Words.{AtEnd, AwaitsBytes, Backup, Entry, Fault, IsBeh
 use Rattle.guest_lockstep.specs.declared.replay_end.ReplayEnd.{ReplayEnd}
 use Rattle.guest_lockstep.specs.declared.replay_end.ReplayEnd.TheVariants.{Turns, End, Wait, Memory}
 use Rattle.log_entry.specs.declared.entry.Entry.TheVariants as entry
+use Rattle.log_entry.specs.Entries.{read_at, wanted_of}
 use Rattle.pair_protocol.specs.Refusals as refusals
 use Rattle.pair_protocol.specs.Effects as effect
 use Rattle.replayer.specs.Replaying as replaying
@@ -66,29 +67,17 @@ none_left xs left now e within = go (length left == 0) (now == length xs) refl r
 
 -- ---- reads
 
-same_read : (count : ℕ) (next : Option Entry) → replaying.read_at count next ≡ effect.read_at count next
-same_read count None = refl
-same_read count (Some e) = refl
-
-same_wanted : (come : Option (List ℕ)) (read : Option (ℕ × ℕ × ℕ))
-    → replaying.wanted_of come read ≡ effect.wanted_of come read
-same_wanted None read = refl
-same_wanted (Some bytes) read = refl
-
 -- the read that a replayer waits for is the one that its node waits for
 pub wanted_is : {S : Type 0} (M : Machine S) (x : Node S) (t : S) (now : ℕ) (left : List Entry)
     (come : Option (List ℕ)) → drop now x.held ≡ left
     → replaying.wanted M t left come ≡ effect.wanted M (at x t now come)
 wanted_is M x t now left come e =
-    same_wanted come (replaying.read_at (M.count t) (slice_get left 0))
-    ∙ ap (effect.wanted_of come)
-    (same_read (M.count t) (slice_get left 0)
-    ∙ ap (effect.read_at (M.count t)) (ap (λ es. slice_get es 0) (sym e) ∙ next_left x.held now))
+    ap (λ next. wanted_of come (read_at (M.count t) next)) (ap (λ es. slice_get es 0) (sym e) ∙ next_left x.held now)
 
 read_now : (now count drive sector number : ℕ) (next : Option Entry) → next ≡ Some (entry.Read count drive sector number)
-    → now ≡ count → effect.read_at now next ≡ Some (drive, sector, number)
+    → now ≡ count → read_at now next ≡ Some (drive, sector, number)
 read_now now count drive sector number next is here =
-    ap (effect.read_at now) is ∙ ap (λ b. cond b (Some (drive, sector, number)) None) (eq-eqb now count here)
+    ap (read_at now) is ∙ ap (λ b. cond b (Some (drive, sector, number)) None) (eq-eqb now count here)
 
 -- ---- moves, before others
 

@@ -14,6 +14,7 @@ use Rattle.log_channel.specs.Channel.{Receiving}
 use Rattle.log_entry.specs.Standing.{IsOnTrace, owed}
 use Rattle.log_entry.specs.declared.entry.Entry.TheVariants as entry
 use Rattle.log_entry.proofs.TraceEntries.{same_first}
+use Rattle.log_entry.specs.Entries.{read_at}
 use Rattle.replayer.specs.Replaying as replayer
 use Rattle.replayer.specs.Replaying.{bytes_refusal}
 use Rattle.replayer.proofs.Fronts.{not_behind}
@@ -94,12 +95,6 @@ next_of : (fetched : Option (List ℕ)) (read : Option (ℕ × ℕ × ℕ)) (r :
     read ≡ Some r
 next_of None read r e = e
 next_of (Some bytes) read r e = absurd (cc)
-
-next_here : (fetched : Option (List ℕ)) (count : ℕ) (next : Option Entry) (r : ℕ × ℕ × ℕ) →
-    replayer.wanted_of fetched (replayer.read_at count next) ≡ Some r → effect.read_at count next ≡ Some r
-next_here None count None r e = e
-next_here None count (Some n) r e = e
-next_here (Some bytes) count next r e = absurd (cc)
 
 module _ {B H D S : Type 0} (state : B → S) (copied : B → Guest) (M : Machine S) (records : D → List Record)
     (old : Running B H D) (c : Course S) (h : Shows state copied M records old c) where
@@ -199,8 +194,8 @@ module _ {B H D S : Type 0} (state : B → S) (copied : B → Guest) (M : Machin
           same_address-is (M.address x.machine next.0 next.1) (read_address read) due.0 in
           let number : next.2 ≡ read.number = eqb-true next.2 read.number due.1 in
           let at = is-at-read (M.count x.machine) next.0 next.1 next.2 (slice_get x.held x.replayed)
-          (ap (effect.read_at (M.count x.machine)) (sym (next_left x.held x.replayed))
-          ∙ next_here x.fetched (M.count x.machine) (slice_get (drop x.replayed x.held) 0) next e) in
+          (ap (read_at (M.count x.machine)) (sym (next_left x.held x.replayed))
+          ∙ next_of x.fetched (read_at (M.count x.machine) (slice_get (drop x.replayed x.held) 0)) next e) in
           let brings : slice_get c.world.messages m
           ≡ Some (sent.SectorRead (N.address x.machine next.0 next.1) next.2 read.bytes) =
           message ∙ ap (λ a. Some (sent.SectorRead a read.number read.bytes)) (sym place)

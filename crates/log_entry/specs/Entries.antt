@@ -1,5 +1,5 @@
 -- The entries of a trace: one for each input and one mark for each operation, each with its count.
-use Rattle.std.specs.Prelude.{ℕ, suc, Bool, true, false, Option, Some, None, List, [], ◌∷◌, ◌++◌}
+use Rattle.std.specs.Prelude.{ℕ, suc, Bool, true, false, Option, Some, None, List, [], ◌∷◌, ◌++◌, ◌==◌, if◌then◌else◌}
 use Rattle.std.specs.Option.{option_map}
 use Rattle.event_callbacks.specs.declared.operations.Operation.{Operation}
 use Rattle.guest_lockstep.specs.Machine.{Move, Do, Take}
@@ -97,3 +97,15 @@ inputs_of (e ∷ es) = timed_in (timed_of e) ++ inputs_of es
 abbrev pub last_count : ℕ → List Entry → ℕ
 last_count count [] = count
 last_count count (e ∷ es) = last_count (count_of e) es
+
+-- ---- reads that are due
+
+-- the drive, the sector and the number of the read that a machine at this count has reached: the next entry, at its count
+abbrev pub read_at : ℕ → Option Entry → Option (ℕ × ℕ × ℕ)
+read_at count None = None
+read_at count (Some e) = if count == count_of e then read_of e else None
+
+-- the read that it waits for, if its bytes have not arrived
+abbrev pub wanted_of : Option (List ℕ) → Option (ℕ × ℕ × ℕ) → Option (ℕ × ℕ × ℕ)
+wanted_of None read = read
+wanted_of (Some bytes) read = None

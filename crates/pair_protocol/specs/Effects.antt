@@ -13,7 +13,8 @@ use Rattle.guest_lockstep.specs.declared.replay_end.ReplayEnd.TheVariants.{Turns
 use Rattle.guest_lockstep.specs.declared.running.StopReason.{StopReason}
 use Rattle.guest_lockstep.specs.declared.running.StopReason.TheVariants as reason
 use Rattle.i8080_words.specs.declared.refusal.Fault.TheVariants.{Spent, Idle, OutOfMemory}
-use Rattle.log_entry.specs.Entries.{count_of, input_of, bare_of, read_of}
+pub use Rattle.log_entry.specs.Entries.{read_at, wanted_of}
+use Rattle.log_entry.specs.Entries.{count_of, input_of, bare_of}
 use Rattle.log_entry.specs.declared.entry.Entry.{Entry}
 use Rattle.pair_protocol.specs.Copying.{Copying}
 use Rattle.pair_protocol.specs.Reply.{Reply, New, Old, Whole}
@@ -52,19 +53,11 @@ pub data Advances {S : Type 0} (M : Machine S) : Node S → ℕ → Node S → �
   Goes : {x y : Node S} {turns made : ℕ} {why : StopReason} (s : S) → M.step x.machine ≡ Some (s, None) →
       Advances M (stepped M x x.role s None) turns y made why → Advances M x (suc turns) y (suc made) why
 
--- the drive, the sector and the number of the read that a node has reached: its next entry, at its machine's count
-abbrev pub read_at : ℕ → Option Entry → Option (ℕ × ℕ × ℕ)
-read_at count None = None
-read_at count (Some e) = if count == count_of e then read_of e else None
-
+-- the read that a node has reached
 abbrev pub next_read : {S : Type 0} → Machine S → Node S → Option (ℕ × ℕ × ℕ)
 next_read M x = read_at (M.count x.machine) (slice_get x.held x.replayed)
 
--- the read that it waits for, if its bytes have not arrived
-abbrev pub wanted_of : Option (List ℕ) → Option (ℕ × ℕ × ℕ) → Option (ℕ × ℕ × ℕ)
-wanted_of None read = read
-wanted_of (Some bytes) read = None
-
+-- the read that it waits for
 abbrev pub wanted : {S : Type 0} → Machine S → Node S → Option (ℕ × ℕ × ℕ)
 wanted M x = wanted_of x.fetched (next_read M x)
 

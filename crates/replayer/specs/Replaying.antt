@@ -11,7 +11,8 @@ use Rattle.guest_lockstep.specs.declared.replay_end.ReplayEnd.{ReplayEnd}
 use Rattle.guest_lockstep.specs.declared.replay_end.ReplayEnd.TheVariants.{Turns, End, Wait, Memory}
 use Rattle.i8080_words.specs.declared.refusal.Fault.{Fault}
 use Rattle.i8080_words.specs.declared.refusal.Fault.TheVariants.{NotDue, StaleRead, OutOfMemory}
-use Rattle.log_entry.specs.Entries.{count_of, input_of, bare_of, read_of}
+pub use Rattle.log_entry.specs.Entries.{read_at, wanted_of}
+use Rattle.log_entry.specs.Entries.{count_of, input_of, bare_of}
 use Rattle.log_entry.specs.declared.entry.Entry.{Entry}
 use Rattle.log_entry.specs.declared.entry.Entry.TheVariants as entry
 use Rattle.replayer.specs.declared.replayer.Replayed.{Replayed}
@@ -50,16 +51,7 @@ pub record IsBehind {S : Type 0} (M : Machine S) (s : S) (held : List Entry) : T
 
 -- ---- reads
 
--- the drive, the sector and the number of the read that is due: the next entry, at the machine's count
-abbrev pub read_at : ℕ → Option Entry → Option (ℕ × ℕ × ℕ)
-read_at count None = None
-read_at count (Some e) = if count == count_of e then read_of e else None
-
--- the read that it waits for, if its bytes have not arrived
-abbrev pub wanted_of : Option (List ℕ) → Option (ℕ × ℕ × ℕ) → Option (ℕ × ℕ × ℕ)
-wanted_of None read = read
-wanted_of (Some bytes) read = None
-
+-- the read that it waits for: that of the first entry that is held, if it is due and its bytes have not arrived
 abbrev pub wanted : {S : Type 0} → Machine S → S → List Entry → Option (List ℕ) → Option (ℕ × ℕ × ℕ)
 wanted M s held fetched = wanted_of fetched (read_at (M.count s) (slice_get held 0))
 
