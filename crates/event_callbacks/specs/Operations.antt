@@ -1,5 +1,5 @@
 -- The outstanding operations: a finite map from names to operations, and for how many more there is room.
-use Rattle.std.specs.Prelude.{◌≡◌, ◌≢◌, ℕ, ◌+◌, ◌-◌, max, nat_lt, Bool, if◌then◌else◌, List, [], ◌∷◌, Option, Some, None, is_some, Result, refl}
+use Rattle.std.specs.Prelude.{◌≡◌, ◌≢◌, ℕ, ◌+◌, ◌-◌, max, nat_lt, Bool, if◌then◌else◌, List, [], ◌∷◌, Option, Some, None, is_some, Result, refl, false, ◌==◌, ◌&&◌}
 use Rattle.std.specs.Option.{ok_or}
 use Rattle.std.specs.declared.cmp.Ordering.{Ordering}
 use Rattle.std.specs.Ordering.{nat_cmp}
@@ -17,6 +17,13 @@ use Rattle.event_callbacks.specs.declared.operations.Operation.TheVariants as op
 abbrev pub id_of : Operation → OpId
 id_of (operation.Byte port number byte) = id.Byte port number
 id_of (operation.Write write) = id.Write write.number
+
+-- whether two names are equal
+abbrev pub same_name : OpId → OpId → Bool
+same_name (id.Byte port number) (id.Byte other_port other) = (port == other_port) && (number == other)
+same_name (id.Byte port number) (id.Write other) = false
+same_name (id.Write number) (id.Byte other_port other) = false
+same_name (id.Write number) (id.Write other) = number == other
 
 -- a name spelled as numbers, the first of which says what is named
 abbrev pub spelling_of : OpId → List ℕ

@@ -2,7 +2,7 @@
 -- has one, and every other is found and noted as before: so the notes are those of the protocol, and only outstanding
 -- operations, of which there are few, have notes.
 use Rattle.std.specs.Option.{option_map}
-use Rattle.std.proofs.Common.{◌≡◌, ◌≢◌, ℕ, zero, suc, ◌<◌, ◌≤◌, ◌⊎◌, inl, inr, ⊎_elim, Bool, true, false, cond, Option, Some, None, List, [], ◌∷◌, ◌++◌, length, take, get_or, length-append, refl, sym, ap, ◌∙◌, arith}
+use Rattle.std.proofs.Common.{◌≡◌, ◌≢◌, ℕ, zero, suc, ◌<◌, ◌≤◌, ◌⊎◌, inl, inr, ⊎_elim, Bool, true, cond, Option, Some, None, List, [], ◌∷◌, ◌++◌, length, take, get_or, length-append, refl, sym, ap, ◌∙◌, arith}
 use Rattle.std.specs.Prelude.{AllPairs}
 use Rattle.std.proofs.lemmas.Bool.{cases_Bool}
 use Rattle.std.proofs.lemmas.List.{take-append-le}
@@ -10,7 +10,7 @@ use Rattle.std.proofs.lemmas.List.Kept.{AllPairs-filter}
 use Rattle.ft_node.proofs.Words.{AreFew, AreOfOutstanding, ComesAndGoes, Covering, Covers, Entry, IsCovering, Machine, Node, OpId, Operation, Timed, after_forget, after_note, id_of, inputs_of, marks, note_of, notes_after, primary_steps, reads_in, waits_for, waits_in, waits_of}
 use Rattle.event_callbacks.specs.declared.operations.OpId.TheVariants as id
 use Rattle.event_callbacks.specs.declared.operations.Operation.TheVariants as operation
-use Rattle.event_callbacks.proofs.Names.{name_cases}
+use Rattle.event_callbacks.proofs.Names.{name_cases, same_name-different, same_name-itself}
 use Rattle.log_entry.specs.declared.entry.Entry.TheVariants as entry
 use Rattle.output_rule.specs.Covering.{last_read_for}
 use Rattle.output_rule.specs.Laws.{AreNotesOf}
@@ -18,26 +18,10 @@ use Rattle.output_rule.specs.Notes.{note_in, same_name, with_note, without_note,
 use Rattle.output_rule.specs.declared.notes.Note.{Note}
 use Rattle.output_rule.specs.declared.notes.TheConstants.{PLACES}
 use Rattle.output_rule.proofs.FewNotes.{few_notes}
-use Rattle.output_rule.proofs.Names.{equal_from_same, same_name-itself}
 use Rattle.output_rule.proofs.NoteLists.{apart-with_note, note_comes, note_goes}
 use Rattle.pair_protocol.specs.Node as protocol
-use Rattle.pair_protocol.proofs.Keeps.PrimaryLog.{same_name-refl}
 use Rattle.guest_lockstep.specs.Reach as reach
 use Rattle.ft_node.proofs.LastReads.{reads_without}
-
--- ---- names
-
--- the protocol's test of two names is the coverage's
-alike : (one other : OpId) → same_name one other ≡ protocol.same_name one other
-alike (id.Byte port number) (id.Byte to other) = refl
-alike (id.Byte port number) (id.Write other) = refl
-alike (id.Write number) (id.Byte to other) = refl
-alike (id.Write number) (id.Write other) = refl
-
-same_name-alike : (one other : OpId) → one ≢ other → protocol.same_name one other ≡ false
-same_name-alike one other differs =
-    ⊎_elim (λ same. absurd (differs (equal_from_same one other (alike one other ∙ same)))) (λ e. e)
-    (cases_Bool (protocol.same_name one other))
 
 -- ---- the notes while only the machine and its log move
 
@@ -156,13 +140,13 @@ new_noted M x c t given name o comes covers there (inl same) =
     ∙ ap (option_map (λ (n : Note). (n.index, n.after))) (new_note c.notes (id_of given) (length x.log) after)
     ∙ ap (λ n. Some (length x.log, n)) (waits_alike c x.log given covers.last_read)
     ∙ ap (λ b. waits_in (cond b (Some (note_from x given)) (note_of x.notes name)))
-    (sym (ap (λ n. protocol.same_name n (id_of given)) same ∙ same_name-refl (id_of given)))
+    (sym (ap (λ n. same_name n (id_of given)) same ∙ same_name-itself (id_of given)))
 new_noted M x c t given name o comes covers there (inr differs) =
     ap (option_map (λ (n : Note). (n.index, n.after)))
     (other_notes c.notes (id_of given) name (length x.log) (last_read_for c (id_of given)) differs)
     ∙ covers.noted name o (sym (comes.1 name differs) ∙ there)
     ∙ ap (λ b. waits_in (cond b (Some (note_from x given)) (note_of x.notes name)))
-    (sym (same_name-alike name (id_of given) differs))
+    (sym (same_name-different name (id_of given) differs))
 
 pub Covers-noted : {S : Type 0} (M : Machine S) (x : Node S) (c : Covering) (t : S) (given : Operation)
     → ComesAndGoes M → M.step x.machine ≡ Some (t, Some given) → Covers M c x → x.covered ≤ length x.log

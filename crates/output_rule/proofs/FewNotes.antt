@@ -7,10 +7,11 @@ use Rattle.std.proofs.lemmas.List.Elements.{All-tail}
 use Rattle.std.proofs.lemmas.Map.Keys.{IsDistinct-cons}
 use Rattle.std.proofs.lemmas.Map.Made.{length-le_from_is_member}
 use Rattle.event_callbacks.specs.declared.operations.OpId.{OpId}
+use Rattle.event_callbacks.proofs.Names.{equal_from_same, same_name-itself}
 use Rattle.output_rule.specs.Laws.{AreNotesOf}
 use Rattle.output_rule.specs.Notes.{same_name, AreApart}
 use Rattle.output_rule.specs.declared.notes.Note.{Note}
-use Rattle.output_rule.proofs.Names.{equal_from_same, same_name-itself, same_name-IsEquivalence}
+use Rattle.output_rule.proofs.Names.{same_name-IsEquivalence}
 
 -- the names of the notes
 abbrev names_of : List Note → List OpId

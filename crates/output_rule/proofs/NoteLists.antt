@@ -5,10 +5,11 @@ use Rattle.std.specs.Prelude.{All, AllPairs}
 use Rattle.std.proofs.lemmas.List.Elements.{All-cons, All-nil}
 use Rattle.std.proofs.lemmas.List.Quantifiers.{all_pairs_push}
 use Rattle.event_callbacks.specs.declared.operations.OpId.{OpId}
+use Rattle.event_callbacks.proofs.Names.{same_name-different, same_name-itself}
 use Rattle.output_rule.specs.Laws.{Comes, Goes}
 use Rattle.output_rule.specs.Notes.{same_name, note_in, with_note, without_note, AreApart}
 use Rattle.output_rule.specs.declared.notes.Note.{Note}
-use Rattle.output_rule.proofs.Names.{same_name-itself, same_name-different, same_name-other}
+use Rattle.output_rule.proofs.Names.{same_name-other}
 
 -- if a name has no note, every note is of another name
 unnoted : (notes : List Note) (id : OpId) → note_in notes id ≡ None → All (λ note. same_name note.id id ≡ false) notes

@@ -1,19 +1,13 @@
 -- The notes of outstanding operations: the index in the log of the mark of each, and what else it waits for.
-use Rattle.std.specs.Prelude.{◌≡◌, ℕ, Bool, false, not, ◌==◌, ◌&&◌, if◌then◌else◌, List, [], ◌∷◌, ◌++◌, filter, Option, Some, None}
+use Rattle.std.specs.Prelude.{◌≡◌, ℕ, false, not, ◌==◌, if◌then◌else◌, List, [], ◌∷◌, ◌++◌, filter, Option, Some, None}
+pub use Rattle.event_callbacks.specs.Operations.{same_name}
 use Rattle.event_callbacks.specs.declared.operations.OpId.{OpId}
-use Rattle.event_callbacks.specs.declared.operations.OpId.TheVariants.{Byte, Write}
+use Rattle.event_callbacks.specs.declared.operations.OpId.TheVariants.{Write}
 use Rattle.output_rule.specs.declared.notes.Note.{Note}
 
 -- what is in a place that holds no note
 abbrev pub blank : Note
 blank = record { id = Write 0; index = 0; after = 0 }
-
--- whether two names are equal
-abbrev pub same_name : OpId → OpId → Bool
-same_name (Byte port number) (Byte other_port other) = (port == other_port) && (number == other)
-same_name (Byte port number) (Write other) = false
-same_name (Write number) (Byte other_port other) = false
-same_name (Write number) (Write other) = number == other
 
 -- an operation's note, if it has one
 abbrev pub note_in : List Note → OpId → Option Note

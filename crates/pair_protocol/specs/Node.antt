@@ -1,5 +1,6 @@
 -- A node of a pair: its role, its machine, and what it keeps of its generation.
-use Rattle.std.specs.Prelude.{ℕ, suc, max, nat_lt, nat_le, Bool, true, false, ◌==◌, ◌&&◌, ◌||◌, if◌then◌else◌, Option, Some, None, List, [], ◌∷◌, ◌++◌, length, take, replicate, slice_set}
+use Rattle.std.specs.Prelude.{ℕ, suc, max, nat_lt, nat_le, Bool, true, false, ◌&&◌, ◌||◌, if◌then◌else◌, Option, Some, None, List, [], ◌∷◌, ◌++◌, length, take, replicate, slice_set}
+pub use Rattle.event_callbacks.specs.Operations.{same_name}
 use Rattle.event_callbacks.specs.Operations.{id_of}
 use Rattle.event_callbacks.specs.declared.operations.OpId.{OpId}
 use Rattle.event_callbacks.specs.declared.operations.OpId.TheVariants as id
@@ -228,13 +229,6 @@ gathered (None ∷ slots) = None
 gathered (Some part ∷ slots) = with_first part (gathered slots)
 
 -- ---- what a node covers
-
--- two names are the same
-abbrev pub same_name : OpId → OpId → Bool
-same_name (id.Byte port number) (id.Byte to other) = port == to && number == other
-same_name (id.Write number) (id.Write other) = number == other
-same_name (id.Byte port number) (id.Write other) = false
-same_name (id.Write number) (id.Byte to other) = false
 
 -- what an operation waits for; nothing if it was already outstanding in the image
 abbrev pub note_of : List Note → OpId → Option Note

@@ -1,9 +1,10 @@
 -- The log and the notes of a primary after one more move.
-use Rattle.std.proofs.Common.{[], ◌++◌, ◌+◌, ◌<◌, ◌∙◌, ◌∷◌, ◌≡◌, ◌≤◌, ◌⊎◌, Bool, List, None, Option, Some, ap, append-nil, append_assoc, arith, cond, eq-eqb, false, inl, inr, length, length-append, refl, subst, suc, sym, true, zero, ℕ}
-use Rattle.std.specs.Prelude.{◌&&◌, ◌==◌, slice_get}
+use Rattle.std.proofs.Common.{[], ◌++◌, ◌+◌, ◌<◌, ◌∙◌, ◌∷◌, ◌≡◌, ◌≤◌, ◌⊎◌, Bool, List, None, Option, Some, ap, append-nil, append_assoc, arith, cond, false, inl, inr, length, length-append, refl, subst, suc, sym, true, zero, ℕ}
+use Rattle.std.specs.Prelude.{slice_get}
 use Rattle.guest_lockstep.proofs.Moves.{inputs-do, inputs-take}
-use Rattle.pair_protocol.proofs.Words.{Among, Byte, Do, Entry, Input, IsPrefix, Mark, Move, Note, OpId, Operation, SectorWrite, Take, Write, cut, entries, id_of, inputs, is_read, marks, note_of, notes_after, operations, same_name, steps, timed, Reads}
+use Rattle.pair_protocol.proofs.Words.{Among, Byte, Do, Entry, Input, IsPrefix, Mark, Move, Note, Operation, SectorWrite, Take, Write, cut, entries, id_of, inputs, is_read, marks, note_of, notes_after, operations, same_name, steps, timed, Reads}
 use Rattle.event_callbacks.specs.declared.operations.OpId.TheVariants as id
+use Rattle.event_callbacks.proofs.Names.{same_name-itself}
 use Rattle.pair_protocol.specs.Waiting.{reads_in, up_to_read, waits_for}
 use Rattle.pair_protocol.proofs.Invariant.{AreNoted, IsNoted}
 use Rattle.pair_protocol.proofs.Traces.Cuts.{among-cut, cut-both}
@@ -34,10 +35,6 @@ steps-do base own o k h = let s = steps-append own (Do o ∷ []) in omega arith
 pub steps-take : (base own : List Move) (i : Input) (k : ℕ) → k ≡ steps base + steps own →
     k ≡ steps base + steps (own ++ Take i ∷ [])
 steps-take base own i k h = let s = steps-append own (Take i ∷ []) in omega arith
-
-pub same_name-refl : (x : OpId) → same_name x x ≡ true
-same_name-refl (id.Byte p k) = ap (λ c. c && (k == k)) (eq-eqb p p refl) ∙ eq-eqb k k refl
-same_name-refl (id.Write k) = eq-eqb k k refl
 
 -- the log and the notes after an instruction
 pub log-do : (reads : Reads) (c k : ℕ) (own : List Move) (log : List Entry) (o : Option Operation) → log ≡ entries reads c own →
@@ -153,6 +150,6 @@ notes-do reads c own log notes (Some o) h k y m = go (bool_cases (same_name (id_
           })
           | inr (inl l) ↦ (let t : same_name (id_of y) (id_of o) ≡ true = ap (λ z. same_name (id_of y) (id_of z))
               (sym l)
-              ∙ same_name-refl (id_of y) in (cc))
+              ∙ same_name-itself (id_of y) in (cc))
           | inr (inr l) ↦ absurd l
         ]
