@@ -3,7 +3,7 @@ use Rattle.std.proofs.Common.{◌≡◌, ℕ, ◌+◌, ◌<◌, List, [], ◌∷
 use Rattle.std.specs.Prelude.{OnOk, take}
 use Rattle.std.specs.Io.KnownBytes.{Keeps}
 use Rattle.std.proofs.lemmas.List.{take_more}
-use Rattle.ft_node.specs.Roles.{count_of}
+use Rattle.ft_node.specs.Roles.{node_count}
 use Rattle.ft_world.specs.Applies.{Happens, Shows}
 use Rattle.ft_world.specs.Running.{Running}
 use Rattle.ft_world.specs.Shows.{IsStatusAt}
@@ -32,7 +32,7 @@ use Rattle.script_language.specs.declared.line.Query.TheVariants as query
 -- ---- what a query finds does not depend on where the machine boots
 
 module _ {S : Type 0} (M : Machine S) (c : Course S) where
-  count_same : (x : Node S) (r : Role) → count_of M x r ≡ count_of (machine_of M c) x r
+  count_same : (x : Node S) (r : Role) → node_count M x r ≡ node_count (machine_of M c) x r
   count_same x Primary = refl
   count_same x Backup = refl
   count_same x Joining = refl

@@ -10,7 +10,7 @@ use Rattle.pair_protocol.specs.Lawful.{top}
 use Rattle.ft_node.specs.Due as due
 use Rattle.ft_node.specs.Due.{refused_by}
 use Rattle.ft_node.specs.declared.node.Node as code
-use Rattle.ft_node.specs.declared.node.Node.TheVariants as seat
+use Rattle.ft_node.specs.declared.node.Node.TheVariants as node
 use Rattle.ft_node.proofs.PrimaryRefusals.{primary_serves}
 
 -- ---- lists of refusals
@@ -81,18 +81,18 @@ module _ {B S : Type 0} {H : Type 0} (state : B → S) (M : Machine S) (C : Copy
   pub takes_input : (node : code.Node B H) (x : Node S) (b : B) (room : Result (Unit {0}) Fault) → IsNode state M C drives node x
       → board_of node ≡ Some b
       → (serves x ≡ None → first_of (log_full x ∷ log_spent x ∷ []) ≡ refused_by room) → TakesInput (state b) room x
-  takes_input (seat.Primary p) x b room is has log =
+  takes_input (node.Primary p) x b room is has log =
       let acts = primary_serves x is.role is.up in
       let same : p.recorder.board ≡ b = cc in
       record { acts = acts; machine = is.machine ∙ ap state same; log = log acts }
-  takes_input (seat.Alone a) x b room is has log =
+  takes_input (node.Alone a) x b room is has log =
       let acts : serves x ≡ None = rw (is.role, is.up) refl in
       let same : a.board ≡ b = cc in
       record { acts = acts; machine = is.machine ∙ ap state same; log = log acts }
-  takes_input (seat.Backup r) x b room is has log = absurd cc
-  takes_input (seat.Joining j) x b room is has log = absurd cc
-  takes_input (seat.Draining d) x b room is has log = absurd cc
-  takes_input (seat.Halted h) x b room is has log = absurd cc
+  takes_input (node.Backup r) x b room is has log = absurd cc
+  takes_input (node.Joining j) x b room is has log = absurd cc
+  takes_input (node.Draining d) x b room is has log = absurd cc
+  takes_input (node.Halted h) x b room is has log = absurd cc
 
 -- what an alone node takes
 pub alone_accepts : {S : Type 0} (M : Machine S) (reads : Reads) (i : Input) (x : Node S) (s t : S) (generation : ℕ)

@@ -10,7 +10,7 @@ use Rattle.guest_parts.specs.Guest.{Guest}
 use Rattle.log_entry.specs.Numbers.{◌>>=◌}
 use Rattle.ft_node.specs.Joined.{Joined}
 use Rattle.ft_node.specs.declared.node.Node as code
-use Rattle.ft_node.specs.declared.node.Node.TheVariants as seat
+use Rattle.ft_node.specs.declared.node.Node.TheVariants as node
 use Rattle.ft_node.specs.declared.ran.PartCame.{PartCame}
 use Rattle.ft_node.specs.declared.ran.PartCame.TheVariants as reply
 use Rattle.ft_node.proofs.Gatherings as gatherings
@@ -58,7 +58,7 @@ module _ (drives : ℕ) (j : Joined) (of_drives : j.gathering.drives ≡ drives)
 -- a refused part leaves a node as it was
 pub refused_stays : {B H : Type 0} (j k : Joined) (bytes : List ℕ) (fault : Fault)
     → k ≡ record j { gathering = after_part j.gathering bytes } → Err fault ≡ part_answer j.gathering bytes
-    → ◌≡◌ {A = code.Node B H} (seat.Joining k) (seat.Joining j)
+    → ◌≡◌ {A = code.Node B H} (node.Joining k) (node.Joining j)
 refused_stays j k bytes fault same refused =
     let drives = j.gathering.drives in
     let answer = answered drives j refl bytes (Err fault) refused in
@@ -66,23 +66,23 @@ refused_stays j k bytes fault same refused =
     same
     ∙ ap (λ (g : Gathering). record j { gathering = g })
     (left drives j refl bytes ∙ gatherings.refused_stays j.gathering (message_at drives bytes) fault answer) in
-    ap (λ (j : Joined). seat.Joining j) stays
+    ap (λ (j : Joined). node.Joining j) stays
 
 -- and so does one that is taken back
 pub unchanged : {B H : Type 0} (copied : B → Guest) (j k : Joined) (bytes : List ℕ)
     → k ≡ record j { gathering = after_part j.gathering bytes } → Ok true ≡ part_answer j.gathering bytes
-    → (r : Result PartCame Fault) (n : code.Node B H) → Becomes copied bytes k r n → OnErr r (n ≡ seat.Joining j)
+    → (r : Result PartCame Fault) (n : code.Node B H) → Becomes copied bytes k r n → OnErr r (n ≡ node.Joining j)
 unchanged copied j k bytes same new (Ok part) n becomes = tt
-unchanged copied j k bytes same new (Err fault) (seat.Joining l) becomes =
+unchanged copied j k bytes same new (Err fault) (node.Joining l) becomes =
     let back : l ≡ j =
     becomes.0 ∙ ap (λ (k : Joined). record k { gathering = after_forgetting k.gathering bytes }) same
     ∙ ap (λ (g : Gathering). record j { gathering = g }) (taken_back j.gathering.drives j refl bytes new) in
-    ap (λ (l : Joined). seat.Joining l) back
-unchanged copied j k bytes same new (Err fault) (seat.Primary p) becomes = absurd becomes
-unchanged copied j k bytes same new (Err fault) (seat.Backup b) becomes = absurd becomes
-unchanged copied j k bytes same new (Err fault) (seat.Draining d) becomes = absurd becomes
-unchanged copied j k bytes same new (Err fault) (seat.Alone a) becomes = absurd becomes
-unchanged copied j k bytes same new (Err fault) (seat.Halted h) becomes = absurd becomes
+    ap (λ (l : Joined). node.Joining l) back
+unchanged copied j k bytes same new (Err fault) (node.Primary p) becomes = absurd becomes
+unchanged copied j k bytes same new (Err fault) (node.Backup b) becomes = absurd becomes
+unchanged copied j k bytes same new (Err fault) (node.Draining d) becomes = absurd becomes
+unchanged copied j k bytes same new (Err fault) (node.Alone a) becomes = absurd becomes
+unchanged copied j k bytes same new (Err fault) (node.Halted h) becomes = absurd becomes
 
 -- ---- the node of the protocol
 
@@ -188,7 +188,7 @@ module _ {B S : Type 0} (state : B → S) (copied : B → Guest) (C : Copying S)
     pub comes_last : (k : Joined) → k ≡ record j { gathering = more } → is_whole k.gathering ≡ true
         → (r : Result PartCame Fault) (n : code.Node B H) → Becomes copied bytes k r n
         → GetsPart C (message_at drives bytes) x r (IsNode state M C drives n)
-    comes_last k same full (Ok part) (seat.Backup b) becomes =
+    comes_last k same full (Ok part) (node.Backup b) becomes =
         let made = subst (λ (k : Joined). machine_in k.gathering ≡ Some (copied b.replayer.board)) same becomes.1 in
         let receives =
         subst (λ (k : Joined). b.receiver ≡ nothing_held k.gathering.generation) same becomes.2 in
@@ -196,7 +196,7 @@ module _ {B S : Type 0} (state : B → S) (copied : B → Guest) (C : Copying S)
         subst (λ part. GetsPart C (message_at drives bytes) x (Ok part)
         (IsFollower Backup b.reads (state b.replayer.board) b.replayer.fetched b.receiver))
         (sym becomes.0) (is_made b.replayer.board b.receiver b.replayer.fetched b.reads becomes.3 reads made receives)
-    comes_last k same full (Err fault) (seat.Joining l) becomes =
+    comes_last k same full (Err fault) (node.Joining l) becomes =
         let back : l ≡ j =
         becomes.0 ∙ ap (λ (k : Joined). record k { gathering = after_forgetting k.gathering bytes }) same
         ∙ ap (λ (g : Gathering). record j { gathering = g }) (taken_back drives j is.drives_are bytes new) in
@@ -204,21 +204,21 @@ module _ {B S : Type 0} (state : B → S) (copied : B → Guest) (C : Copying S)
         (subst (λ (k : Joined). fault ≡ refused_as (λ payloads. is_some (guest_in k.gathering.drives payloads))
         (table.gathered k.gathering.slots)) same becomes.1)
         (subst (λ (l : Joined). IsJoining C drives l x) (sym back) is)
-    comes_last k same full (Ok part) (seat.Primary p) becomes = absurd becomes
-    comes_last k same full (Ok part) (seat.Joining l) becomes = absurd becomes
-    comes_last k same full (Ok part) (seat.Draining d) becomes = absurd becomes
-    comes_last k same full (Ok part) (seat.Alone a) becomes = absurd becomes
-    comes_last k same full (Ok part) (seat.Halted h) becomes = absurd becomes
-    comes_last k same full (Err fault) (seat.Primary p) becomes = absurd becomes
-    comes_last k same full (Err fault) (seat.Backup b) becomes = absurd becomes
-    comes_last k same full (Err fault) (seat.Draining d) becomes = absurd becomes
-    comes_last k same full (Err fault) (seat.Alone a) becomes = absurd becomes
-    comes_last k same full (Err fault) (seat.Halted h) becomes = absurd becomes
+    comes_last k same full (Ok part) (node.Primary p) becomes = absurd becomes
+    comes_last k same full (Ok part) (node.Joining l) becomes = absurd becomes
+    comes_last k same full (Ok part) (node.Draining d) becomes = absurd becomes
+    comes_last k same full (Ok part) (node.Alone a) becomes = absurd becomes
+    comes_last k same full (Ok part) (node.Halted h) becomes = absurd becomes
+    comes_last k same full (Err fault) (node.Primary p) becomes = absurd becomes
+    comes_last k same full (Err fault) (node.Backup b) becomes = absurd becomes
+    comes_last k same full (Err fault) (node.Draining d) becomes = absurd becomes
+    comes_last k same full (Err fault) (node.Alone a) becomes = absurd becomes
+    comes_last k same full (Err fault) (node.Halted h) becomes = absurd becomes
 
 -- ---- it is not alone
 
 pub becomes_none : {B H : Type 0} (copied : B → Guest) (bytes : List ℕ) (j : Joined) (r : Result PartCame Fault)
     (node : code.Node B H) → Becomes copied bytes j r node → alone_board node ≡ None
-becomes_none copied bytes j (Ok part) (seat.Backup b) is = refl
-becomes_none copied bytes j (Err fault) (seat.Joining k) is = refl
+becomes_none copied bytes j (Ok part) (node.Backup b) is = refl
+becomes_none copied bytes j (Err fault) (node.Joining k) is = refl
 becomes_none copied bytes j r node is = absurd is

@@ -31,4 +31,4 @@ pub use Rattle.recorder.specs.Recording.{AdvancesSome, AdvancesUnless, Offers, a
 pub use Rattle.ft_node.specs.Calls.{BeginsPair, Begun, Call, DeliversAcknowledgement, DeliversLog, Ever, Expects, Freshens, GetsPart, Gives, HasTakenKeys, IsLast, Makes, SendsPart, SpellsPart, Unless, last_refusal, next_after, part_refusal, parts_with, part_reply, unfit}
 pub use Rattle.ft_node.specs.Noting.{HasPlace, noted, with_entry}
 pub use Rattle.ft_node.specs.Roles.{AreOfOutstanding, Covers, HasImage, IsAlone, IsFollower, IsImageOf, IsJoining, IsPrimary, waits_in, waits_of}
-pub use Rattle.ft_node.specs.Seats.{Becomes, IsNode, alone_board, board_of}
+pub use Rattle.ft_node.specs.AnyNode.{Becomes, IsNode, alone_board, board_of}

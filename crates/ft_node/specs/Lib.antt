@@ -2,7 +2,7 @@ pub mod Kept
 pub mod Joined
 pub mod Roles
 pub mod Pages
-pub mod Seats
+pub mod AnyNode
 pub mod Due
 pub mod Guests
 pub mod Calls

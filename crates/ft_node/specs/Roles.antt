@@ -109,16 +109,16 @@ pub record IsJoining {S : Type 0} (C : Copying S) (drives : ℕ) (j : Joined) (x
   pub none_come : x.fetched ≡ None
 
 -- how many steps a node's machine has made; of a joining node, the machine that is copied
-abbrev pub count_of : {S : Type 0} → Machine S → Node S → Role → ℕ
-count_of M x Primary = M.count x.machine
-count_of M x Backup = M.count x.machine
-count_of M x Joining = x.start
-count_of M x Draining = M.count x.machine
-count_of M x Alone = M.count x.machine
-count_of M x Spare = M.count x.machine
+abbrev pub node_count : {S : Type 0} → Machine S → Node S → Role → ℕ
+node_count M x Primary = M.count x.machine
+node_count M x Backup = M.count x.machine
+node_count M x Joining = x.start
+node_count M x Draining = M.count x.machine
+node_count M x Alone = M.count x.machine
+node_count M x Spare = M.count x.machine
 
 -- a node that halted at this count, in whatever role
 pub record IsHalted {S : Type 0} (M : Machine S) (generation count : ℕ) (x : Node S) : Type 0 where
   pub down : x.running ≡ false
   pub generation_is : x.generation ≡ generation
-  pub count_is : count_of M x x.role ≡ count
+  pub count_is : node_count M x x.role ≡ count

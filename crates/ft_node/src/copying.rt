@@ -15,8 +15,8 @@ ghost use Rattle.ft_node.specs.Calls as calls;
 ghost use Rattle.ft_node.specs.Calls.{next_after};
 ghost use Rattle.ft_node.specs.Kept.{image_of};
 ghost use Rattle.ft_node.specs.Roles.{IsAlone, IsJoining};
-ghost use Rattle.ft_node.specs.Seats.{AreFreshened, IsNode, NoneCopied, PagesStay, alone_board};
-ghost use Rattle.ft_node.specs.declared.node.Node.TheVariants as seat;
+ghost use Rattle.ft_node.specs.AnyNode.{AreFreshened, IsNode, NoneCopied, PagesStay, alone_board};
+ghost use Rattle.ft_node.specs.declared.node.Node.TheVariants as node;
 
 use crate::alone::Alone;
 use crate::joining::Joining;
@@ -166,7 +166,7 @@ fn begun<B: Copies<H> + Drop, H: Drop>(alloc: Global, mut alone: Alone<B>) -> (R
         → calls.HasTakenKeys B.machine x → IsAlone alone.reads (B.state alone.board) alone.generation x
         → calls.BeginsPair B.machine x result.0 (IsNode B.state B.machine C drives result.1) }
     ensures pages { OnOk result.0 (alone_board result.1 ≡ None) }
-    ensures unchanged { OnErr result.0 (result.1 ≡ seat.Alone alone) }
+    ensures unchanged { OnErr result.0 (result.1 ≡ node.Alone alone) }
 {
     if alone.generation == u32::MAX {
         return (Err(Fault::Spent), Node::Alone(alone));
@@ -216,7 +216,7 @@ fn with_part<B: Copies<H> + Drop, H: Drop>(
         → IsJoining C drives joining x
         → calls.GetsPart C (message_at drives bytes.now) x result.0 (IsNode B.state B.machine C drives result.1) }
     ensures pages { alone_board result.1 ≡ None }
-    ensures unchanged { OnErr result.0 (result.1 ≡ seat.Joining joining) }
+    ensures unchanged { OnErr result.0 (result.1 ≡ node.Joining joining) }
 {
     clone_state::parts_are_read_again();
     match joining.gather(bytes) {

@@ -4,7 +4,7 @@ ghost use Rattle.pair_protocol.specs.Copying.{Copying};
 ghost use Rattle.pair_protocol.specs.Node as protocol;
 ghost use Rattle.replayer.specs.Replaying.{place_of};
 ghost use Rattle.ft_node.specs.Calls as calls;
-ghost use Rattle.ft_node.specs.Seats.{IsNode, MayFetch, PagesStay};
+ghost use Rattle.ft_node.specs.AnyNode.{IsNode, MayFetch, PagesStay};
 
 use crate::node::Node;
 use clone_state::Copies;

@@ -2,7 +2,7 @@
 ghost use Rattle.std.specs.Prelude.{◌≡◌, ◌<◌};
 ghost use Rattle.clone_state.specs.Assembly.{after_part, is_whole, part_answer};
 ghost use Rattle.ft_node.specs.Joined.{Joined};
-ghost use Rattle.ft_node.specs.Seats.{Becomes};
+ghost use Rattle.ft_node.specs.AnyNode.{Becomes};
 
 use crate::backup::Backup;
 use crate::node::Node;

@@ -9,9 +9,9 @@ ghost use Rattle.pair_protocol.specs.Node as protocol;
 ghost use Rattle.pair_protocol.specs.Node.{halts};
 ghost use Rattle.ft_node.specs.Calls as calls;
 ghost use Rattle.ft_node.specs.Guests.{shown_machine};
-ghost use Rattle.ft_node.specs.Roles.{IsHalted, count_of};
+ghost use Rattle.ft_node.specs.Roles.{IsHalted, node_count};
 ghost use Rattle.ft_node.specs.Pages.{PagesGoOn, StepsWrite};
-ghost use Rattle.ft_node.specs.Seats.{IsNode, IsRole, MayRun, PagesStay, alone_board, board_of};
+ghost use Rattle.ft_node.specs.AnyNode.{IsNode, IsRole, MayRun, PagesStay, alone_board, board_of};
 
 use crate::alone::Alone;
 use crate::backup::Backup;
@@ -136,7 +136,7 @@ impl<B: Copies<H> + Drop, H: Drop> Node<B, H> {
     /// machine that is copied had made.
     pub fn count(&self) -> u64
         ensures { (C : Copying B.State) (drives : ℕ) (x : protocol.Node B.State) → IsNode B.state B.machine C drives self.now x
-            → count_of B.machine x x.role ≡ result }
+            → node_count B.machine x x.role ≡ result }
     {
         match self {
             Node::Primary(primary) => primary.recorder.board().count(),

@@ -5,7 +5,7 @@ ghost use Rattle.log_channel.specs.Packet.{packet_at};
 ghost use Rattle.pair_protocol.specs.Copying.{Copying};
 ghost use Rattle.pair_protocol.specs.Node as protocol;
 ghost use Rattle.ft_node.specs.Calls as calls;
-ghost use Rattle.ft_node.specs.Seats.{IsNode, MayHold, MayReplay, PagesStay};
+ghost use Rattle.ft_node.specs.AnyNode.{IsNode, MayHold, MayReplay, PagesStay};
 
 use crate::node::Node;
 use clone_state::Copies;

@@ -7,7 +7,7 @@ ghost use Rattle.pair_protocol.specs.Node as protocol;
 ghost use Rattle.pair_protocol.specs.Node.{goes_live, wins};
 ghost use Rattle.ft_node.specs.Calls as calls;
 ghost use Rattle.ft_node.specs.Roles.{IsFollower};
-ghost use Rattle.ft_node.specs.Seats.{IsNode, MayReplay, PagesStay, alone_board};
+ghost use Rattle.ft_node.specs.AnyNode.{IsNode, MayReplay, PagesStay, alone_board};
 
 use crate::alone::Alone;
 use crate::node::Node;

@@ -11,7 +11,7 @@ ghost use Rattle.pair_protocol.specs.Node as protocol;
 ghost use Rattle.pair_protocol.specs.Refusals as refusals;
 ghost use Rattle.ft_node.specs.Calls as calls;
 ghost use Rattle.ft_node.specs.Due.{refused_by};
-ghost use Rattle.ft_node.specs.Seats.{IsNode, MayAccept, PagesStay, room_of};
+ghost use Rattle.ft_node.specs.AnyNode.{IsNode, MayAccept, PagesStay, room_of};
 
 use crate::due;
 use crate::node::Node;

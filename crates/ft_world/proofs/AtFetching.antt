@@ -21,7 +21,7 @@ use Rattle.replayer.proofs.Fronts.{not_behind}
 use Rattle.pair_protocol.specs.Effects as effect
 use Rattle.pair_protocol.specs.World as sent
 use Rattle.ft_node.specs.declared.node.Node as code
-use Rattle.ft_node.specs.declared.node.Node.TheVariants as seat
+use Rattle.ft_node.specs.declared.node.Node.TheVariants as node
 use Rattle.ft_node.proofs.FollowerMoves.{next_left}
 use Rattle.pair_events.specs.declared.event.Event.TheVariants as event
 use Rattle.pair_events.specs.declared.reply.Reply.TheVariants as reply
@@ -223,15 +223,15 @@ module _ {B H D S : Type 0} (state : B → S) (copied : B → Guest) (M : Machin
       IsNode state M c.copying h.drives node x →
       slice_get c.world.messages m ≡ Some (sent.SectorRead (read_address read) read.number read.bytes) →
       MayFetch state M node read
-  may_fetch m n x (seat.Primary p) read there is message = tt
-  may_fetch m n x (seat.Backup b) read there is message =
+  may_fetch m n x (node.Primary p) read there is message = tt
+  may_fetch m n x (node.Backup b) read there is message =
       follows_with m n x Backup b.reads (state b.replayer.board) b.replayer.fetched b.receiver read there (inl refl) is message
-  may_fetch m n x (seat.Joining j) read there is message = tt
-  may_fetch m n x (seat.Draining d) read there is message =
+  may_fetch m n x (node.Joining j) read there is message = tt
+  may_fetch m n x (node.Draining d) read there is message =
       follows_with m n x Draining d.reads (state d.draining.replayer.board) d.draining.replayer.fetched d.draining.receiver
       read there (inr refl) is message
-  may_fetch m n x (seat.Alone a) read there is message = tt
-  may_fetch m n x (seat.Halted a) read there is message = tt
+  may_fetch m n x (node.Alone a) read there is message = tt
+  may_fetch m n x (node.Halted a) read there is message = tt
 
   pub fetched_unknown : (m n : ℕ) → option_and_then sector_of (slice_get old.messages m) ≡ None →
       Applies state copied M records c (event.Fetched m n) (Err Unknown) old

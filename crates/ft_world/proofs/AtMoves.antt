@@ -9,7 +9,7 @@ use Rattle.log_channel.specs.Channel.{Receiving}
 use Rattle.log_entry.specs.Standing.{IsOnTrace}
 use Rattle.replayer.specs.declared.replayer.Replayed.{Replayed}
 use Rattle.ft_node.specs.declared.node.Node as code
-use Rattle.ft_node.specs.declared.node.Node.TheVariants as seat
+use Rattle.ft_node.specs.declared.node.Node.TheVariants as node
 use Rattle.ft_node.specs.declared.ran.Drained.{Drained}
 use Rattle.ft_node.specs.declared.ran.Ran.{Ran}
 use Rattle.ft_world.proofs.AtHosts.{AtHost}
@@ -40,16 +40,16 @@ follows {S = S} state copied M records old c n x role reads s fetched r h there 
 may_replay : {B H D S : Type 0} (state : B → S) (copied : B → Guest) (M : Machine S) (records : D → List Record) (old : Running B H D)
     (c : Course S) (n : ℕ) (x : Node S) (node : code.Node B H) → (h : Shows state copied M records old c) →
     slice_get c.world.nodes n ≡ Some x → IsNode state M c.copying h.drives node x → MayReplay state M node
-may_replay state copied M records old c n x (seat.Primary p) h there is = tt
-may_replay state copied M records old c n x (seat.Backup b) h there is =
+may_replay state copied M records old c n x (node.Primary p) h there is = tt
+may_replay state copied M records old c n x (node.Backup b) h there is =
     follows state copied M records old c n x Backup b.reads (state b.replayer.board) b.replayer.fetched b.receiver h there
     (inl refl) is
-may_replay state copied M records old c n x (seat.Joining j) h there is = tt
-may_replay state copied M records old c n x (seat.Draining d) h there is =
+may_replay state copied M records old c n x (node.Joining j) h there is = tt
+may_replay state copied M records old c n x (node.Draining d) h there is =
     follows state copied M records old c n x Draining d.reads (state d.draining.replayer.board) d.draining.replayer.fetched
     d.draining.receiver h there (inr refl) is
-may_replay state copied M records old c n x (seat.Alone a) h there is = tt
-may_replay state copied M records old c n x (seat.Halted a) h there is = tt
+may_replay state copied M records old c n x (node.Alone a) h there is = tt
+may_replay state copied M records old c n x (node.Halted a) h there is = tt
 
 pub station_may_replay : {B H D S : Type 0} (state : B → S) (copied : B → Guest) (M : Machine S) (records : D → List Record)
     (old : Running B H D) (n : ℕ) (station : Station B H) → ShowsSome state copied M records old →

@@ -4,7 +4,7 @@
 use Rattle.std.proofs.Common.{◌≡◌, ◌∙◌, [], ◌∷◌, ◌++◌, List, None, Option, Some, ap, refl, subst, suc, sym, true, false, zero, ℕ}
 use Rattle.std.specs.Prelude.{IsSome, slice_get}
 use Rattle.std.specs.Option.{option_map_or}
-use Rattle.ft_world.proofs.Words.{Agree, AreHosts, AreMessages, AreTerminals, AreWinners, Asking, AtBoot, Backup, Begins, Copying, Course, Guest, Host, IsDisk, IsHost, IsNode, IsOnlyBackup, IsStation, IsTerminal, Machine, Message, Node, Primary, Reads, Record, Role, Screen, Shows, Station, blank, booted_from, count_of, first_node, is_backup, machine_of, no_terminal, opening, record_at, same_some}
+use Rattle.ft_world.proofs.Words.{Agree, AreHosts, AreMessages, AreTerminals, AreWinners, Asking, AtBoot, Backup, Begins, Copying, Course, Guest, Host, IsDisk, IsHost, IsNode, IsOnlyBackup, IsStation, IsTerminal, Machine, Message, Node, Primary, Reads, Record, Role, Screen, Shows, Station, blank, booted_from, node_count, first_node, is_backup, machine_of, no_terminal, opening, record_at, same_some}
 use Rattle.ft_node.specs.declared.node.Node as code
 use Rattle.ft_world.specs.Beginning.{MayBegin, beginning, bytes_in}
 use Rattle.ft_world.specs.declared.host.Host.TheVariants as host
@@ -40,7 +40,7 @@ begins_as state M C drives c reads role s node begins from =
 
 pub primary_station : {B H S : Type 0} (state : B → S) (M : Machine S) (C : Copying S) (drives : ℕ) (c : Course S) (reads : Reads) (s : S) (node : code.Node B H)
     (h : Station B H) → ((x : Node S) → Begins M Primary 1 reads s x → IsNode state M C drives node x) → h.node ≡ node →
-    h.inputs ≡ [] → ((x : Node S) → IsNode state M C drives node x → h.count ≡ count_of M x x.role) → s ≡ c.boot →
+    h.inputs ≡ [] → ((x : Node S) → IsNode state M C drives node x → h.count ≡ node_count M x x.role) → s ≡ c.boot →
     IsStation state M C drives h (first_node (machine_of M c) reads Primary)
 primary_station state M C drives c reads s node h begins is inputs count from =
     let first = begins_as state M C drives c reads Primary s node begins from in record {
@@ -52,7 +52,7 @@ primary_station state M C drives c reads s node h begins is inputs count from =
 
 pub backup_station : {B H S : Type 0} (state : B → S) (M : Machine S) (C : Copying S) (drives : ℕ) (c : Course S) (reads : Reads) (s : S) (node : code.Node B H)
     (h : Station B H) → ((x : Node S) → Begins M Backup 1 reads s x → IsNode state M C drives node x) → h.node ≡ node →
-    h.inputs ≡ [] → ((x : Node S) → IsNode state M C drives node x → h.count ≡ count_of M x x.role) → s ≡ c.boot →
+    h.inputs ≡ [] → ((x : Node S) → IsNode state M C drives node x → h.count ≡ node_count M x x.role) → s ≡ c.boot →
     M.count c.boot ≡ 0 → IsStation state M C drives h (first_node (machine_of M c) reads Backup)
 backup_station state M C drives c reads s node h begins is inputs count from none =
     let first = begins_as state M C drives c reads Backup s node begins from in record {

@@ -4,7 +4,7 @@ use Rattle.ft_world.proofs.Words.{Backup, Copying, Entry, IsNode, IsStation, Mac
 use Rattle.std.proofs.Common.{◌≡◌, ◌∙◌, [], ◌∷◌, ◌++◌, append-nil, append_assoc, List, ℕ, ap, refl, subst, sym}
 use Rattle.log_entry.specs.Entries.{count_of}
 use Rattle.ft_node.specs.declared.node.Node as code
-use Rattle.ft_node.specs.declared.node.Node.TheVariants as seat
+use Rattle.ft_node.specs.declared.node.Node.TheVariants as node
 
 last_count-append : (c : ℕ) (es : List Entry) (e : Entry) → last_count c (es ++ e ∷ []) ≡ count_of e
 last_count-append c [] e = refl
@@ -27,12 +27,12 @@ held_station state M C drives h new e x role is now same c = record {
 -- a node that may hold an entry is a backup
 backs_up : {B H S : Type 0} (state : B → S) (M : Machine S) (C : Copying S) (drives : ℕ) (node : code.Node B H) (e : Entry) (x : Node S)
     → MayHold node e → IsNode state M C drives node x → x.role ≡ Backup
-backs_up state M C drives (seat.Backup b) e x may is = is.role_is
-backs_up state M C drives (seat.Primary p) e x may is = absurd may
-backs_up state M C drives (seat.Joining j) e x may is = absurd may
-backs_up state M C drives (seat.Draining d) e x may is = absurd may
-backs_up state M C drives (seat.Alone a) e x may is = absurd may
-backs_up state M C drives (seat.Halted h) e x may is = absurd may
+backs_up state M C drives (node.Backup b) e x may is = is.role_is
+backs_up state M C drives (node.Primary p) e x may is = absurd may
+backs_up state M C drives (node.Joining j) e x may is = absurd may
+backs_up state M C drives (node.Draining d) e x may is = absurd may
+backs_up state M C drives (node.Alone a) e x may is = absurd may
+backs_up state M C drives (node.Halted h) e x may is = absurd may
 
 pub holds_on : {B H S : Type 0} (state : B → S) (M : Machine S) (C : Copying S) (drives : ℕ) (h new : Station B H) (e : Entry) (x : Node S)
     → MayHold h.node e → IsStation state M C drives h x → Makes x (λ x y. y ≡ holds x e) (IsNode state M C drives new.node)

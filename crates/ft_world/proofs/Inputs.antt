@@ -4,7 +4,7 @@ use Rattle.std.proofs.Common.{◌≡◌, ℕ, ◌∙◌, [], ◌∷◌, ◌++◌
 use Rattle.std.specs.Result.{IsErrAnd}
 use Rattle.guest_lockstep.specs.Recorded.{Counts}
 use Rattle.ft_node.specs.declared.node.Node as code
-use Rattle.ft_node.specs.declared.node.Node.TheVariants as seat
+use Rattle.ft_node.specs.declared.node.Node.TheVariants as node
 use Rattle.ft_world.proofs.Keeping.{machine_count, own_inputs}
 
 -- a node that has taken an input
@@ -44,12 +44,12 @@ took_station state M C drives i h new x y serve t is now e c =
 -- a node that may accept an input serves
 serves_in : {B H S : Type 0} (state : B → S) (M : Machine S) (C : Copying S) (drives : ℕ) (node : code.Node B H) (b : B) (x : Node S)
     → board_of node ≡ Some b → IsNode state M C drives node x → Serving x.role
-serves_in state M C drives (seat.Primary p) b x is node = inl node.role
-serves_in state M C drives (seat.Alone a) b x is node = inr node.role
-serves_in state M C drives (seat.Backup f) b x is node = absurd cc
-serves_in state M C drives (seat.Joining j) b x is node = absurd cc
-serves_in state M C drives (seat.Draining d) b x is node = absurd cc
-serves_in state M C drives (seat.Halted h) b x is node = absurd cc
+serves_in state M C drives (node.Primary p) b x is shown = inl shown.role
+serves_in state M C drives (node.Alone a) b x is shown = inr shown.role
+serves_in state M C drives (node.Backup f) b x is shown = absurd cc
+serves_in state M C drives (node.Joining j) b x is shown = absurd cc
+serves_in state M C drives (node.Draining d) b x is shown = absurd cc
+serves_in state M C drives (node.Halted h) b x is shown = absurd cc
 
 pub accepts : {B H S : Type 0} (state : B → S) (M : Machine S) (C : Copying S) (drives : ℕ) (i : Input) (h new : Station B H) (x : Node S) → Counts M
     → MayAccept state M h.node i → IsStation state M C drives h x → Makes x (Took M i) (IsNode state M C drives new.node)

@@ -5,7 +5,7 @@ use Rattle.std.proofs.Common.{◌≡◌, ◌++◌, [], ◌∷◌, List, Some, in
 use Rattle.std.specs.Prelude.{slice_get}
 use Rattle.guest_lockstep.specs.Outstanding.{IsFrugal}
 use Rattle.ft_node.specs.declared.node.Node as code
-use Rattle.ft_node.specs.declared.node.Node.TheVariants as seat
+use Rattle.ft_node.specs.declared.node.Node.TheVariants as node
 use Rattle.ft_world.specs.declared.host.Host.TheVariants as host
 use Rattle.ft_world.proofs.Agreeing.{agree-other}
 
@@ -31,17 +31,17 @@ frugal M c drives front s machine from = λ moves t runs.
 may_run : {B H D S : Type 0} (state : B → S) (copied : B → Guest) (M : Machine S) (records : D → List Record) (old : Running B H D)
     (c : Course S) (n : ℕ) (x : Node S) (node : code.Node B H) → (h : Shows state copied M records old c) →
     slice_get c.world.nodes n ≡ Some x → IsNode state M c.copying h.drives node x → MayRun state M node
-may_run state copied M records old c n x (seat.Primary p) h there is =
+may_run state copied M records old c n x (node.Primary p) h there is =
     let N = machine_of M c in
     let r = serving_runs N c.copying c.world n x h.machine.lawful h.machine.copies h.reached there (inl is.role) in (
       subst (λ s. IsFrugal M s) is.machine (frugal M c h.drives r.0 x.machine h.machine r.1),
       subst (λ s. AreOfOutstanding M s p.coverage) is.machine is.covers.outstanding,
     )
-may_run state copied M records old c n x (seat.Backup b) h there is = tt
-may_run state copied M records old c n x (seat.Joining j) h there is = tt
-may_run state copied M records old c n x (seat.Draining d) h there is = tt
-may_run state copied M records old c n x (seat.Alone a) h there is = tt
-may_run state copied M records old c n x (seat.Halted a) h there is = tt
+may_run state copied M records old c n x (node.Backup b) h there is = tt
+may_run state copied M records old c n x (node.Joining j) h there is = tt
+may_run state copied M records old c n x (node.Draining d) h there is = tt
+may_run state copied M records old c n x (node.Alone a) h there is = tt
+may_run state copied M records old c n x (node.Halted a) h there is = tt
 
 pub station_may_run : {B H D S : Type 0} (state : B → S) (copied : B → Guest) (M : Machine S) (records : D → List Record)
     (old : Running B H D) (n : ℕ) (station : Station B H) → ShowsSome state copied M records old →

@@ -1,5 +1,5 @@
 -- A station's node moves, and its inputs and its count follow.
-use Rattle.ft_world.proofs.Words.{Alone, Asking, Backup, Copying, Draining, Fault, Fetched, Halted, Heard, IsNode, IsStation, Joining, Machine, NeedsMoves, Node, Primary, Role, SectorAddress, Serving, Spare, Station, Won, after_drain, count_in, count_of, drained_count, halts, list_of, step-serves, winner_of, wins, won_role}
+use Rattle.ft_world.proofs.Words.{Alone, Asking, Backup, Copying, Draining, Fault, Fetched, Halted, Heard, IsNode, IsStation, Joining, Machine, NeedsMoves, Node, Primary, Role, SectorAddress, Serving, Spare, Station, Won, after_drain, count_in, node_count, drained_count, halts, list_of, step-serves, winner_of, wins, won_role}
 use Rattle.std.proofs.Common.{◌≡◌, ◌∙◌, ℕ, List, Err, None, Ok, Option, Result, Some, ap, refl, subst, sym}
 use Rattle.std.specs.Prelude.{unwrap_or, ◌<◌}
 use Rattle.std.specs.Result.{IsErrAnd}
@@ -108,7 +108,7 @@ drains_still state M C drives h node count x y is role k now e =
 drained_station : {B H S : Type 0} (state : B → S) (M : Machine S) (C : Copying S) (drives : ℕ) (h : Station B H) (node : code.Node B H) (count : ℕ)
     (x y : Node S) (why : ReplayEnd) → IsStation state M C drives h x → x.role ≡ Draining → Kept x y
     → IsNode state M C drives node (after_drain y why)
-    → count ≡ drained_count why h.count (count_of M (after_drain y why) (after_drain y why).role)
+    → count ≡ drained_count why h.count (node_count M (after_drain y why) (after_drain y why).role)
     → IsStation state M C drives (record h { node = node; count = count }) (after_drain y why)
 drained_station state M C drives h node count x y End is role k now e = record {
   node = now;
@@ -123,7 +123,7 @@ drained_station state M C drives h node count x y Memory is role k now e = drain
 pub drains_on : {B H S : Type 0} (state : B → S) (M : Machine S) (C : Copying S) (drives : ℕ) (turns : ℕ) (h : Station B H) (node : code.Node B H)
     (d : Drained) (count : ℕ) (x : Node S) → IsStation state M C drives h x
     → calls.Drains M turns x (Ok d) (IsNode state M C drives node)
-    → ((y : Node S) → IsNode state M C drives node y → count ≡ drained_count d.why h.count (count_of M y y.role))
+    → ((y : Node S) → IsNode state M C drives node y → count ≡ drained_count d.why h.count (node_count M y y.role))
     → calls.Drains M turns x (Ok d) (IsStation state M C drives (record h { node = node; count = count }))
 drains_on {B} {S} state M C drives turns h node d count x is r counted =
     given (refusals.drain_refusal x) (NeedsMoves M turns) (NeedsMoves M turns) (calls.DrainedBy M turns) x

@@ -1,5 +1,5 @@
 -- What a station shows of its node is what the node of the world has at that number.
-use Rattle.ft_world.proofs.Words.{AreHosts, Copying, Host, IsHost, IsNode, IsRole, IsStatusAt, Machine, Node, Station, count_of, same_some}
+use Rattle.ft_world.proofs.Words.{AreHosts, Copying, Host, IsHost, IsNode, IsRole, IsStatusAt, Machine, Node, Station, node_count, same_some}
 use Rattle.std.proofs.Common.{◌≡◌, Err, IfOk, List, Ok, Result, Some, refl, subst, sym, ℕ}
 use Rattle.std.specs.Prelude.{slice_get}
 use Rattle.std.specs.Result.{result_ok}
@@ -17,7 +17,7 @@ pub station_shows : {B H S : Type 0} (state : B → S) (M : Machine S) (C : Copy
     slice_get hosts n ≡ Some (host.Node station) →
     ((x : Node S) → IsNode state M C drives station.node x → IsRole x status.role) →
     ((x : Node S) → IsNode state M C drives station.node x → x.generation ≡ status.generation) →
-    ((x : Node S) → IsNode state M C drives station.node x → count_of M x x.role ≡ status.count) →
+    ((x : Node S) → IsNode state M C drives station.node x → node_count M x x.role ≡ status.count) →
     IsStatusAt M (slice_get nodes n) (Some status)
 station_shows {B} {H} state M C drives hosts nodes n station status are at role generation count =
     let o = agree-other (IsHost {B = B} {H = H} state M C drives) (slice_get hosts n) (slice_get nodes n) (host.Node station) at

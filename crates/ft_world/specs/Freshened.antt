@@ -7,7 +7,7 @@ use Rattle.guest_lockstep.specs.Pages.{every_page}
 use Rattle.i8080_words.specs.declared.refusal.Fault.TheVariants.{OutOfMemory}
 use Rattle.i8080_words.specs.declared.refusal.Fault.{Fault}
 use Rattle.ft_node.specs.Pages.{PagesGoOn, SamePages, StepsWrite}
-use Rattle.ft_node.specs.Seats.{AreFreshened, alone_board}
+use Rattle.ft_node.specs.AnyNode.{AreFreshened, alone_board}
 use Rattle.pair_events.specs.declared.event.Event.{Event}
 use Rattle.pair_events.specs.declared.event.Event.TheVariants as event
 use Rattle.pair_events.specs.declared.reply.Reply.{Reply}

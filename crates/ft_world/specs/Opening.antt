@@ -9,7 +9,7 @@ use Rattle.pair_protocol.specs.Copying.{Copying}
 use Rattle.pair_protocol.specs.Node.{Joining, Node, begun}
 use Rattle.pair_protocol.specs.Settled.{list_of}
 use Rattle.ft_node.specs.Calls.{Joins}
-use Rattle.ft_node.specs.Seats.{alone_board}
+use Rattle.ft_node.specs.AnyNode.{alone_board}
 use Rattle.ft_node.specs.declared.ran.NextGeneration.{NextGeneration}
 use Rattle.ft_world.specs.declared.host.Host.{Host}
 use Rattle.ft_world.specs.declared.host.Host.TheVariants as host

@@ -16,8 +16,8 @@ use Rattle.pair_protocol.specs.Copying.{Copying}
 use Rattle.pair_protocol.specs.Node.{Node, Spare}
 use Rattle.pair_protocol.specs.Settled.{list_of, count_in, is_backup}
 use Rattle.pair_protocol.specs.World as protocol
-use Rattle.ft_node.specs.Roles.{count_of}
-use Rattle.ft_node.specs.Seats.{IsNode, IsRole}
+use Rattle.ft_node.specs.Roles.{node_count}
+use Rattle.ft_node.specs.AnyNode.{IsNode, IsRole}
 use Rattle.ft_world.specs.Words.{IsMessage}
 use Rattle.ft_world.specs.declared.host.Host.{Host}
 use Rattle.ft_world.specs.declared.host.Host.TheVariants as host
@@ -93,7 +93,7 @@ IsOnlyBackup {S} nodes generation backup =
 pub record IsStatus {S : Type 0} (M : Machine S) (x : Node S) (status : NodeStatus) : Type 0 where
   pub role : IsRole x status.role
   pub generation : status.generation ≡ x.generation
-  pub count : status.count ≡ count_of M x x.role
+  pub count : status.count ≡ node_count M x x.role
   pub a_node : x.role ≡ Spare → ⊥
 
 abbrev pub IsStatusAt : {S : Type 0} → Machine S → Option (Node S) → Option NodeStatus → Type 0

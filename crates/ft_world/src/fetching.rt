@@ -3,7 +3,7 @@ ghost use Rattle.std.specs.Prelude.{◌≡◌, ℕ, OnErr, OnOk};
 ghost use Rattle.pair_protocol.specs.Copying.{Copying};
 ghost use Rattle.pair_protocol.specs.Node as protocol;
 ghost use Rattle.ft_node.specs.Calls as calls;
-ghost use Rattle.ft_node.specs.Seats.{MayFetch, PagesStay};
+ghost use Rattle.ft_node.specs.AnyNode.{MayFetch, PagesStay};
 ghost use Rattle.ft_world.specs.Shows.{IsStation};
 ghost use Rattle.ft_world.specs.Words.{read_address};
 

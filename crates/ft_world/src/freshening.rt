@@ -4,7 +4,7 @@ ghost use Rattle.i8080_words.specs.declared.refusal.Fault.TheVariants.{OutOfMemo
 ghost use Rattle.pair_protocol.specs.Copying.{Copying};
 ghost use Rattle.pair_protocol.specs.Node as protocol;
 ghost use Rattle.ft_node.specs.Calls as calls;
-ghost use Rattle.ft_node.specs.Seats.{AreFreshened, NoneCopied};
+ghost use Rattle.ft_node.specs.AnyNode.{AreFreshened, NoneCopied};
 ghost use Rattle.ft_world.specs.Shows.{IsStation};
 
 use crate::station::Station;

@@ -8,7 +8,7 @@ ghost use Rattle.pair_protocol.specs.Copying.{Copying};
 ghost use Rattle.pair_protocol.specs.Node as protocol;
 ghost use Rattle.pair_protocol.specs.Refusals as refusals;
 ghost use Rattle.ft_node.specs.Calls as calls;
-ghost use Rattle.ft_node.specs.Seats.{PagesStay, alone_board};
+ghost use Rattle.ft_node.specs.AnyNode.{PagesStay, alone_board};
 ghost use Rattle.ft_world.specs.Opening.{IsJoined, IsOpening, Opens};
 ghost use Rattle.ft_world.specs.Shows.{IsStation};
 

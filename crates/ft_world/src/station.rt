@@ -7,9 +7,9 @@ ghost use Rattle.log_channel.specs.Packet.{packet_at};
 ghost use Rattle.pair_protocol.specs.Effects.{Took, NeedsEntry};
 ghost use Rattle.pair_protocol.specs.Node as protocol;
 ghost use Rattle.ft_node.specs.Calls as calls;
-ghost use Rattle.ft_node.specs.Roles.{count_of};
+ghost use Rattle.ft_node.specs.Roles.{node_count};
 ghost use Rattle.ft_node.specs.Pages.{PagesGoOn, StepsWrite};
-ghost use Rattle.ft_node.specs.Seats.{IsNode, MayAccept, MayReplay, MayRun, PagesStay, alone_board};
+ghost use Rattle.ft_node.specs.AnyNode.{IsNode, MayAccept, MayReplay, MayRun, PagesStay, alone_board};
 ghost use Rattle.ft_world.specs.Offers.{IsOffer, input_of, offer_refusal};
 ghost use Rattle.ft_world.specs.Shows.{IsStation, drained_count};
 
@@ -39,7 +39,7 @@ impl<B: Copies<H> + Drop, H: Drop> Station<B, H> {
         ensures node { result.node ≡ node }
         ensures inputs { result.inputs ≡ [] }
         ensures count { (C : Copying B.State) (drives : ℕ) (x : protocol.Node B.State) → IsNode B.state B.machine C drives node x
-            → result.count ≡ count_of B.machine x x.role }
+            → result.count ≡ node_count B.machine x x.role }
     {
         let count = node.count();
         Station {
@@ -52,7 +52,7 @@ impl<B: Copies<H> + Drop, H: Drop> Station<B, H> {
     // The count by which a node settles after a drain: its machine's if it is alone now, and the same as before if not.
     fn settled_count(&self, why: ReplayEnd) -> u64
         ensures { (C : Copying B.State) (drives : ℕ) (x : protocol.Node B.State) → IsNode B.state B.machine C drives self.now.node x
-            → result ≡ drained_count why self.now.count (count_of B.machine x x.role) }
+            → result ≡ drained_count why self.now.count (node_count B.machine x x.role) }
     {
         match why {
             ReplayEnd::End => self.node.count(),

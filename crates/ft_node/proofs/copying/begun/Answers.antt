@@ -5,9 +5,9 @@ use Rattle.i8080_words.specs.declared.refusal.Fault.{Fault}
 use Rattle.ft_node.specs.Calls.{BeginsPair}
 use Rattle.ft_node.specs.Kept.{ImageParts}
 use Rattle.ft_node.specs.Roles.{IsAlone}
-use Rattle.ft_node.specs.Seats.{IsNode}
+use Rattle.ft_node.specs.AnyNode.{IsNode}
 use Rattle.ft_node.specs.declared.alone.Alone.{Alone}
-use Rattle.ft_node.specs.declared.node.Node.TheVariants as seat
+use Rattle.ft_node.specs.declared.node.Node.TheVariants as node
 use Rattle.ft_node.proofs.BegunPairs.{begins, is_begun, out_of_memory, spent}
 use Rattle.ft_node.proofs.copying.begun.Goals as goal
 
@@ -16,7 +16,7 @@ returns-then-alone-clause-answer g c = λ C drives x copies has a.
     let M = g.B.Lockstep.machine in
     let state = g.B.Lockstep.state in
     spent M c.args.alone.reads (state c.args.alone.board) c.args.alone.generation x a
-    (IsNode {H = g.row.H.Denot} state M C drives (seat.Alone c.args.alone)) (omega arith) a
+    (IsNode {H = g.row.H.Denot} state M C drives (node.Alone c.args.alone)) (omega arith) a
 
 pub returns-in-Err-clause-answer : goal.returns-in-Err-clause-answer
 returns-in-Err-clause-answer g c = λ C drives x copies has a.
@@ -35,7 +35,7 @@ returns-clause-answer g c = λ C drives x copies has a.
     let s = state c.args.alone.board in
     let primary = c.begin-primary.result in
     let made = c.begin-primary.ensures in
-    begins M c.args.alone.reads s c.args.alone.generation x a (IsNode {H = g.row.H.Denot} state M C drives (seat.Primary primary)) (omega arith)
+    begins M c.args.alone.reads s c.args.alone.generation x a (IsNode {H = g.row.H.Denot} state M C drives (node.Primary primary)) (omega arith)
     (is_begun M c.args.alone.reads s c.args.alone.generation x a C primary.recorder.reads (state primary.recorder.board) primary.recorder.log primary.sender
     primary.coverage primary.image (image_parts (g.B.Copies.copied c.args.alone.board)) has (made.reads ∙ c.log_and_image.ensures.reads)
     (ap state made.board ∙ c.log_and_image.ensures.state)

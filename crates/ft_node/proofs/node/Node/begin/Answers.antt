@@ -1,7 +1,7 @@
 -- An alone node is taken out, and what it becomes is put in its place.
 use Rattle.std.proofs.Common.{subst, sym, ◌∙◌}
 use Rattle.ft_node.specs.Calls.{BeginsPair}
-use Rattle.ft_node.specs.Seats.{IsNode}
+use Rattle.ft_node.specs.AnyNode.{IsNode}
 use Rattle.ft_node.proofs.node.Node.begin.Goals as goal
 
 pub returns-in-Alone-clause-answer : goal.returns-in-Alone-clause-answer

@@ -3,7 +3,7 @@ use Rattle.std.proofs.Common.{subst, sym}
 use Rattle.std.proofs.lemmas.Result.{err_from_is_err_and}
 use Rattle.pair_protocol.specs.Node.{Draining}
 use Rattle.ft_node.specs.Roles.{IsFollower}
-use Rattle.ft_node.specs.Seats.{IsNode}
+use Rattle.ft_node.specs.AnyNode.{IsNode}
 use Rattle.ft_node.proofs.LastMoves.{drained, drains_on, not_drained}
 use Rattle.ft_node.proofs.node.Node.drain.Goals as goal
 

@@ -2,7 +2,7 @@
 use Rattle.std.proofs.Common.{Ok, subst}
 use Rattle.log_channel.specs.Packet.{packet_at}
 use Rattle.ft_node.specs.Calls.{Expects, NeedsRoom}
-use Rattle.ft_node.specs.Seats.{IsNode}
+use Rattle.ft_node.specs.AnyNode.{IsNode}
 use Rattle.ft_node.proofs.Deliveries.{held, passed_by}
 use Rattle.ft_node.proofs.PassedChecks.{none_there}
 use Rattle.ft_node.proofs.node.Node.on_log.Goals as goal

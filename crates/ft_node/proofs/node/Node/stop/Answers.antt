@@ -1,5 +1,5 @@
 -- It was not halted before.
-use Rattle.ft_node.specs.Seats.{IsNode}
+use Rattle.ft_node.specs.AnyNode.{IsNode}
 use Rattle.ft_node.proofs.Halting.{halting}
 use Rattle.ft_node.proofs.node.Node.stop.Goals as goal
 

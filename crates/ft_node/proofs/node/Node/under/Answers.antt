@@ -3,7 +3,7 @@ use Rattle.guest_lockstep.specs.declared.input.Input.TheVariants as input
 use Rattle.pair_protocol.specs.Effects.{Took}
 use Rattle.pair_protocol.specs.Refusals.{get_reply_refusal}
 use Rattle.ft_node.specs.Calls.{Never}
-use Rattle.ft_node.specs.Seats.{IsNode}
+use Rattle.ft_node.specs.AnyNode.{IsNode}
 use Rattle.ft_node.proofs.PassedChecks.{refused}
 use Rattle.ft_node.proofs.node.Node.under.Goals as goal
 

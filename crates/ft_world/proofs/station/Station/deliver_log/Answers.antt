@@ -5,7 +5,7 @@ use Rattle.std.specs.Prelude.{IfSome}
 use Rattle.log_channel.specs.Packet.{packet_at}
 use Rattle.pair_protocol.specs.Effects.{NeedsEntry}
 use Rattle.ft_node.specs.Calls.{Expects}
-use Rattle.ft_node.specs.Seats.{MayHold}
+use Rattle.ft_node.specs.AnyNode.{MayHold}
 use Rattle.ft_node.proofs.Deliveries.{held, passed_by, refused}
 use Rattle.ft_node.proofs.PassedChecks.{none_there}
 use Rattle.ft_world.specs.Shows.{IsStation}

@@ -4,7 +4,7 @@ use Rattle.i8080_words.specs.declared.refusal.Fault.{Fault}
 use Rattle.pair_protocol.specs.Effects.{Took}
 use Rattle.ft_node.specs.Calls.{Call, Ever}
 use Rattle.ft_node.proofs.PassedChecks.{passed, refused}
-use Rattle.ft_node.specs.Seats.{MayAccept}
+use Rattle.ft_node.specs.AnyNode.{MayAccept}
 use Rattle.ft_world.specs.Offers.{input_of, offer_refusal}
 use Rattle.ft_world.specs.Shows.{IsStation}
 use Rattle.ft_world.proofs.Inputs.{accepts, no_room}

@@ -25,53 +25,53 @@ use Rattle.ft_node.specs.Roles.{AreOfOutstanding, HasImage, IsPrimary, IsFollowe
 use Rattle.ft_node.specs.declared.ran.PartCame.{PartCame}
 use Rattle.ft_node.specs.declared.ran.PartCame.TheVariants as came
 use Rattle.ft_node.specs.declared.node.Node as code
-use Rattle.ft_node.specs.declared.node.Node.TheVariants as seat
+use Rattle.ft_node.specs.declared.node.Node.TheVariants as node
 use Rattle.pair_events.specs.declared.reply.Role as shown
 use Rattle.pair_events.specs.declared.reply.Role.TheVariants as role
 
 -- the node of the protocol that a node is, for this copying of its machine and this many drives
 abbrev pub IsNode : {B S : Type 0} {H : Type 0} → (B → S) → Machine S → Copying S → ℕ → code.Node B H → Node S → Type 0
-IsNode state M C drives (seat.Primary p) x =
+IsNode state M C drives (node.Primary p) x =
     IsPrimary M (HasImage C p.sender.generation p.image) p.recorder.reads (state p.recorder.board) p.recorder.log p.sender
     p.coverage x
-IsNode state M C drives (seat.Backup b) x =
+IsNode state M C drives (node.Backup b) x =
     IsFollower Backup b.reads (state b.replayer.board) b.replayer.fetched b.receiver x
-IsNode state M C drives (seat.Joining j) x = IsJoining C drives j x
-IsNode state M C drives (seat.Draining d) x =
+IsNode state M C drives (node.Joining j) x = IsJoining C drives j x
+IsNode state M C drives (node.Draining d) x =
     IsFollower Draining d.reads (state d.draining.replayer.board) d.draining.replayer.fetched d.draining.receiver x
-IsNode state M C drives (seat.Alone a) x = IsAlone a.reads (state a.board) a.generation x
-IsNode state M C drives (seat.Halted h) x = IsHalted M h.generation h.count x
+IsNode state M C drives (node.Alone a) x = IsAlone a.reads (state a.board) a.generation x
+IsNode state M C drives (node.Halted h) x = IsHalted M h.generation h.count x
 
 -- ---- a node that takes input
 
 -- its guest
 abbrev pub board_of : {B : Type 0} {H : Type 0} → code.Node B H → Option B
-board_of (seat.Primary p) = Some p.recorder.board
-board_of (seat.Backup b) = None
-board_of (seat.Joining j) = None
-board_of (seat.Draining d) = None
-board_of (seat.Alone a) = Some a.board
-board_of (seat.Halted h) = None
+board_of (node.Primary p) = Some p.recorder.board
+board_of (node.Backup b) = None
+board_of (node.Joining j) = None
+board_of (node.Draining d) = None
+board_of (node.Alone a) = Some a.board
+board_of (node.Halted h) = None
 
 -- what its log answers to one more entry; only a primary has a log
 abbrev pub room_of : {B : Type 0} {H : Type 0} → code.Node B H → Result (Unit {0}) Fault
-room_of (seat.Primary p) = room_answer p.recorder.log
-room_of (seat.Backup b) = Ok tt
-room_of (seat.Joining j) = Ok tt
-room_of (seat.Draining d) = Ok tt
-room_of (seat.Alone a) = Ok tt
-room_of (seat.Halted h) = Ok tt
+room_of (node.Primary p) = room_answer p.recorder.log
+room_of (node.Backup b) = Ok tt
+room_of (node.Joining j) = Ok tt
+room_of (node.Draining d) = Ok tt
+room_of (node.Alone a) = Ok tt
+room_of (node.Halted h) = Ok tt
 
 -- ---- a node that is alone
 
 -- its guest
 abbrev pub alone_board : {B : Type 0} {H : Type 0} → code.Node B H → Option B
-alone_board (seat.Primary p) = None
-alone_board (seat.Backup b) = None
-alone_board (seat.Joining j) = None
-alone_board (seat.Draining d) = None
-alone_board (seat.Alone a) = Some a.board
-alone_board (seat.Halted h) = None
+alone_board (node.Primary p) = None
+alone_board (node.Backup b) = None
+alone_board (node.Joining j) = None
+alone_board (node.Draining d) = None
+alone_board (node.Alone a) = Some a.board
+alone_board (node.Halted h) = None
 
 -- this many pages of its guest are stale, once the lowest of them, at most `pages`, were copied
 pub record AreFreshened {B : Type 0} {H : Type 0} (stale : B → ℕ → Bool) (pages left : ℕ)
@@ -103,58 +103,58 @@ pub record MayAccept {B S : Type 0} {H : Type 0} (state : B → S) (M : Machine 
 
 -- an entry is the next one of a backup's log, and an index is left for it
 abbrev pub MayHold : {B : Type 0} {H : Type 0} → code.Node B H → Entry → Type 0
-MayHold (seat.Primary p) e = ⊥
-MayHold (seat.Backup b) e = channel.MayHold b.receiver e
-MayHold (seat.Joining j) e = ⊥
-MayHold (seat.Draining d) e = ⊥
-MayHold (seat.Alone a) e = ⊥
-MayHold (seat.Halted h) e = ⊥
+MayHold (node.Primary p) e = ⊥
+MayHold (node.Backup b) e = channel.MayHold b.receiver e
+MayHold (node.Joining j) e = ⊥
+MayHold (node.Draining d) e = ⊥
+MayHold (node.Alone a) e = ⊥
+MayHold (node.Halted h) e = ⊥
 
 -- a primary's coverage has room for the note of each operation, wherever the guest goes: few operations are outstanding,
 -- and only those have notes
 abbrev pub MayRun : {B S : Type 0} {H : Type 0} → (B → S) → Machine S → code.Node B H → Type 0
-MayRun state M (seat.Primary p) =
+MayRun state M (node.Primary p) =
     IsFrugal M (state p.recorder.board) × AreOfOutstanding M (state p.recorder.board) p.coverage
-MayRun state M (seat.Backup b) = Unit {0}
-MayRun state M (seat.Joining j) = Unit {0}
-MayRun state M (seat.Draining d) = Unit {0}
-MayRun state M (seat.Alone a) = Unit {0}
-MayRun state M (seat.Halted h) = Unit {0}
+MayRun state M (node.Backup b) = Unit {0}
+MayRun state M (node.Joining j) = Unit {0}
+MayRun state M (node.Draining d) = Unit {0}
+MayRun state M (node.Alone a) = Unit {0}
+MayRun state M (node.Halted h) = Unit {0}
 
 -- what a backup or a draining node holds are the next entries of a recorded run
 abbrev pub MayReplay : {B S : Type 0} {H : Type 0} → (B → S) → Machine S → code.Node B H → Type 0
-MayReplay state M (seat.Primary p) = Unit {0}
-MayReplay state M (seat.Backup b) = IsOnTrace M (state b.replayer.board) b.receiver.entries b.replayer.fetched
-MayReplay state M (seat.Joining j) = Unit {0}
-MayReplay state M (seat.Draining d) =
+MayReplay state M (node.Primary p) = Unit {0}
+MayReplay state M (node.Backup b) = IsOnTrace M (state b.replayer.board) b.receiver.entries b.replayer.fetched
+MayReplay state M (node.Joining j) = Unit {0}
+MayReplay state M (node.Draining d) =
     IsOnTrace M (state d.draining.replayer.board) d.draining.receiver.entries d.draining.replayer.fetched
-MayReplay state M (seat.Alone a) = Unit {0}
-MayReplay state M (seat.Halted h) = Unit {0}
+MayReplay state M (node.Alone a) = Unit {0}
+MayReplay state M (node.Halted h) = Unit {0}
 
 -- if the bytes of a sector are those that a replaying node waits for, its run takes the sector with them
 abbrev pub MayFetch : {B S : Type 0} {H : Type 0} → (B → S) → Machine S → code.Node B H → SectorRead → Type 0
-MayFetch state M (seat.Primary p) read = Unit {0}
-MayFetch state M (seat.Backup b) read =
+MayFetch state M (node.Primary p) read = Unit {0}
+MayFetch state M (node.Backup b) read =
     bytes_refusal M (state b.replayer.board) b.receiver.entries b.replayer.fetched read ≡ None
     → IsOnTrace M (state b.replayer.board) b.receiver.entries (Some read.bytes)
-MayFetch state M (seat.Joining j) read = Unit {0}
-MayFetch state M (seat.Draining d) read =
+MayFetch state M (node.Joining j) read = Unit {0}
+MayFetch state M (node.Draining d) read =
     let r = d.draining.replayer in
     bytes_refusal M (state r.board) d.draining.receiver.entries r.fetched read ≡ None
     → IsOnTrace M (state r.board) d.draining.receiver.entries (Some read.bytes)
-MayFetch state M (seat.Alone a) read = Unit {0}
-MayFetch state M (seat.Halted h) read = Unit {0}
+MayFetch state M (node.Alone a) read = Unit {0}
+MayFetch state M (node.Halted h) read = Unit {0}
 
 -- ---- what a node becomes
 
 -- what a joining node becomes with the last part: a backup of this generation with the guest that the parts make, which
 -- holds nothing yet; if they make none, it is as it was without the part
 abbrev pub Becomes : {B H : Type 0} → (B → Guest) → List ℕ → Joined → Result PartCame Fault → code.Node B H → Type 0
-Becomes copied bytes j (Ok part) (seat.Backup b) =
+Becomes copied bytes j (Ok part) (node.Backup b) =
     (part ≡ came.Whole) × (machine_in j.gathering ≡ Some (copied b.replayer.board))
     × (b.receiver ≡ record { generation = j.gathering.generation; held = 0; entries = [] })
     × (b.replayer.fetched ≡ None) × (b.reads ≡ j.reads)
-Becomes copied bytes j (Err fault) (seat.Joining k) =
+Becomes copied bytes j (Err fault) (node.Joining k) =
     (k ≡ record j { gathering = after_forgetting j.gathering bytes })
     × (fault ≡ refused_as (λ parts. is_some (guest_in j.gathering.drives parts)) (gathered j.gathering.slots))
 Becomes copied bytes j _ _ = ⊥
