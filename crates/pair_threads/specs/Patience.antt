@@ -1,5 +1,5 @@
 -- What progress is, who can make none alone, how long a worker waits for it, and when it gives up.
-use Rattle.std.specs.Prelude.{◌≡◌, ◌⊎◌, ◌↔◌, ℕ, ◌+◌, ◌-◌, ◌*◌, ◌/◌, ◌%◌, ◌^◌, ◌<◌, ◌==◌, ◌||◌, ◌&&◌, not, nat_lt, min, Bool, true, false, if◌then◌else◌, Option, Some, None, is_some, unwrap_or, length, vec_len}
+use Rattle.std.specs.Prelude.{◌≡◌, ◌⊎◌, ◌↔◌, ℕ, ◌+◌, ◌-◌, ◌*◌, ◌/◌, ◌%◌, ◌^◌, ◌<◌, ◌==◌, ◌||◌, ◌&&◌, not, nat_lt, min, Bool, true, false, if◌then◌else◌, Option, Some, None, unwrap_or, length, vec_len}
 use Rattle.std.specs.Time.{instant_nanos}
 use Rattle.std.specs.declared.time.Instant.{Instant}
 use Rattle.pair_threads.specs.declared.gate.Who.{Who}
@@ -17,9 +17,9 @@ use Rattle.pair_threads.specs.declared.yields.LongYield.{LongYield}
 use Rattle.pair_threads.specs.declared.yields.Yields.{Yields}
 use Rattle.pair_threads.specs.Choosing.{left_after_waiting}
 
--- a primary's guest is held up if it idles, an entry of its waits for the list, or an operation that it gave is outstanding
+-- a primary's guest is held up if it idles, or an operation that it gave is outstanding
 abbrev pub guest_is_held_up : {B : Type 0} → Recording B → Bool
-guest_is_held_up r = r.idle || is_some r.waiting || not (length r.given.items == 0)
+guest_is_held_up r = r.idle || not (length r.given.items == 0)
 
 -- a primary's worker tells the others that it is held up if its guest was when it ran last, or if keys are to be taken
 abbrev pub has_keys : PortInputs → Bool

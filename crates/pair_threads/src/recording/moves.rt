@@ -178,11 +178,11 @@ impl<B: Lockstep> Recording<B> {
         })
     }
 
-    /// Whether it waits for others: it idles, an entry of its waits, or an operation that it gave is outstanding.
+    /// Whether it waits for others: it idles, or an operation that it gave is outstanding.
     pub(crate) fn is_held_up(&self) -> bool
         ensures { result ≡ guest_is_held_up self.now }
     {
-        self.idle || self.waiting.is_some() || !self.given.is_empty()
+        self.idle || !self.given.is_empty()
     }
 
     /// The byte of this number that was given at a port, if it is outstanding.
