@@ -2,6 +2,7 @@
 use Rattle.std.proofs.Common.{◌≡◌, ℕ, List, [], ◌∷◌, ◌++◌, Option, Result, Ok, Err, inl, inr, sym, ap, ◌∙◌, subst, string_bytes}
 use Rattle.std.specs.Prelude.{IfErr, IfOk, OnOk}
 use Rattle.std.specs.Io.KnownBytes.{Appends, Consumes}
+use Rattle.std.proofs.KnownBytes.{Appends-trans}
 use Rattle.command_console.specs.Console.{HasServed, IsAtConsole, IsOfOne, IsOfRun, Opens}
 use Rattle.command_console.specs.Session.{HasSat, HasUsed}
 use Rattle.command_console.specs.declared.console.Streams.{Streams}
@@ -14,7 +15,6 @@ use Rattle.command_live.specs.Saving.{images_of}
 use Rattle.command_live.proofs.Living.{are_booted}
 use Rattle.console_terminal.specs.Greeting.{greeting_of}
 use Rattle.console_terminal.specs.Screen.{Piece, bytes_of, texts_of}
-use Rattle.console_terminal.proofs.Bytes.{appends_both}
 use Rattle.disk_dcdd.specs.declared.sector.SectorWrite.{SectorWrite}
 use Rattle.guest_board.specs.Inputs.{some_altair}
 use Rattle.guest_lockstep.specs.Machine.{booted_from}
@@ -88,10 +88,10 @@ module _ {B D : Type 0} (state : B → Guest) (records : D → List Record) (set
         (subst (λ r. Consumes (remaining greeted.reader) (remaining r) used.bytes) (sym kept.0) used.read);
     written = subst (λ w. Appends (contents w) (contents last.writer)
         (bytes_of used.pieces ++ (string_bytes order.mark ++ images_of (records st.disk) order.saved.items))) same.1
-        (appends_both (contents greeted.writer) (contents sat.writer) (contents last.writer) (bytes_of used.pieces)
+        (Appends-trans (contents greeted.writer) (contents sat.writer) (contents last.writer) (bytes_of used.pieces)
         (string_bytes order.mark ++ images_of (records st.disk) order.saved.items) used.screen saves);
     beside = subst (λ n. Appends (notes first.notes) (notes n) (greeting_of order.escape ++ texts_of used.pieces)) (sym kept.1)
-        (appends_both (notes first.notes) (notes greeted.notes) (notes sat.notes) (greeting_of order.escape) (texts_of used.pieces)
+        (Appends-trans (notes first.notes) (notes greeted.notes) (notes sat.notes) (greeting_of order.escape) (texts_of used.pieces)
         greets used.beside);
   }
 

@@ -1,24 +1,13 @@
 -- Bytes that are handed in, one after another, and then written.
-use Rattle.std.proofs.Common.{◌≡◌, ℕ, Option, Some, None, List, [], ◌++◌, append-nil, append_assoc, refl, sym, ap, ◌∙◌}
+use Rattle.std.proofs.Common.{◌≡◌, ℕ, Option, Some, None, List, [], ◌++◌, append-nil, sym, ap, ◌∙◌}
 use Rattle.std.specs.Io.KnownBytes.{Appends, Keeps, append_known}
 use Rattle.command_ending.specs.Reports.{AddsLine}
-
--- bytes appended one list after the other
-pub appends_on : (a b c : Option (List ℕ)) (xs ys : List ℕ) → Appends a b xs → Appends b c ys → Appends a c (xs ++ ys)
-appends_on None b c xs ys p q = tt
-appends_on (Some a) None c xs ys p q = absurd p
-appends_on (Some a) (Some b) None xs ys p q = absurd q
-appends_on (Some a) (Some b) (Some c) xs ys p q = q ∙ ap (λ l. l ++ ys) p ∙ append_assoc a xs ys
 
 -- nothing appended is no change
 pub keeps-appends : (a b : Option (List ℕ)) → Keeps a b → Appends a b []
 keeps-appends None b k = tt
 keeps-appends (Some a) None k = absurd k
 keeps-appends (Some a) (Some b) k = k ∙ sym (append-nil a)
-
-pub keeps_refl : (a : Option (List ℕ)) → Keeps a a
-keeps_refl None = tt
-keeps_refl (Some a) = refl
 
 -- if a report has no lines at first, and all that is handed in is then written, that is what the writer got
 pub settled : (a b c : Option (List ℕ)) (first rest bytes : List ℕ) → first ≡ []

@@ -1,12 +1,12 @@
 -- The first bad line of a text is the one for which the text is no script. Up to it nothing is bad, so what was said so far is
 -- what reading the script has found. After it a bad line has a greater number, and so has a sector that is astray.
 use Rattle.std.proofs.Common.{◌≡◌, ℕ, zero, suc, ◌+◌, ◌-◌, ◌<◌, ◌≤◌, ◌⊎◌, inl, inr, List, [], ◌∷◌, ◌++◌, length, Bool, true, false, Option, Some, None, Result, Ok, Err, refl, sym, ap, subst, ◌∙◌, arith, get_or, length-append}
-use Rattle.std.specs.Prelude.{nat_lt, nat_le, min, slice_get, unwrap_or, ◌==◌, ◌&&◌, if◌then◌else◌}
+use Rattle.std.specs.Prelude.{nat_lt, nat_le, min, slice_get, ◌&&◌, if◌then◌else◌}
 use Rattle.std.specs.Option.{option_or}
 use Rattle.std.proofs.Math.Seq.{get_or-append_seam}
-use Rattle.std.proofs.lemmas.Bool.Decides.{nat_tests}
+use Rattle.std.proofs.lemmas.Bool.{eq-eqb, ne_eqb}
 use Rattle.std.proofs.lemmas.Option.{slice_get-get_or, slice_get_within, get_or_from_slice_get}
-use Rattle.command_lint.specs.Linting.{Bad, bad_from, bad_lines, first_number, is_bad, line_after}
+use Rattle.command_lint.specs.Linting.{Bad, bad_from, bad_lines, first_number, is_bad}
 use Rattle.script_language.specs.Booting.{Boot, Filled}
 use Rattle.script_language.specs.Meaning.{Said, astray_among, first_astray, is_astray, is_of_line, lower_of, nothing_said, read, said_in, script_of, script_unless, with_line}
 use Rattle.script_language.specs.Text.{lines_of, text_of}
@@ -37,12 +37,6 @@ lower_first n (Some k) h = ap (λ (m : ℕ). Some m) (min_first n k h)
 lower_second : (other : Option ℕ) (n : ℕ) → AtLeast n other → lower_of other (Some n) ≡ Some n
 lower_second None n h = refl
 lower_second (Some k) n h = ap (λ (m : ℕ). Some m) (min_second k n h)
-
-same_number : (a b : ℕ) → a ≡ b → (a == b) ≡ true
-same_number a b h = grind (arith, nat_tests)
-
-differs : (a b : ℕ) → a < b → (a == b) ≡ false
-differs a b h = grind (arith, nat_tests)
 
 -- ---- the first line that is not valid
 
@@ -199,7 +193,7 @@ module _ (drives : ℕ) where
   not_of_line number None below = refl
   not_of_line number (Some filled) below =
       let less = below filled refl in
-      ap (λ b. b && nat_le drives filled.drive) (differs filled.line number less)
+      ap (λ b. b && nat_le drives filled.drive) (ne_eqb filled.line number (λ same. let lt = less in omega (arith, lt, same)))
 
   no_new : (number : ℕ) (sectors : List Filled) → Rising 1 sectors number → is_astray number drives sectors ≡ false
   no_new number sectors rising = not_of_line number (slice_get sectors (length sectors - 1)) (λ filled is.
@@ -221,7 +215,7 @@ module _ (drives : ℕ) where
   added_is number old new added =
       ap (λ (s : List Filled). is_astray number drives s) added.all
       ∙ ap (is_of_line number drives) (last_is old added.filled)
-      ∙ ap (λ b. b && nat_le drives added.filled.drive) (same_number added.filled.line number added.numbered)
+      ∙ ap (λ b. b && nat_le drives added.filled.drive) (eq-eqb added.filled.line number added.numbered)
 
   -- ---- the first bad line
 

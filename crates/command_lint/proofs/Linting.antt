@@ -1,12 +1,13 @@
 -- Lines are named one after another, and what is handed in is then written.
-use Rattle.std.proofs.Common.{◌≡◌, ℕ, ◌+◌, ◌-◌, ◌<◌, ◌≤◌, ◌⊎◌, inl, inr, ◌++◌, Bool, true, false, Option, Some, None, List, [], ◌∷◌, Result, Ok, Err, length, refl, subst, sym, ap, ◌∙◌, append-nil, append_assoc, arith, take}
-use Rattle.std.specs.Prelude.{IfErr, IfSome, OnOk, nat_lt}
+use Rattle.std.proofs.Common.{◌≡◌, ℕ, ◌+◌, ◌-◌, ◌<◌, ◌≤◌, ◌⊎◌, inl, inr, ◌++◌, Option, Some, None, List, [], ◌∷◌, Result, Ok, Err, length, refl, subst, sym, ap, ◌∙◌, append-nil, append_assoc, take}
+use Rattle.std.specs.Prelude.{IfErr, IfSome, OnOk}
 use Rattle.std.specs.List.{flat_map}
 use Rattle.std.specs.Result.{IsErrAnd}
 use Rattle.std.specs.Io.KnownBytes.{Appends, Keeps, append_known}
-use Rattle.std.proofs.lemmas.Bool.Decides.{nat_tests}
+use Rattle.std.proofs.lemmas.Bool.{le-ltb, lt-ltb}
 use Rattle.std.proofs.lemmas.Grind.{flat_map-append}
-use Rattle.command_ending.proofs.Handing.{appends_on, keeps-appends, keeps_refl, settled, settled_line}
+use Rattle.std.proofs.KnownBytes.{Appends-trans, Keeps-refl}
+use Rattle.command_ending.proofs.Handing.{keeps-appends, settled, settled_line}
 use Rattle.command_ending.specs.Reports.{AddsLine}
 use Rattle.command_ending.specs.Statuses.{of_input}
 use Rattle.command_ending.specs.declared.failure.Failure.{Failure}
@@ -24,7 +25,7 @@ use Rattle.script_language.specs.declared.line.Line.{Line}
 -- ---- some lines are named
 
 pub names_none : (old : Option (List ℕ)) → NamesEach [] old old
-names_none old = keeps-appends old old (keeps_refl old)
+names_none old = keeps-appends old old (Keeps-refl old)
 
 pub some_none : (bads : List Bad) (old : Option (List ℕ)) → NamesSome bads old old
 some_none bads old = record { named = []; left = bads; are = refl; each = names_none old }
@@ -32,7 +33,7 @@ some_none bads old = record { named = []; left = bads; are = refl; each = names_
 names_then : (bads more : List Bad) (old mid new : Option (List ℕ)) → NamesEach bads old mid → NamesEach more mid new
     → NamesEach (bads ++ more) old new
 names_then bads more old mid new first next = subst (Appends old new) (sym (flat_map-append row_text bads more))
-    (appends_on old mid new (flat_map row_text bads) (flat_map row_text more) first next)
+    (Appends-trans old mid new (flat_map row_text bads) (flat_map row_text more) first next)
 
 -- a call that fails, and so ends this one
 pub names_until : (bads : List Bad) (result : Result (Unit {0}) Failure) (e : Failure) (old new : Option (List ℕ))
@@ -106,12 +107,6 @@ on_last all left now (Ok done) old mid new h is more =
     on_all all [] old new (on_more all left now [] old mid new h (is ∙ sym (append-nil now)) more) refl
 on_last all left now (Err e) old mid new h is more = on_but all left now [] e old mid new h (is ∙ sym (append-nil now)) more
 
-lt_true : (a b : ℕ) → a < b → nat_lt a b ≡ true
-lt_true a b h = grind (arith, nat_tests)
-
-lt_false : (a b : ℕ) → b ≤ a → nat_lt a b ≡ false
-lt_false a b h = grind (arith, nat_tests)
-
 module _ (drives room number : ℕ) (all : List (List ℕ)) (said : Said) where
   -- no line is left
   pub from_none : all ≡ [] → bad_from drives room number all said ≡ []
@@ -122,14 +117,14 @@ module _ (drives room number : ℕ) (all : List (List ℕ)) (said : Said) where
     -- one has no room
     pub from_far : room < length line → bad_from drives room number all said ≡ named number Size ∷ []
     unfolding bad_from
-    from_far h = rw is (rw (lt_true room (length line) h) refl)
+    from_far h = rw is (rw (lt-ltb room (length line) h) refl)
 
     -- one has
     pub from_on : length line ≤ room → bad_from drives room number all said
         ≡ bad_at drives number (text_of line) said
         ++ bad_from drives (room - length line) (number + 1) lines (line_after number (text_of line) said)
     unfolding bad_from
-    from_on h = rw is (rw (lt_false room (length line) h) refl)
+    from_on h = rw is (rw (le-ltb room (length line) h) refl)
 
 -- the bad lines of a text are those from its first line on
 pub names_lines : (text : List ℕ) (drives : ℕ) (said : Said) (result : Result (Unit {0}) Failure) (old new : Option (List ℕ))

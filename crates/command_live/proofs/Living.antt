@@ -184,10 +184,6 @@ has_ended setup given lines boot backup_boot booted typed0 typed1 winner primary
     }
 
 -- what is said of a value, if there is one, is said of what it implies
-pub if_ok : {A E : Type 0} (result : Result A E) (P Q : A → Type 0) → ((a : A) → P a → Q a) → IfOk result P → IfOk result Q
-if_ok (Ok a) P Q more h = more a h
-if_ok (Err e) P Q more h = tt
-
 pub if_both : {A E : Type 0} (result : Result A E) (P Q R : A → Type 0) → ((a : A) → P a → Q a → R a) → IfOk result P
     → IfOk result Q → IfOk result R
 if_both (Ok a) P Q R more h i = more a h i

@@ -3,13 +3,14 @@ use Rattle.std.proofs.Common.{◌≡◌, ℕ, Option, Some, List, [], ◌∷◌,
 use Rattle.std.specs.Prelude.{◌⊎◌, IfErr, take}
 use Rattle.std.specs.Result.{IsErrAnd}
 use Rattle.std.specs.Io.KnownBytes.{Appends, Keeps, append_known}
+use Rattle.std.proofs.KnownBytes.{Appends-trans}
 use Rattle.altair_copies.specs.Copies.{image_copy}
 use Rattle.disk_dcdd.specs.declared.sector.SectorWrite.{SectorWrite}
 use Rattle.guest_board.specs.Guest.{altair}
 use Rattle.guest_lockstep.specs.Machine.{Machine}
 use Rattle.pair_protocol.specs.Copying.{Copying}
 use Rattle.pair_protocol.specs.World.{World}
-use Rattle.command_ending.proofs.Handing.{appends_on, keeps-appends, settled, settled_kept, settled_line}
+use Rattle.command_ending.proofs.Handing.{keeps-appends, settled, settled_kept, settled_line}
 use Rattle.command_script.specs.Answering.{AddsAnswers, Answered, Asks, Booted, ByRow, Happen, NoLine, Nothing, Replies, Tells, text_of}
 use Rattle.command_script.specs.Printing.{AnswersBut, AnswersLines, HandsNone, IsSameAfter, Prints, PrintsBut, PrintsVerdict}
 use Rattle.command_ending.specs.Reports.{AddsLine}
@@ -57,7 +58,7 @@ module _ {S : Type 0} (M : Machine S) (C : Copying S) where
     texts = all.texts;
     answered = all.answered;
     added = subst (λ bytes. Appends old new bytes) (append-nil (text_of all.texts))
-        (appends_on old mid new (text_of all.texts) [] all.added (keeps-appends mid new k));
+        (Appends-trans old mid new (text_of all.texts) [] all.added (keeps-appends mid new k));
   }
 
   pub adds_more : (w v after : World S) (lines others : List Line) (old mid next new : Option (List ℕ))
@@ -68,7 +69,7 @@ module _ {S : Type 0} (M : Machine S) (C : Copying S) where
         texts = first.texts ++ more.texts;
         answered = answered-append w v after lines others first.texts more.texts first.answered more.answered;
         added = subst (λ bytes. Appends old new bytes) (sym (text_of-append first.texts more.texts))
-            (appends_on old next new (text_of first.texts) (text_of more.texts) first.added more.added);
+            (Appends-trans old next new (text_of first.texts) (text_of more.texts) first.added more.added);
       }
 
   -- a line with one answer

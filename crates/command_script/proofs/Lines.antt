@@ -3,6 +3,7 @@ use Rattle.std.proofs.Common.{◌≡◌, ℕ, ◌+◌, ◌<◌, List, [], ◌∷
 use Rattle.std.specs.Prelude.{OnOk, take}
 use Rattle.std.specs.Io.KnownBytes.{Keeps}
 use Rattle.std.proofs.lemmas.List.{take_more}
+use Rattle.std.proofs.KnownBytes.{Keeps-refl}
 use Rattle.ft_node.specs.Roles.{node_count}
 use Rattle.ft_world.specs.Applies.{Happens, Shows}
 use Rattle.ft_world.specs.Running.{Running}
@@ -21,7 +22,6 @@ use Rattle.command_script.specs.Answering.{AddsAnswers, Answered, Asks, ByRow, H
 use Rattle.command_ending.specs.Reports.{AddsLine}
 use Rattle.command_script.specs.Running.{HasHappened, HaveAnswers, HaveHappened}
 use Rattle.command_ending.specs.declared.failure.Failure.{Failure}
-use Rattle.command_ending.proofs.Handing.{keeps_refl}
 use Rattle.command_script.proofs.Answering.{adds_more, adds_none, adds_one, happen-append}
 use Rattle.pair_setup.specs.Queries.{Finds}
 use Rattle.script_language.specs.declared.line.Line.{Line}
@@ -106,7 +106,7 @@ module _ {B H S : Type 0} (state : B → S) (copied : B → Guest) (M : Machine 
       → HaveAnswers state copied M c [] v a a
   answers_none v a c shows = record {
     after = c.world;
-    adds = adds_none (machine_of M c) c.copying c.world a a (keeps_refl a);
+    adds = adds_none (machine_of M c) c.copying c.world a a (Keeps-refl a);
     shows = shows;
   }
 

@@ -3,6 +3,7 @@ use Rattle.std.proofs.lemmas.List.Folds.{list_any-append}
 use Rattle.std.proofs.Common.{ℕ, ◌≡◌, ◌||◌, false, Option, Some, None, IfSome, List, [], ◌∷◌, ◌++◌, append-nil, append_assoc, refl, sym, ap, ◌∙◌, subst}
 use Rattle.std.specs.Io.KnownBytes.{Consumes}
 use Rattle.std.specs.List.{list_any}
+use Rattle.std.proofs.KnownBytes.{Consumes-nil, Consumes-trans}
 use Rattle.pair_lines.proofs.Same.{same_start_on}
 use Rattle.rtrb.specs.Ring.{SameProducer, sent}
 use Rattle.console_terminal.specs.Commands.{Grows}
@@ -16,7 +17,6 @@ use Rattle.console_terminal.specs.declared.listener.Ending.{Ending}
 use Rattle.console_terminal.specs.declared.listener.Listener.{Listener}
 use Rattle.console_terminal.specs.declared.note.Note.{Note}
 use Rattle.console_terminal.specs.declared.port.Port.{Port}
-use Rattle.console_terminal.proofs.Bytes.{consumes_both, consumes_none}
 
 -- ---- some bytes after others
 
@@ -132,7 +132,7 @@ module _ {S I : Type 0} (left : S → Option (List ℕ)) (given : I → Option (
       record {
         bytes = p.bytes ++ q.bytes;
         said = p.said ++ q.said;
-        taken = consumes_both (left a.source) (left b.source) (left c.source) p.bytes q.bytes p.taken q.taken;
+        taken = Consumes-trans (left a.source) (left b.source) (left c.source) p.bytes q.bytes p.taken q.taken;
         escape = q.escape ∙ p.escape;
         place = q.place ∙ ap (place_after ending) all;
         first = on_top (sent a.first) (sent b.first) (sent c.first) (strokes_at Port.Zero e at p.bytes) (strokes_at Port.Zero b.desk.escape (place_of b.desk) q.bytes) _ (strokes_after ending) p.first q.first (strokes Port.Zero);
@@ -209,7 +209,7 @@ module _ {S I : Type 0} (left : S → Option (List ℕ)) (given : I → Option (
       → sent b.notes ≡ sent a.notes → b.interpreter ≡ a.interpreter
       → SameProducer a.first b.first → SameProducer a.second b.second → SameProducer a.notes b.notes → Listens left given None a b
   none_yet a b source desk first second notes commands one two three =
-      of_none None a b refl (subst (λ s. Consumes (left a.source) (left s) []) (sym source) (consumes_none (left a.source)))
+      of_none None a b refl (subst (λ s. Consumes (left a.source) (left s) []) (sym source) (Consumes-nil (left a.source)))
       (ap (λ d. d.escape) desk) (ap place_of desk)
       (first ∙ sym (append-nil (sent a.first))) (second ∙ sym (append-nil (sent a.second))) (subst (λ i. Grows (given a.interpreter) (given i) []) (sym commands) (grows_none (given a.interpreter)))
       (notes ∙ sym (append-nil (sent a.notes))) one two three

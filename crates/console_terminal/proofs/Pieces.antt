@@ -6,6 +6,7 @@ use Rattle.std.specs.Global.{Global}
 use Rattle.std.specs.declared.string.String.{String}
 use Rattle.std.specs.Io.KnownBytes.{Appends}
 use Rattle.std.specs.Prelude.{string_bytes}
+use Rattle.std.proofs.KnownBytes.{Appends-nil, Appends-trans}
 use Rattle.pair_lines.proofs.Same.{same_end, same_end_on}
 use Rattle.pair_lines.specs.Lines.{shown_at}
 use Rattle.pair_lines.specs.declared.screen.Shown.{Shown}
@@ -15,7 +16,6 @@ use Rattle.console_terminal.specs.Screen.{AreSeen, IsClear, Piece, Wrote, beside
 use Rattle.console_terminal.specs.declared.note.Note.{Note}
 use Rattle.console_terminal.specs.declared.port.Port.{Port}
 use Rattle.console_terminal.specs.declared.display.Display.{Display}
-use Rattle.console_terminal.proofs.Bytes.{appends_both, appends_none}
 use Rattle.console_terminal.proofs.Seen.{byte_clear, byte_parted, one_byte, seen_bytes, seen_clear, seen_now, seen_parted, shown_both}
 
 -- ---- lists of pieces, one after another
@@ -82,9 +82,9 @@ module _ {W N : Type 0} (screen : W → Option (List ℕ)) (notes : N → Option
     pieces = p.pieces ++ q.pieces;
     accepted = p.accepted ++ q.accepted;
     bytes = subst (Appends (screen a.screen) (screen c.screen)) (sym (bytes_both p.pieces q.pieces))
-        (appends_both (screen a.screen) (screen b.screen) (screen c.screen) (bytes_of p.pieces) (bytes_of q.pieces) p.bytes q.bytes);
+        (Appends-trans (screen a.screen) (screen b.screen) (screen c.screen) (bytes_of p.pieces) (bytes_of q.pieces) p.bytes q.bytes);
     texts = subst (Appends (notes a.notes) (notes c.notes)) (sym (flat_map-append beside_of p.pieces q.pieces))
-        (appends_both (notes a.notes) (notes b.notes) (notes c.notes) (texts_of p.pieces) (texts_of q.pieces) p.texts q.texts);
+        (Appends-trans (notes a.notes) (notes b.notes) (notes c.notes) (texts_of p.pieces) (texts_of q.pieces) p.texts q.texts);
     came = on_top (received a.shown) (received b.shown) (received c.shown) p.accepted q.accepted _ p.came q.came refl;
     guest = λ port.
         ap (λ l. l ++ shown_at port c.kept.items)
@@ -113,7 +113,7 @@ module _ {W N : Type 0} (screen : W → Option (List ℕ)) (notes : N → Option
     pieces = pieces;
     accepted = [];
     bytes = subst (Appends (screen a.screen) (screen b.screen)) (sym (ap (map (λ (s : Shown). s.byte)) none))
-        (subst (λ w. Appends (screen a.screen) (screen w) []) (sym same_screen) (appends_none (screen a.screen)));
+        (subst (λ w. Appends (screen a.screen) (screen w) []) (sym same_screen) (Appends-nil (screen a.screen)));
     texts = texts;
     came = shown ∙ sym (append-nil (received a.shown));
     guest = λ port. ap (λ l. shown_at port l ++ shown_at port b.kept.items) none ∙ ap (λ k. shown_at port k.items) kept
@@ -134,7 +134,7 @@ module _ {W N : Type 0} (screen : W → Option (List ℕ)) (notes : N → Option
       → SameConsumer a.shown b.shown → SameConsumer a.said b.said → SameConsumer a.told b.told → Wrote screen notes a b
   of_nothing a b clear same_screen same_notes kept look shown said told one two three =
       beside [] a b refl tt refl clear same_screen kept look shown
-      (subst (λ n. Appends (notes a.notes) (notes n) []) (sym same_notes) (appends_none (notes a.notes)))
+      (subst (λ n. Appends (notes a.notes) (notes n) []) (sym same_notes) (Appends-nil (notes a.notes)))
       (said ∙ sym (append-nil (received a.said))) (told ∙ sym (append-nil (received a.told))) one two three
 
   pub nothing_yet : (a : Display W N) → IsClear a → Wrote screen notes a a
@@ -192,7 +192,7 @@ module _ {W N : Type 0} (screen : W → Option (List ℕ)) (notes : N → Option
         bytes = subst (Appends (screen a.screen) (screen b.screen))
             (sym (ap (map (λ (s : Shown). s.byte)) guest.guest ∙ one_byte is_seen s)) bytes;
         texts = subst (Appends (notes a.notes) (notes b.notes)) (sym guest.texts)
-            (subst (λ n. Appends (notes a.notes) (notes n) []) (sym same_notes) (appends_none (notes a.notes)));
+            (subst (λ n. Appends (notes a.notes) (notes n) []) (sym same_notes) (Appends-nil (notes a.notes)));
         came = shown;
         guest = λ port. ap (λ l. shown_at port l ++ shown_at port b.kept.items) guest.guest
             ∙ ap (λ l. shown_at port now ++ shown_at port l) kept ∙ byte_parted a.look port s a.kept.items is_seen refl (clear port);

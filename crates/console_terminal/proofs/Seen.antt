@@ -1,6 +1,7 @@
 -- What is seen of what was kept, or of one byte that was accepted, and what stays: lists of bytes of one port or of both.
 use Rattle.std.proofs.lemmas.Bool.Decides.{nat_tests}
 use Rattle.std.proofs.Common.{ℕ, ◌==◌, ◌≡◌, Bool, true, false, if◌then◌else◌, filter, map, Option, Some, None, List, [], ◌∷◌, ◌++◌, append-nil, refl, sym, ap, ◌∙◌, subst, arith}
+use Rattle.std.proofs.lemmas.Bool.{false≢true}
 use Rattle.std.specs.Prelude.{not}
 use Rattle.pair_lines.specs.Lines.{shown_at}
 use Rattle.pair_lines.specs.declared.screen.Shown.{Shown}
@@ -129,9 +130,7 @@ byte_parted look port s kept false h clear = shown_both port kept (s ∷ [])
 
 not_here : (look : Option Port) (port : ℕ) (s : Shown) (is_here : Bool) → (s.port == port) ≡ is_here → is_looked_at look s.port ≡ false
     → is_looked_at look port ≡ true → shown_at port (s ∷ []) ≡ []
-not_here look port s true here h at = absurd (differ (sym (looked_too look port s false h here) ∙ at)) where
-  differ : false ≡ true → ⊥
-  differ p = cc
+not_here look port s true here h at = absurd (false≢true (sym (looked_too look port s false h here) ∙ at))
 not_here look port s false here h at = rw here refl
 
 pub byte_clear : (look : Option Port) (port : ℕ) (s : Shown) (kept : List Shown) (is_seen : Bool) → is_looked_at look s.port ≡ is_seen

@@ -5,6 +5,7 @@ use Rattle.std.specs.List.{concat}
 use Rattle.std.specs.Io.KnownBytes.{Appends}
 use Rattle.std.proofs.lemmas.List.{map-append}
 use Rattle.std.proofs.lemmas.List.Folds.{concat-append}
+use Rattle.std.proofs.KnownBytes.{Appends-trans, Keeps-refl}
 use Rattle.ft_world.specs.Applies.{Nothing, Shows}
 use Rattle.ft_world.specs.Running.{Running}
 use Rattle.ft_world.specs.Standing.{Course}
@@ -28,7 +29,7 @@ use Rattle.shell_language.specs.declared.line.ShellLine.TheVariants as shell
 use Rattle.shell_language.specs.declared.look.Look.{Look}
 use Rattle.shell_opening.specs.Openings.{SetsUpSaid}
 use Rattle.shell_opening.specs.declared.opening.Opening.{Opening}
-use Rattle.command_ending.proofs.Handing.{appends_on, keeps-appends, keeps_refl}
+use Rattle.command_ending.proofs.Handing.{keeps-appends}
 use Rattle.pair_shell.specs.Answering.{AreAnswers, Boots, Further, GoesOn, HasSeen, IsAnswer, Next, NoLine, Once, PairPasses, Passes, Sees, SeesSaid, Sitting, begun}
 use Rattle.pair_shell.specs.Lines.{is_run_line, without_cr}
 use Rattle.pair_shell.specs.Running.{AnswersAll, AnswersEach, AnswersFurther, Desk, PairShows, sitting}
@@ -60,7 +61,7 @@ module _ {B H : Type 0} (guest : B → Guest) where
     pair = pair;
     shows = shows;
     answered = NoLine;
-    written = keeps-appends old old (keeps_refl old);
+    written = keeps-appends old old (Keeps-refl old);
   }
 
   pub each_then : (a b c : Desk B H) (lines more : List (List ℕ)) (old mid new : Option (List ℕ))
@@ -77,7 +78,7 @@ module _ {B H : Type 0} (guest : B → Guest) where
             (are_then (sitting a pair) (sitting b f.pair) (sitting c n.pair) (map without_cr lines) (map without_cr more) f.answers
             n.answers f.answered n.answered);
         written = subst (Appends old new) (sym (concat-append f.answers n.answers))
-            (appends_on old mid new (concat f.answers) (concat n.answers) f.written n.written);
+            (Appends-trans old mid new (concat f.answers) (concat n.answers) f.written n.written);
       }
 
   -- what the session is after them does not matter any more
@@ -279,5 +280,5 @@ module _ {B H : Type 0} (guest : B → Guest) where
         shows = r.1.1;
         answered = f.1.0;
         written = subst (Appends before new) (f.1.1 ∙ sym (append-nil f.0))
-            (appends_on before old new (concat h.answers) more h.written written);
+            (Appends-trans before old new (concat h.answers) more h.written written);
       }

@@ -3,7 +3,7 @@ use Rattle.std.proofs.Common.{◌≡◌, ℕ, ◌++◌, ◌∷◌, ◌∙◌, Bo
 use Rattle.std.specs.Prelude.{◌==◌, IfErr, IfOk, IfSome, MatchOption, if◌then◌else◌, take}
 use Rattle.std.specs.Io.KnownBytes.{Appends, Consumes, IsAtEnd}
 use Rattle.std.specs.Result.{IsErrAnd}
-use Rattle.std.proofs.KnownBytes.{Consumes-trans}
+use Rattle.std.proofs.KnownBytes.{Appends-trans, Consumes-trans, Keeps-refl, Consumes-nil}
 use Rattle.guest_parts.specs.Guest.{Guest}
 use Rattle.shared_disk.specs.Failing.{Disk}
 use Rattle.ft_world.specs.Running.{Running}
@@ -16,15 +16,15 @@ use Rattle.pair_shell.proofs.Answering.{each_all, each_none, each_then}
 use Rattle.pair_shell.proofs.Lines.{ends_on, heard_on, kept_on, quits_at}
 use Rattle.command_ending.specs.declared.failure.Failure.{Failure}
 use Rattle.command_ending.specs.declared.failure.Failure.TheVariants as failure
-use Rattle.command_ending.proofs.Handing.{appends_on, keeps-appends, keeps_refl}
+use Rattle.command_ending.proofs.Handing.{keeps-appends}
 
 -- nothing was written yet
 pub writes_none : (old : Option (List ℕ)) → Writes old old
-writes_none old = ([], keeps-appends old old (keeps_refl old))
+writes_none old = ([], keeps-appends old old (Keeps-refl old))
 
 -- more was written
 pub writes_more : (old mid new : Option (List ℕ)) → Writes old mid → Writes mid new → Writes old new
-writes_more old mid new first more = (first.0 ++ more.0, appends_on old mid new first.0 more.0 first.1 more.1)
+writes_more old mid new first more = (first.0 ++ more.0, Appends-trans old mid new first.0 more.0 first.1 more.1)
 
 -- a failure after the first answers
 fails_then : (e : Failure) (old mid new : Option (List ℕ)) → Writes old mid → AnswersTo e mid new → AnswersTo e old new
@@ -52,10 +52,6 @@ pub wrote : (answer : List ℕ) (old new : Option (List ℕ)) → Appends old ne
 wrote answer old new h = (answer, h)
 
 -- an input of which nothing was read yet, and one at its end
-consumes_none : (first : Option (List ℕ)) → Consumes first first []
-consumes_none None = tt
-consumes_none (Some bytes) = refl
-
 at_end : (after : Option (List ℕ)) (rest : List ℕ) → IsAtEnd after → after ≡ Some rest → rest ≡ []
 at_end after rest end is = subst IsAtEnd is end
 
@@ -106,7 +102,7 @@ module _ {B H : Type 0} (guest : B → Guest) where
       → HasRead d d first first line old old
   read_none d first line old none = record {
     bytes = [];
-    taken = consumes_none first;
+    taken = Consumes-nil first;
     kept = none;
     goes_on = refl;
     heard = each_none guest d old;

@@ -1,5 +1,6 @@
 -- Lines that end among bytes, and among those that come after others.
 use Rattle.std.proofs.Common.{◌≡◌, ℕ, ◌++◌, ◌∷◌, ◌||◌, ◌∙◌, Bool, true, false, List, [], refl, sym, ap, length, append-nil, append_assoc, arith}
+use Rattle.std.proofs.lemmas.Bool.{or_parts}
 use Rattle.std.specs.Prelude.{if◌then◌else◌}
 use Rattle.pair_shell.specs.Lines.{after_byte, byte_ends, ends_in, heard, heard_at, heard_in, kept_in, last_line}
 
@@ -40,14 +41,6 @@ last_none (byte ∷ line) none = absurd (omega (arith, none))
 
 -- ---- bytes after others
 
-or_left : (a b : Bool) → (a || b) ≡ false → a ≡ false
-or_left true b h = h
-or_left false b h = refl
-
-or_right : (a b : Bool) → (a || b) ≡ false → b ≡ false
-or_right true b h = cc
-or_right false b h = h
-
 -- what is kept of them
 pub kept_on : (line bytes more : List ℕ) → kept_in line (bytes ++ more) ≡ kept_in (kept_in line bytes) more
 kept_on line [] more = refl
@@ -57,8 +50,8 @@ kept_on line (byte ∷ bytes) more = kept_on (after_byte line byte) bytes more
 pub ends_on : (line bytes more : List ℕ) → ends_in line bytes ≡ false → ends_in line (bytes ++ more) ≡ ends_in (kept_in line bytes) more
 ends_on line [] more not = refl
 ends_on line (byte ∷ bytes) more not =
-    ap (λ b. b || ends_in (after_byte line byte) (bytes ++ more)) (or_left (byte_ends line byte) (ends_in (after_byte line byte) bytes) not)
-    ∙ ends_on (after_byte line byte) bytes more (or_right (byte_ends line byte) (ends_in (after_byte line byte) bytes) not)
+    ap (λ b. b || ends_in (after_byte line byte) (bytes ++ more)) (or_parts (byte_ends line byte) (ends_in (after_byte line byte) bytes) not).0
+    ∙ ends_on (after_byte line byte) bytes more (or_parts (byte_ends line byte) (ends_in (after_byte line byte) bytes) not).1
 
 -- and their lines come after those of the first
 pub heard_on : (line bytes more : List ℕ) → ends_in line bytes ≡ false
@@ -66,11 +59,11 @@ pub heard_on : (line bytes more : List ℕ) → ends_in line bytes ≡ false
 heard_on line [] more not = refl
 heard_on line (byte ∷ bytes) more not =
     let after = after_byte line byte in
-    let e = or_left (byte_ends line byte) (ends_in after bytes) not in
-    ap (λ b. heard_at line byte ++ (if b then [] else heard_in after (bytes ++ more))) e
-    ∙ ap (λ l. heard_at line byte ++ l) (heard_on after bytes more (or_right (byte_ends line byte) (ends_in after bytes) not))
+    let e = or_parts (byte_ends line byte) (ends_in after bytes) not in
+    ap (λ b. heard_at line byte ++ (if b then [] else heard_in after (bytes ++ more))) e.0
+    ∙ ap (λ l. heard_at line byte ++ l) (heard_on after bytes more e.1)
     ∙ sym (append_assoc (heard_at line byte) (heard_in after bytes) (heard_in (kept_in after bytes) more))
-    ∙ ap (λ b. (heard_at line byte ++ (if b then [] else heard_in after bytes)) ++ heard_in (kept_in after bytes) more) (sym e)
+    ∙ ap (λ b. (heard_at line byte ++ (if b then [] else heard_in after bytes)) ++ heard_in (kept_in after bytes) more) (sym e.0)
 
 -- if the first end it, nothing after them is heard
 ended-at : (line bytes more : List ℕ) (byte : ℕ) (test : Bool) → byte_ends line byte ≡ test

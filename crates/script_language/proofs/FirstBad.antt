@@ -4,17 +4,12 @@
 use Rattle.std.proofs.Common.{◌≡◌, ℕ, ◌+◌, ◌-◌, ◌<◌, ◌≤◌, ◌⊎◌, inl, inr, List, [], ◌∷◌, ◌++◌, length, Bool, true, false, Option, Some, None, refl, sym, ap, subst, ◌∙◌, arith}
 use Rattle.std.specs.Prelude.{nat_lt}
 use Rattle.std.specs.Option.{option_or}
-use Rattle.std.proofs.lemmas.Bool.Decides.{nat_tests}
+use Rattle.std.proofs.lemmas.Bool.{ltb-false, ltb-true}
+use Rattle.std.proofs.lemmas.Option.{none-some, same_Some}
 use Rattle.script_language.specs.Text.{text_of}
 use Rattle.script_language.specs.Meaning.{Said, read, unless_bad, with_bad, with_line}
 use Rattle.script_language.specs.BadLines.{bytes_in}
 use Rattle.script_language.proofs.Kept.{taken_keeps}
-
-lt_true : (a b : ℕ) → nat_lt a b ≡ true → a < b
-lt_true a b h = grind (arith, nat_tests)
-
-lt_false : (a b : ℕ) → nat_lt a b ≡ false → b ≤ a
-lt_false a b h = grind (arith, nat_tests)
 
 -- the line of this number among these is not valid, if they are read from the first number on, in this much room, after
 -- what was said
@@ -82,7 +77,7 @@ after_one-none : (room number : ℕ) (said : Said) (line : List ℕ) (before : L
     → ((room - length line < bytes_in before + length found)
     ⊎ (with_line bad (text_of found) (read (room - length line) (number + 1) before (next_said number line said)) ≡ None))
     → (room < bytes_in (line ∷ before) + length found) ⊎ (with_line bad (text_of found) (read room number (line ∷ before) said) ≡ None)
-after_one-none room number said line before found bad e (inl far) = inl (let fits = lt_false room (length line) e in omega (arith, far, fits))
+after_one-none room number said line before found bad e (inl far) = inl (let fits = ltb-false room (length line) e in omega (arith, far, fits))
 after_one-none room number said line before found bad e (inr none) =
     inr (subst (λ (s : Said). with_line bad (text_of found) s ≡ None) (sym (read_on room number line before said e)) none)
 
@@ -97,19 +92,13 @@ after_one room number said line lines bad e h = record {
   none = after_one-none room number said line h.before h.line bad e h.none;
 }
 
-pub some_is : (a b : ℕ) → Some a ≡ Some b → a ≡ b
-some_is a b e = cc
-
-pub none_is_not_some : (k : ℕ) → None ≡ Some k → ⊥
-none_is_not_some k e = cc
-
 -- what was read names a line that is not valid
 named-far : (room number : ℕ) (said : Said) (line : List ℕ) (lines : List (List ℕ)) (k : ℕ) → nat_lt room (length line) ≡ true
     → said.bad ≡ None → (read room number (line ∷ lines) said).bad ≡ Some k → NoLineIn room number said (line ∷ lines) k
 named-far room number said line lines k e none h =
-    let is : number ≡ k = some_is number k (sym (ap (λ (bad : Option ℕ). option_or bad (Some number)) none)
+    let is : number ≡ k = same_Some number k (sym (ap (λ (bad : Option ℕ). option_or bad (Some number)) none)
     ∙ sym (ap (λ (s : Said). s.bad) (read_no_more room number line lines said e)) ∙ h) in
-    let far : room < length line = lt_true room (length line) e in
+    let far : room < length line = ltb-true room (length line) e in
     record { before = []; line = line; after = lines; all = refl; counted = omega (arith, is); none = inl (omega (arith, far)) }
 
 named-here : (room number : ℕ) (said : Said) (line : List ℕ) (lines : List (List ℕ)) (k : ℕ) → said.bad ≡ None
@@ -118,7 +107,7 @@ named-here : (room number : ℕ) (said : Said) (line : List ℕ) (lines : List (
 named-here room number said line lines k none e h =
     let bad : (next_said number line said).bad ≡ Some number
     = ap (λ (s : Said). s.bad) (next_bad number line said e) ∙ ap (λ (b : Option ℕ). option_or b (Some number)) none in
-    let is : number ≡ k = some_is number k
+    let is : number ≡ k = same_Some number k
     (sym (bad_stays lines (room - length line) (number + 1) (next_said number line said) number bad) ∙ h) in
     record {
       before = [];
@@ -153,7 +142,7 @@ named-at room number said line lines k false e none rest h =
 pub named : (lines : List (List ℕ)) (room number : ℕ) (said : Said) (k : ℕ) → said.bad ≡ None
     → (read room number lines said).bad ≡ Some k → NoLineIn room number said lines k
 named [] room number said k none h =
-    absurd (none_is_not_some k (sym none ∙ sym (ap (λ (s : Said). s.bad) (read_nothing room number said)) ∙ h))
+    absurd (none-some k (sym none ∙ sym (ap (λ (s : Said). s.bad) (read_nothing room number said)) ∙ h))
 named (line ∷ lines) room number said k none h =
     named-at room number said line lines k (nat_lt room (length line)) refl none
     (λ b on. named lines (room - length line) (number + 1) (next_said number line said) k b on) h
@@ -190,7 +179,7 @@ names_last : (room number : ℕ) (said : Said) (line : List ℕ) (after : List (
     → NamesBy (read room number (line ∷ after) said) bad
 names_last room number said line after bad true e none is h = names_far room number said line after bad e none (omega (arith, is))
 names_last room number said line after bad false e none is (inl far) =
-    let fits = lt_false room (length line) e in absurd (omega (arith, far, fits))
+    let fits = ltb-false room (length line) e in absurd (omega (arith, far, fits))
 names_last room number said line after bad false e none is (inr h) =
     names_here room number said line after bad e none (subst (λ (n : ℕ). with_line n (text_of line) said ≡ None) is h) (omega (arith, is))
 
@@ -208,7 +197,7 @@ before_one : (room number : ℕ) (said : Said) (line : List ℕ) (before : List 
     → (room < bytes_in (line ∷ before) + length found) ⊎ (with_line bad (text_of found) (read room number (line ∷ before) said) ≡ None)
     → (room - length line < bytes_in before + length found)
     ⊎ (with_line bad (text_of found) (read (room - length line) (number + 1) before (next_said number line said)) ≡ None)
-before_one room number said line before found bad e (inl far) = inl (let fits = lt_false room (length line) e in omega (arith, far, fits))
+before_one room number said line before found bad e (inl far) = inl (let fits = ltb-false room (length line) e in omega (arith, far, fits))
 before_one room number said line before found bad e (inr none) =
     inr (subst (λ (s : Said). with_line bad (text_of found) s ≡ None) (read_on room number line before said e) none)
 

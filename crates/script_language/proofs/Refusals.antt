@@ -1,20 +1,16 @@
 -- A script is refused exactly if some line is bad, and by the first of them: the lower of the first line that is not
 -- valid there and the first that says a sector that is astray.
-use Rattle.std.proofs.Common.{◌≡◌, ℕ, ◌+◌, ◌-◌, ◌<◌, ◌≤◌, inl, inr, List, [], ◌∷◌, length, Bool, true, false, Option, Some, None, refl, sym, subst, ◌∙◌, arith}
+use Rattle.std.proofs.Common.{◌≡◌, ℕ, ◌+◌, ◌-◌, ◌≤◌, inl, inr, List, [], ◌∷◌, length, Bool, true, false, Option, Some, None, refl, sym, subst, ◌∙◌, arith}
 use Rattle.std.specs.Prelude.{nat_lt, nat_le, min}
+use Rattle.std.proofs.lemmas.Bool.{leb-false, leb-true}
 use Rattle.std.proofs.lemmas.Bool.Decides.{nat_tests}
+use Rattle.std.proofs.lemmas.Option.{none-some, same_Some}
 use Rattle.script_language.specs.Text.{lines_of, text_of}
 use Rattle.script_language.specs.Booting.{Filled}
 use Rattle.script_language.specs.Meaning.{Said, astray_among, first_astray, lower_of, nothing_said, read, said_in, script_of, script_unless}
 use Rattle.script_language.specs.BadLines.{IsAstray, IsBad, IsNoLine, NamesFirstBad}
 use Rattle.script_language.proofs.Kept.{Rising, rising_line}
-use Rattle.script_language.proofs.FirstBad.{NoLineIn, NamesBy, named, names, next_said, read_no_more, read_nothing, read_on, some_is}
-
-le_true : (a b : ℕ) → nat_le a b ≡ true → a ≤ b
-le_true a b h = grind (arith, nat_tests)
-
-le_false : (a b : ℕ) → nat_le a b ≡ false → b < a
-le_false a b h = grind (arith, nat_tests)
+use Rattle.script_language.proofs.FirstBad.{NoLineIn, NamesBy, named, names, next_said, read_no_more, read_nothing, read_on}
 
 -- the first sector, astray or not
 astray_here : (drives : ℕ) (sector : Filled) (sectors : List Filled) → nat_le drives sector.drive ≡ true
@@ -25,16 +21,13 @@ astray_later : (drives : ℕ) (sector : Filled) (sectors : List Filled) → nat_
     → astray_among drives (sector ∷ sectors) ≡ astray_among drives sectors
 astray_later drives sector sectors e = rw e refl
 
-some_is_not_none : (k : ℕ) → Some k ≡ None → ⊥
-some_is_not_none k e = cc
-
 -- if none is named, none is astray
 
 none_astray-at : (drives : ℕ) (sector : Filled) (sectors : List Filled) (number : ℕ) (test : Bool) → nat_le drives sector.drive ≡ test
     → (astray_among drives sectors ≡ None → IsAstray drives number sectors → ⊥)
     → astray_among drives (sector ∷ sectors) ≡ None → IsAstray drives number (sector ∷ sectors) → ⊥
-none_astray-at drives sector sectors number true t rest e h = some_is_not_none sector.line (sym (astray_here drives sector sectors t) ∙ e)
-none_astray-at drives sector sectors number false t rest e (inl h) = let above = le_false drives sector.drive t in omega (arith, above, h.1)
+none_astray-at drives sector sectors number true t rest e h = none-some sector.line (sym e ∙ astray_here drives sector sectors t)
+none_astray-at drives sector sectors number false t rest e (inl h) = let above = leb-false drives sector.drive t in omega (arith, above, h.1)
 none_astray-at drives sector sectors number false t rest e (inr h) = rest (sym (astray_later drives sector sectors t) ∙ e) h
 
 none_astray : (drives : ℕ) (sectors : List Filled) (number : ℕ) → astray_among drives sectors ≡ None → IsAstray drives number sectors → ⊥
@@ -48,7 +41,7 @@ named_astray-at : (drives : ℕ) (sector : Filled) (sectors : List Filled) (numb
     → (astray_among drives sectors ≡ Some number → IsAstray drives number sectors)
     → astray_among drives (sector ∷ sectors) ≡ Some number → IsAstray drives number (sector ∷ sectors)
 named_astray-at drives sector sectors number true t rest e =
-    inl (some_is sector.line number (sym (astray_here drives sector sectors t) ∙ e), le_true drives sector.drive t)
+    inl (same_Some sector.line number (sym (astray_here drives sector sectors t) ∙ e), leb-true drives sector.drive t)
 named_astray-at drives sector sectors number false t rest e = inr (rest (sym (astray_later drives sector sectors t) ∙ e))
 
 named_astray : (drives : ℕ) (sectors : List Filled) (number : ℕ) → astray_among drives sectors ≡ Some number → IsAstray drives number sectors
@@ -72,15 +65,15 @@ first_is-at : (drives least : ℕ) (sector : Filled) (sectors : List Filled) (bo
     → (astray_among drives sectors ≡ Some number → IsAstray drives other sectors → number ≤ other)
     → astray_among drives (sector ∷ sectors) ≡ Some number → IsAstray drives other (sector ∷ sectors) → number ≤ other
 first_is-at drives least sector sectors bound number other true t rising rest e (inl h) =
-    let is = some_is sector.line number (sym (astray_here drives sector sectors t) ∙ e) in
+    let is = same_Some sector.line number (sym (astray_here drives sector sectors t) ∙ e) in
     let same = h.0 in
     omega (arith, is, same)
 first_is-at drives least sector sectors bound number other true t rising rest e (inr h) =
-    let is = some_is sector.line number (sym (astray_here drives sector sectors t) ∙ e) in
+    let is = same_Some sector.line number (sym (astray_here drives sector sectors t) ∙ e) in
     let later = not_below drives (sector.line + 1) sectors bound other rising.1 h in
     omega (arith, is, later)
 first_is-at drives least sector sectors bound number other false t rising rest e (inl h) =
-    let above = le_false drives sector.drive t in absurd (omega (arith, above, h.1))
+    let above = leb-false drives sector.drive t in absurd (omega (arith, above, h.1))
 first_is-at drives least sector sectors bound number other false t rising rest e (inr h) =
     rest (sym (astray_later drives sector sectors t) ∙ e) h
 
@@ -131,12 +124,12 @@ by_then text number h =
 no_line_is_none : (text : List ℕ) (number : ℕ) → (said_in text).bad ≡ None → IsNoLine text number → ⊥
 no_line_is_none text number e h =
     let named_by = by_then text number h in
-    some_is_not_none named_by.line (sym named_by.named ∙ e)
+    none-some named_by.line (sym e ∙ named_by.named)
 
 no_line_first : (text : List ℕ) (number other : ℕ) → (said_in text).bad ≡ Some number → IsNoLine text other → number ≤ other
 no_line_first text number other e h =
     let named_by = by_then text other h in
-    let is = some_is number named_by.line (sym e ∙ named_by.named) in
+    let is = same_Some number named_by.line (sym e ∙ named_by.named) in
     let first = named_by.first in
     omega (arith, is, first)
 

@@ -3,6 +3,7 @@
 use Rattle.std.proofs.Common.{◌≡◌, ℕ, ◌+◌, ◌-◌, List, [], ◌∷◌, ◌++◌, length, Bool, true, false, Option, Some, None, refl, sym, ap, subst, ◌∙◌, append-nil, append_assoc}
 use Rattle.std.specs.Prelude.{nat_lt, ◌==◌, if◌then◌else◌}
 use Rattle.std.specs.Option.{option_or}
+use Rattle.std.proofs.lemmas.Option.{none-some}
 use Rattle.script_language.specs.declared.keyword.Keyword.{Keyword}
 use Rattle.script_language.specs.declared.line.Line.{Line}
 use Rattle.script_language.specs.Words.{whole, words_of, ◌>>=◌}
@@ -11,7 +12,7 @@ use Rattle.script_language.specs.Grammar.{is_setup, keyword_of, line_of}
 use Rattle.script_language.specs.Booting.{Boot, boot_after}
 use Rattle.script_language.specs.Meaning.{Said, first_astray, lower_of, nothing_said, read, said_in, script_of, script_unless, with_boot, with_keyword, with_line, with_more, with_words}
 use Rattle.script_language.specs.SaidLines.{HasItsLines, line_by, line_said, lines_said, list_of}
-use Rattle.script_language.proofs.FirstBad.{bad_stays, next_bad, next_said, next_taken, none_is_not_some, read_no_more, read_nothing, read_on}
+use Rattle.script_language.proofs.FirstBad.{bad_stays, next_bad, next_said, next_taken, read_no_more, read_nothing, read_on}
 use Rattle.script_language.proofs.Kept.{taken_keeps}
 
 -- what was said has one more line, if this is one
@@ -60,9 +61,6 @@ taken_tells : (number : ℕ) (text : List ℕ) (said more : Said) → with_line 
     → more.lines ≡ said.lines ++ list_of (line_said text)
 taken_tells number text said more e = subst (Tells said (line_said text)) e (line_tells number text said)
 
-some_is_no_none : (k : ℕ) → Some k ≡ None → ⊥
-some_is_no_none k e = none_is_not_some k (sym e)
-
 -- reading, with no bad line
 abbrev IsSaid : Said → List (List ℕ) → Said → Type 0
 IsSaid said lines after = after.bad ≡ None → after.lines ≡ said.lines ++ lines_said lines
@@ -70,8 +68,8 @@ IsSaid said lines after = after.bad ≡ None → after.lines ≡ said.lines ++ l
 said_far : (room number : ℕ) (said : Said) (line : List ℕ) (lines : List (List ℕ)) → nat_lt room (length line) ≡ true → said.bad ≡ None
     → IsSaid said (line ∷ lines) (read room number (line ∷ lines) said)
 said_far room number said line lines e none good =
-    absurd (some_is_no_none number (sym (ap (λ (bad : Option ℕ). option_or bad (Some number)) none)
-    ∙ sym (ap (λ (s : Said). s.bad) (read_no_more room number line lines said e)) ∙ good))
+    absurd (none-some number (sym good ∙ ap (λ (s : Said). s.bad) (read_no_more room number line lines said e)
+    ∙ ap (λ (bad : Option ℕ). option_or bad (Some number)) none))
 
 said_next : (said next : Said) (line : List ℕ) (lines : List (List ℕ)) (after : Said)
     → next.lines ≡ said.lines ++ list_of (line_said (text_of line)) → after.lines ≡ next.lines ++ lines_said lines
@@ -87,7 +85,7 @@ said_on : (room number : ℕ) (said : Said) (line : List ℕ) (lines : List (Lis
 said_on room number said line lines None e none rest good =
     let bad : (next_said number line said).bad ≡ Some number
     = ap (λ (s : Said). s.bad) (next_bad number line said e) ∙ ap (λ (b : Option ℕ). option_or b (Some number)) none in
-    absurd (some_is_no_none number (sym (bad_stays lines room (number + 1) (next_said number line said) number bad) ∙ good))
+    absurd (none-some number (sym good ∙ bad_stays lines room (number + 1) (next_said number line said) number bad))
 said_on room number said line lines (Some more) e none rest good =
     let taken : next_said number line said ≡ more = next_taken number line said more e in
     let still : (next_said number line said).bad ≡ None

@@ -1,6 +1,6 @@
 -- The lines of a picture, one after another.
-use Rattle.std.proofs.Common.{◌≡◌, ◌∙◌, ℕ, suc, ◌+◌, ◌-◌, ◌<◌, ◌≤◌, List, Option, Some, None, Ok, Err, false, ◌∷◌, ◌++◌, [], refl, ap, subst, sym, arith, length}
-use Rattle.std.specs.Prelude.{IfOk, Result, is_some, slice_get}
+use Rattle.std.proofs.Common.{◌≡◌, ◌∙◌, ℕ, suc, ◌+◌, ◌-◌, ◌<◌, ◌≤◌, List, Option, Some, None, false, ◌∷◌, ◌++◌, [], refl, ap, subst, sym, arith, length}
+use Rattle.std.specs.Prelude.{is_some, slice_get}
 use Rattle.pair_events.specs.declared.reply.Role.{Role}
 use Rattle.sequence_diagram.specs.Columns.{columns_of}
 use Rattle.sequence_diagram.specs.Waits.{AreWaits}
@@ -15,11 +15,6 @@ use Rattle.shell_picture.specs.Pictures.{AreEvents, DrawsPicture, IsDrawn, IsEve
 use Rattle.shell_picture.specs.Words.{IsSaid}
 use Rattle.shell_picture.specs.declared.lanes.Stroke.{Stroke}
 use Rattle.shell_picture.specs.declared.words.Said.{Said}
-
--- what holds of a result without an error
-pub ok_then : {A E : Type 0} (r : Result A E) (P Q : A → Type 0) → ((x : A) → P x → Q x) → IfOk r P → IfOk r Q
-ok_then (Ok x) P Q f h = f x h
-ok_then (Err e) P Q f h = tt
 
 -- an event that tells nothing of a node leaves its role
 pub told_nothing : (moments : List Moment) (node before : ℕ) (told whole : Option Role) → 0 < before

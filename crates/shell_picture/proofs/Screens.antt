@@ -1,7 +1,7 @@
 -- The lines of a screen, one after another.
-use Rattle.std.proofs.Common.{◌≡◌, ℕ, ◌<◌, ◌≤◌, ◌∷◌, ◌++◌, ◌∙◌, [], true, false, List, Option, length, drop, refl, ap, sym, subst, arith, append-nil, append_assoc}
-use Rattle.std.specs.Prelude.{if◌then◌else◌, is_some, map, nat_lt, unwrap_or}
-use Rattle.std.proofs.lemmas.Bool.Decides.{nat_tests}
+use Rattle.std.proofs.Common.{◌≡◌, ℕ, ◌<◌, ◌≤◌, ◌∷◌, ◌++◌, ◌∙◌, [], List, Option, length, drop, refl, ap, sym, subst, append-nil, append_assoc}
+use Rattle.std.specs.Prelude.{if◌then◌else◌, is_some, map, unwrap_or}
+use Rattle.std.proofs.lemmas.Bool.{le-ltb, lt-ltb}
 use Rattle.i8080_words.specs.declared.refusal.Fault.TheVariants.{Unknown}
 use Rattle.script_language.specs.Text.{lines_of}
 use Rattle.shell_book.specs.Texts.{AddsLine, Prints, Row, Text}
@@ -33,19 +33,13 @@ pub on_all : (all left : List Row) (old new : Printed) → PrintsOn all left old
 on_all all left old new h none =
     subst (λ (rows : List Row). Prints rows old new) (sym (h.are ∙ ap (λ l. h.done ++ l) none ∙ append-nil h.done)) h.printed
 
-lt_true : (a b : ℕ) → a < b → nat_lt a b ≡ true
-lt_true a b h = grind (arith, nat_tests)
-
-lt_false : (a b : ℕ) → b ≤ a → nat_lt a b ≡ false
-lt_false a b h = grind (arith, nat_tests)
-
 -- a screen: its head, and its lines
 pub screen_shown : (port : ℕ) (bytes shown : List ℕ) (seen : Option ℕ) (old mid new : Printed) → port < 2
     → shown ≡ drop (unwrap_or seen 0) bytes → AddsLine (head_text port (length shown) (is_some seen)) old mid
     → Prints (line_rows shown) mid new → Prints (screen_rows port bytes seen) old new
 screen_shown port bytes shown seen old mid new less is head lines =
     subst (λ b. Prints (if b then Text (head_text port (length (drop (unwrap_or seen 0) bytes)) (is_some seen))
-    ∷ line_rows (drop (unwrap_or seen 0) bytes) else refused Unknown ∷ []) old new) (sym (lt_true port 2 less))
+    ∷ line_rows (drop (unwrap_or seen 0) bytes) else refused Unknown ∷ []) old new) (sym (lt-ltb port 2 less))
     (subst (λ (s : List ℕ). Prints (Text (head_text port (length s) (is_some seen)) ∷ line_rows s) old new) is
     (prints_then (Text (head_text port (length shown) (is_some seen)) ∷ []) (line_rows shown) old mid new
     (prints_text (head_text port (length shown) (is_some seen)) old mid head) lines))
@@ -54,4 +48,4 @@ pub screen_refused : (port : ℕ) (bytes : List ℕ) (seen : Option ℕ) (old ne
     → Prints (refused Unknown ∷ []) old new → Prints (screen_rows port bytes seen) old new
 screen_refused port bytes seen old new more h =
     subst (λ b. Prints (if b then Text (head_text port (length (drop (unwrap_or seen 0) bytes)) (is_some seen))
-    ∷ line_rows (drop (unwrap_or seen 0) bytes) else refused Unknown ∷ []) old new) (sym (lt_false port 2 more)) h
+    ∷ line_rows (drop (unwrap_or seen 0) bytes) else refused Unknown ∷ []) old new) (sym (le-ltb port 2 more)) h

@@ -1,8 +1,8 @@
 -- A pair that is not booted prints nothing; one that is prints as its order says.
 use Rattle.std.proofs.Common.{sym, subst}
+use Rattle.std.proofs.KnownBytes.{Keeps-refl}
 use Rattle.command_script.specs.Printing.{Prints}
 use Rattle.command_ending.specs.Reports.{handed}
-use Rattle.command_ending.proofs.Handing.{keeps_refl}
 use Rattle.command_script.proofs.Answering.{prints_nothing}
 use Rattle.command_script.proofs.Starting.{prints_answers, prints_verdict, some_booted}
 use Rattle.command_script.proofs.session.run.Goals as goal
@@ -11,7 +11,7 @@ pub returns-in_err-world : goal.returns-in_err-world
 returns-in_err-world g c =
     let input = c.args.input.now in
     prints_nothing c.args.order input.script.setup input.sectors.items input.script.lines.items
-    (some_booted input.script.setup input.sectors.items) c.from_residual.result _ _ c.from_residual.ensures.1 (keeps_refl _)
+    (some_booted input.script.setup input.sectors.items) c.from_residual.result _ _ c.from_residual.ensures.1 (Keeps-refl _)
 
 pub returns-in-Script : goal.returns-in-Script
 returns-in-Script g c =
