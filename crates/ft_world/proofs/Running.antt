@@ -33,7 +33,7 @@ runs_begin state copied M records v c h =
     }
 
 -- one more event has happened
-runs_then : {B H D S : Type 0} (state : B → S) (copied : B → Guest) (M : Machine S) (records : D → List Record)
+pub runs_then : {B H D S : Type 0} (state : B → S) (copied : B → Guest) (M : Machine S) (records : D → List Record)
     (start old new : Running B H D) (c : Course S) (events : List Event) (answers : List (Result Reply Fault))
     (e : Event) (answer : Result Reply Fault) → Shows state copied M records start c →
     Runs state copied M records c events answers old → Happens state copied M records old e answer new →

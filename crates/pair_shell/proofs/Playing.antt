@@ -1,23 +1,16 @@
 -- A tape grows by an event and its answer, as the run that it says. Nothing but events lengthens it: a line that only
 -- reads leaves the world over the records as it was.
 use Rattle.guest_parts.specs.Guest.{Guest}
-use Rattle.std.proofs.Common.{◌≡◌, ◌+◌, ◌∙◌, ◌∷◌, ◌++◌, [], List, Option, Some, None, ap, refl, subst, sym, length}
-use Rattle.std.specs.Prelude.{Result, map}
-use Rattle.std.proofs.lemmas.List.{length-append, map-append}
+use Rattle.std.proofs.Common.{◌≡◌, ◌+◌, ◌∷◌, ◌++◌, [], List, Option, Some, None, refl, subst, sym}
+use Rattle.std.specs.Prelude.{Result}
+use Rattle.std.proofs.lemmas.List.{map-append}
 use Rattle.guest_lockstep.specs.Machine.{Machine}
 use Rattle.i8080_words.specs.declared.refusal.Fault.{Fault}
 use Rattle.pair_events.specs.declared.event.Event.{Event}
 use Rattle.pair_events.specs.declared.reply.Reply.{Reply}
-use Rattle.pair_protocol.specs.Copying.{Copying}
-use Rattle.pair_protocol.specs.Reply as protocol
-use Rattle.pair_protocol.specs.Row.{Row}
-use Rattle.pair_protocol.specs.World.{World}
-use Rattle.ft_world.specs.Applies.{Applies, First, Happens, Nothing, Rows, Runs, Shows}
+use Rattle.ft_world.specs.Applies.{Happens, Runs, Shows}
 use Rattle.ft_world.specs.Running.{Running}
-use Rattle.ft_world.specs.Standing.{machine_of}
-use Rattle.ft_world.specs.Words.{answer_of}
-use Rattle.ft_world.proofs.Growing.{rows_grow}
-use Rattle.ft_world.proofs.Running.{runs_begin}
+use Rattle.ft_world.proofs.Running.{runs_begin, runs_then}
 use Rattle.shared_disk.specs.Failing.{Disk, records_in}
 use Rattle.pair_check.specs.Disks.{over_records}
 use Rattle.pair_check.proofs.Disks.{records_show, shows_records}
@@ -25,14 +18,6 @@ use Rattle.pair_shell.specs.Playing.{Lengthens, Plays, answers_of, events_of}
 use Rattle.pair_shell.specs.Sessions.{LinePlays}
 use Rattle.shell_book.specs.Tapes.{played}
 use Rattle.shell_book.specs.declared.tape.Played.{Played}
-
--- one more row at the end
-rows_then : {S : Type 0} (M : Machine S) (C : Copying S) (w mid new : World S) (events : List Event)
-    (replies : List protocol.Reply) (e : Event) (r : protocol.Reply) → Rows M C w events replies mid →
-    Row M C mid e r new → Rows M C w (events ++ e ∷ []) (replies ++ r ∷ []) new
-rows_then M C w mid new events replies e r Nothing row = First row Nothing
-rows_then M C w mid new events replies e r (First {mid = v} {events = es} {replies = rs} first rest) row =
-    First first (rows_then M C v mid new es rs e r rest row)
 
 -- an empty tape: the world over the records is as it was
 pub plays_nothing : {B H S : Type 0} (state : B → S) (copied : B → Guest) (M : Machine S) (old new : Running B H Disk)
@@ -42,47 +27,32 @@ plays_nothing state copied M old new tape none same =
     (λ c shows. runs_begin state copied M (λ records. records) (over_records new) c
     (subst (λ v. Shows state copied M (λ records. records) v c) (sym same) shows))
 
+-- an event that happened over the disk has happened over its records
+over_happens : {B H S : Type 0} (state : B → S) (copied : B → Guest) (M : Machine S) (mid new : Running B H Disk) (e : Event)
+    (answer : Result Reply Fault) → Happens state copied M records_in mid e answer new
+    → Happens state copied M (λ records. records) (over_records mid) e answer (over_records new)
+over_happens state copied M mid new e answer happens c shows =
+    let a = happens c (records_show state copied M mid c shows) in
+    record {
+      after = a.after;
+      row = a.row;
+      shows = shows_records state copied M new (record c { world = a.after }) a.shows;
+      faithful = a.faithful;
+      grows = a.grows;
+    }
+
 -- one more event, with its answer
 plays_then : {B H S : Type 0} (state : B → S) (copied : B → Guest) (M : Machine S) (old mid new : Running B H Disk)
     (tape : List Played) (one : Played) → Plays state copied M old tape mid → Happens state copied M records_in mid one.event one.answer new
     → Plays state copied M old (tape ++ one ∷ []) new
-plays_then {S = S} state copied M old mid new tape one before happens c shows = record {
-  after = a.after;
-  rows = rows;
-  each = ap length (map-append (λ (p : Played). p.answer) tape (one ∷ []))
-      ∙ length-append (answers_of tape) (one.answer ∷ []) ∙ ap (λ n. n + 1) so_far.each
-      ∙ sym (length-append (events_of tape) (one.event ∷ []))
-      ∙ sym (ap length (map-append (λ (p : Played). p.event) tape (one ∷ [])));
-  shows = shows_records state copied M new (record c { world = a.after }) a.shows;
-  faithful = a.faithful;
-  grows = rows_grow N c.copying shows.machine.lawful shows.machine.copies c.world a.after (events_of (tape ++ one ∷ []))
-      (map answer_of (answers_of (tape ++ one ∷ []))) shows.reached rows;
-}
-  where
-    N : Machine S
-    N = machine_of M c
-
-    so_far : Runs state copied M (λ records. records) c (events_of tape) (answers_of tape) (over_records mid)
-    so_far = before c shows
-
-    a : Applies state copied M records_in (record c { world = so_far.after }) one.event one.answer new
-    a = happens (record c { world = so_far.after })
-        (records_show state copied M mid (record c { world = so_far.after }) so_far.shows)
-
-    events : events_of (tape ++ one ∷ []) ≡ events_of tape ++ one.event ∷ []
-    events = map-append (λ (p : Played). p.event) tape (one ∷ [])
-
-    answers : map answer_of (answers_of (tape ++ one ∷ []))
-        ≡ map answer_of (answers_of tape) ++ answer_of one.answer ∷ []
-    answers = ap (map answer_of) (map-append (λ (p : Played). p.answer) tape (one ∷ []))
-        ∙ map-append answer_of (answers_of tape) (one.answer ∷ [])
-
-    rows : Rows N c.copying c.world (events_of (tape ++ one ∷ [])) (map answer_of (answers_of (tape ++ one ∷ []))) a.after
-    rows = subst (λ rs. Rows N c.copying c.world (events_of (tape ++ one ∷ [])) rs a.after) (sym answers)
-        (subst (λ es. Rows N c.copying c.world es (map answer_of (answers_of tape) ++ answer_of one.answer ∷ []) a.after)
-        (sym events)
-        (rows_then N c.copying c.world so_far.after a.after (events_of tape) (map answer_of (answers_of tape)) one.event
-        (answer_of one.answer) so_far.rows a.row))
+plays_then state copied M old mid new tape one before happens c shows =
+    subst (λ events. Runs state copied M (λ records. records) c events (answers_of (tape ++ one ∷ [])) (over_records new))
+    (sym (map-append (λ (p : Played). p.event) tape (one ∷ [])))
+    (subst (λ answers. Runs state copied M (λ records. records) c (events_of tape ++ one.event ∷ []) answers (over_records new))
+    (sym (map-append (λ (p : Played). p.answer) tape (one ∷ [])))
+    (runs_then state copied M (λ records. records) (over_records old) (over_records mid) (over_records new) c (events_of tape)
+    (answers_of tape) one.event one.answer shows (before c shows)
+    (over_happens state copied M mid new one.event one.answer happens)))
 
 -- the same for the tape as it is kept
 pub lengthens : {B H S : Type 0} (state : B → S) (copied : B → Guest) (M : Machine S) (old new : Running B H Disk)
