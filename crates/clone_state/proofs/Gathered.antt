@@ -95,7 +95,8 @@ then_whole (None ∷ slots) each = each 0 (omega arith)
 then_whole (Some payload ∷ slots) each =
     next_some payload (gathered slots) (then_whole slots (λ index inside. each (suc index) (omega (arith, inside))))
 
-gathered_are : (slots : Slots) (parts payloads : List (List ℕ)) → AreOf parts slots → gathered slots ≡ Some payloads
+-- if all have arrived, they are the parts of the image
+pub gathered_are : (slots : Slots) (parts payloads : List (List ℕ)) → AreOf parts slots → gathered slots ≡ Some payloads
     → payloads ≡ parts
 gathered_are [] [] payloads h e = sym (same_Some [] payloads e)
 gathered_are [] (part ∷ parts) payloads h e = let l = h.long in absurd (omega (arith, l))

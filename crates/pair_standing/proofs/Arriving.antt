@@ -5,15 +5,15 @@ use Rattle.std.specs.Prelude.{Result, Ok, Err, is_ok, slice_get, slice_index_or,
 use Rattle.std.specs.Option.{option_or}
 use Rattle.std.proofs.lemmas.Bool.{eq-eqb, false≢true, ltb-false, ltb-true}
 use Rattle.std.proofs.lemmas.List.{get_or-set_same}
-use Rattle.std.proofs.lemmas.Option.{none-some, same_Some, slice_get-get_or, slice_get_past}
+use Rattle.std.proofs.lemmas.Option.{same_Some, slice_get-get_or, slice_get_past}
 use Rattle.pair_standing.proofs.Words.{Gathering, Sent, Slots, SomeIsLost, after_fate, after_part, after_parts, after_rounds, fate_in, gathered, is_missing, is_whole, le-cases, message_of, whole_answer, with_part}
+use Rattle.clone_state.proofs.Gathered.{gathered_are}
 use Rattle.clone_state.specs.Gathering.{AreOf, IsOfImage, StaysOfImage}
 use Rattle.clone_state.specs.Laws.{PartsAreReadAgain}
 use Rattle.clone_state.specs.Parts.{PartMessage, guest_in, message_at}
 use Rattle.i8080_words.specs.declared.refusal.Fault.{Fault}
 use Rattle.i8080_words.specs.declared.refusal.Fault.TheVariants.{NotWhole}
 use Rattle.log_entry.specs.Numbers.{◌>>=◌}
-use Rattle.log_entry.proofs.ReadingLaws.{first_read}
 use Rattle.pair_threads.specs.Fates.{fate_at}
 use Rattle.pair_threads.specs.declared.link.Fate.{Fate}
 use Rattle.pair_threads.specs.declared.link.Fate.TheVariants.{Pass, Drop, Twice}
@@ -59,20 +59,6 @@ none_gathered zero some = absurd (omega (arith, some))
 none_gathered (suc n) some = refl
 
 -- if all have arrived, they are the parts of the image
-gathered_are : (slots : Slots) (parts payloads : List (List ℕ)) → AreOf parts slots → gathered slots ≡ Some payloads
-    → payloads ≡ parts
-gathered_are [] [] payloads h e = sym (same_Some [] payloads e)
-gathered_are [] (part ∷ parts) payloads h e = let l = h.long in absurd (omega (arith, l))
-gathered_are (slot ∷ slots) [] payloads h e = let l = h.long in absurd (omega (arith, l))
-gathered_are (None ∷ slots) (part ∷ parts) payloads h e = absurd (none-some payloads e)
-gathered_are (Some payload ∷ slots) (part ∷ parts) payloads h e =
-    let r = first_read (gathered slots) (λ rest. Some (payload ∷ rest)) payloads e in
-    let l = h.long in
-    let here : part ≡ payload = same_Some part payload (h.each 0 payload refl) in
-    let more : r.0 ≡ parts =
-    gathered_are slots parts r.0 (record { long = omega (arith, l); each = λ index p there. h.each (suc index) p there }) r.1 in
-    sym (same_Some (payload ∷ r.0) payloads r.2) ∙ ap (λ p. p ∷ r.0) (sym here) ∙ ap (λ ps. part ∷ ps) more
-
 pub whole_are : (slots : Slots) (parts : List (List ℕ)) → AreOf parts slots → is_some (gathered slots) ≡ true
     → gathered slots ≡ Some parts
 whole_are slots parts are whole = go (gathered slots) refl whole
