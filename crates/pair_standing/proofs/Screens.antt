@@ -1,40 +1,12 @@
 -- What is shown on a screen, and what comes from a keyboard, one thing after another: the ring stays the same.
-use Rattle.std.proofs.Common.{◌≡◌, ℕ, zero, suc, ◌<◌, Bool, true, false, cond, List, [], ◌∷◌, ◌++◌, length, Option, Some, None, refl, sym, ap, subst, ◌∙◌, arith, append-nil, append_assoc}
+use Rattle.std.proofs.Common.{◌≡◌, ℕ, zero, suc, ◌<◌, Bool, true, false, cond, List, [], ◌∷◌, ◌++◌, length, refl, sym, ap, subst, ◌∙◌, arith, append-nil, append_assoc}
 use Rattle.std.specs.Prelude.{◌==◌, nat_lt, if◌then◌else◌}
-use Rattle.pair_lines.specs.Lines.{HasShown, IsSameEnd, IsSameStart, heard, with_byte}
+use Rattle.pair_lines.proofs.Same.{same_end, same_end_on, same_start, same_start_on}
+use Rattle.pair_lines.specs.Lines.{HasShown, IsSameStart, heard, with_byte}
 use Rattle.pair_lines.specs.declared.keyboard.Keyboard.{Keyboard}
 use Rattle.pair_lines.specs.declared.screen.Screen.{Screen}
 use Rattle.pair_standing.proofs.Words.{Shows, ShowsOver, Types, after_byte}
 use Rattle.pair_threads.specs.Ending.{EachScreen}
-use Rattle.rtrb.specs.declared.consumer.Consumer.{Consumer}
-use Rattle.rtrb.specs.declared.producer.Producer.{Producer}
-
-module _ {T A P : Type 0} where
-  pub same_start : (x : Option (Producer T A P)) → IsSameStart x x
-  same_start None = tt
-  same_start (Some a) = ((refl, refl, refl, refl), refl)
-
-  pub same_start_then : (x y z : Option (Producer T A P)) → IsSameStart x y → IsSameStart y z → IsSameStart x z
-  same_start_then None None None p q = tt
-  same_start_then (Some a) (Some b) (Some c) p q =
-      ((q.0.0 ∙ p.0.0, q.0.1 ∙ p.0.1, q.0.2 ∙ p.0.2, q.0.3 ∙ p.0.3), q.1 ∙ p.1)
-  same_start_then None (Some b) z p q = absurd p
-  same_start_then (Some a) None z p q = absurd p
-  same_start_then None None (Some c) p q = absurd q
-  same_start_then (Some a) (Some b) None p q = absurd q
-
-  pub same_end : (x : Option (Consumer T A P)) → IsSameEnd x x
-  same_end None = tt
-  same_end (Some a) = ((refl, refl, refl, refl), refl)
-
-  pub same_end_then : (x y z : Option (Consumer T A P)) → IsSameEnd x y → IsSameEnd y z → IsSameEnd x z
-  same_end_then None None None p q = tt
-  same_end_then (Some a) (Some b) (Some c) p q =
-      ((q.0.0 ∙ p.0.0, q.0.1 ∙ p.0.1, q.0.2 ∙ p.0.2, q.0.3 ∙ p.0.3), q.1 ∙ p.1)
-  same_end_then None (Some b) z p q = absurd p
-  same_end_then (Some a) None z p q = absurd p
-  same_end_then None None (Some c) p q = absurd q
-  same_end_then (Some a) (Some b) None p q = absurd q
 
 -- ---- what was typed
 
@@ -50,7 +22,7 @@ pub types_then : (a b c : Keyboard) (first second third : List ℕ) → Types a 
     → Types a first c third
 types_then a b c first second third one other = record {
   more = one.more ++ other.more;
-  same = same_end_then a.ring b.ring c.ring one.same other.same;
+  same = same_end_on a.ring b.ring c.ring one.same other.same;
   heard_is = other.heard_is ∙ ap (λ l. l ++ other.more) one.heard_is ∙ append_assoc (heard a) one.more other.more;
   typed_is = other.typed_is ∙ ap (λ l. l ++ other.more) one.typed_is ∙ append_assoc first one.more other.more;
 }
@@ -63,7 +35,7 @@ shows_none s old0 old1 = record { same = same_start s.ring; shown = λ first sec
 pub shows_then : (a b c : Screen) (old0 old1 mid0 mid1 new0 new1 : List ℕ) → Shows a b old0 old1 mid0 mid1
     → Shows b c mid0 mid1 new0 new1 → Shows a c old0 old1 new0 new1
 shows_then a b c old0 old1 mid0 mid1 new0 new1 first second = record {
-  same = same_start_then a.ring b.ring c.ring first.same second.same;
+  same = same_start_on a.ring b.ring c.ring first.same second.same;
   shown = λ zero_is one_is. let mid = first.shown zero_is one_is in second.shown mid.0 mid.1;
 }
 

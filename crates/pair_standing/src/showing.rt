@@ -20,7 +20,7 @@ use std::time::{Clock, Duration};
 const ROOM_SLEEP: u64 = 100;
 
 // Waits until one more byte can be shown.
-#[tactic(auto, using(crate::proofs::Screens::same_start, crate::proofs::Screens::same_start_then))]
+#[tactic(auto, using(pair_lines::proofs::Same::same_start, pair_lines::proofs::Same::same_start_on))]
 fn wait_for_room<C: Clock>(clock: &C, screen: &mut Screen) -> R<()>
     ensures same { IsSameStart screen.old.ring screen.new.ring }
     ensures shown { (port : ℕ) (bytes : List ℕ) → HasShown screen.old port bytes → HasShown screen.new port bytes }
@@ -37,7 +37,7 @@ fn wait_for_room<C: Clock>(clock: &C, screen: &mut Screen) -> R<()>
 }
 
 // Shows a byte of a port, if its terminal, which has accepted so many, does not have it yet.
-#[tactic(auto, using(crate::proofs::Screens::same_start, crate::proofs::Screens::same_start_then))]
+#[tactic(auto, using(pair_lines::proofs::Same::same_start, pair_lines::proofs::Same::same_start_on))]
 fn show<C: Clock>(
     clock: &C,
     screen: &mut Screen,
