@@ -1,7 +1,7 @@
 -- How an alone node makes steps. A refusal of the first step refuses the call, and a refusal of a later one is only why
 -- the node stopped.
-use Rattle.std.proofs.Common.{◌≡◌, ℕ, zero, suc, ◌<◌, ◌⊎◌, inl, inr, Bool, true, false, cond, Option, Some, None, is_none, [], ◌∷◌, Ok, Err, refl, sym, ap, subst, ◌∙◌, arith}
-use Rattle.ft_node.proofs.Words.{Fault, Idle, IsAlone, Machine, Node, OpId, Operation, Reads, RunsOn, Spent, Stopped, fault_of, stepped}
+use Rattle.std.proofs.Common.{◌≡◌, ℕ, zero, suc, ◌<◌, ◌⊎◌, inl, inr, Option, Some, None, is_none, [], Ok, Err, refl, sym, ap, subst, ◌∙◌, arith}
+use Rattle.ft_node.proofs.Words.{Fault, IsAlone, Machine, Node, OpId, Operation, Reads, RunsOn, Stopped, fault_of, stepped}
 use Rattle.guest_lockstep.proofs.QuietSteps.{start_allowed, first_allowed, none_made}
 use Rattle.guest_lockstep.specs.Lockstep as lockstep
 use Rattle.guest_lockstep.specs.Running as running
@@ -10,22 +10,16 @@ use Rattle.pair_protocol.specs.Refusals as refusals
 use Rattle.ft_node.specs.Calls as calls
 use Rattle.ft_node.specs.declared.ran.Ran.{Ran}
 use Rattle.ft_node.proofs.ServingSteps.{steps_to}
+use Rattle.ft_node.proofs.PrimaryRefusals.{by_machine}
 
 -- ---- the first step
-
-first_of_two : (spent idle : Bool)
-    → refusals.first_of (refusals.fault_if spent Spent ∷ refusals.fault_if idle Idle ∷ [])
-    ≡ cond spent (Some Spent) (cond idle (Some Idle) None)
-first_of_two true idle = refl
-first_of_two false true = refl
-first_of_two false false = refl
 
 -- only the machine refuses a step
 step_refusal : {S : Type 0} {reads : Reads} (M : Machine S) (x : Node S) (s : S) (generation turns : ℕ) → IsAlone reads s generation x
     → 0 < turns → refusals.step_refusal M turns x ≡ lockstep.step_refusal M s
 step_refusal M x s generation zero a some = absurd (omega arith)
 step_refusal M x s generation (suc turns) a some =
-    rw (a.role, a.up, a.machine) (first_of_two (M.is_spent s) (is_none (M.step s)))
+    rw (a.role, a.up, a.machine) (by_machine (M.is_spent s) (is_none (M.step s)))
 
 -- nothing refuses no turns, or the first step
 not_refused : {S : Type 0} {reads : Reads} (M : Machine S) (x : Node S) (s : S) (generation turns : ℕ) → IsAlone reads s generation x

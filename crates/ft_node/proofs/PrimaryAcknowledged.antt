@@ -1,6 +1,6 @@
 -- What an acknowledgement does to a primary. The entries that it covers leave the log, and their keys are covered; the
 -- log that is left is the rest of the whole log.
-use Rattle.std.proofs.Common.{◌≡◌, ℕ, zero, suc, ◌+◌, ◌-◌, ◌<◌, ◌≤◌, max, Bool, true, false, cond, not, ◌==◌, Option, Some, None, Ok, Err, List, [], ◌∷◌, ◌++◌, length, take, drop, append_assoc, length-append, refl, sym, ap, subst, ◌∙◌, arith}
+use Rattle.std.proofs.Common.{◌≡◌, ℕ, zero, suc, ◌+◌, ◌-◌, ◌<◌, ◌≤◌, max, Bool, true, false, cond, not, ◌==◌, Option, Some, None, Ok, Err, List, [], ◌∷◌, ◌++◌, length, take, drop, length-append, refl, sym, ap, subst, ◌∙◌, arith}
 use Rattle.std.specs.Prelude.{nat_lt, slice_index, unwrap_or}
 use Rattle.std.proofs.lemmas.Bool.{ltb-false}
 use Rattle.std.proofs.lemmas.List.{drop-drop}
@@ -12,19 +12,12 @@ use Rattle.log_channel.specs.declared.packet.Packet.TheVariants as packet
 use Rattle.output_rule.proofs.Told.{tells_acknowledged}
 use Rattle.output_rule.specs.Keys.{keys_in}
 use Rattle.output_rule.specs.Laws.{Tells}
+use Rattle.pair_protocol.proofs.Traces.Moves.{keys-append}
 use Rattle.guest_lockstep.specs.Reach as reach
 use Rattle.ft_node.proofs.PrimaryRefusals.{primary_acts, allowed}
 use Rattle.ft_node.proofs.PrimaryInputs.{next_behind}
 
 -- ---- keys
-
--- the keys of two lists of inputs, one after the other
-keys-append : (port : ℕ) (front back : List Timed)
-    → reach.keys port (front ++ back) ≡ reach.keys port front ++ reach.keys port back
-keys-append port [] back = refl
-keys-append port (t ∷ ts) back =
-    ap (λ rest. reach.key_at port t.input ++ rest) (keys-append port ts back)
-    ∙ sym (append_assoc (reach.key_at port t.input) (reach.keys port ts) (reach.keys port back))
 
 -- how many keys of a port are in the image, and in the entries after it
 keys_of_both : (port : ℕ) (copy : List Timed) (es : List Entry)

@@ -131,7 +131,8 @@ by_room : (r rest : Option Fault) → or_else r rest ≡ refusal_behind (answere
 by_room None rest = refl
 by_room (Some fault) rest = refl
 
-by_machine : (spent none : Bool)
+-- of a machine that is spent, or makes no step
+pub by_machine : (spent none : Bool)
     → first_of (fault_if spent Spent ∷ fault_if none Idle ∷ [])
     ≡ cond spent (Some Spent) (cond none (Some Idle) None)
 by_machine true none = refl

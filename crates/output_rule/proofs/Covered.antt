@@ -1,6 +1,7 @@
 -- What is covered stays covered: the acknowledged number never falls, and neither does the number of keys of a port.
 use Rattle.std.proofs.Common.{◌≡◌, ℕ, zero, suc, ◌<◌, ◌≤◌, max, Bool, true, false, cond, ◌&&◌, ◌||◌, nat_lt, nat_le, List, Some, None, refl, arith}
 use Rattle.std.specs.Prelude.{slice_index}
+use Rattle.std.proofs.lemmas.Bool.{and_parts}
 use Rattle.std.proofs.lemmas.Grind.{common_steps}
 use Rattle.event_callbacks.specs.declared.devices.TheConstants.{PORTS}
 use Rattle.log_buffer.specs.Log.{Log}
@@ -19,17 +20,12 @@ below_max index acknowledged held below = grind (arith, common_steps)
 within_max : (after reported replayed : ℕ) → nat_le after reported ≡ true → nat_le after (max reported replayed) ≡ true
 within_max after reported replayed within = grind (arith, common_steps)
 
-both : (one other : Bool) → (one && other) ≡ true → (one ≡ true) × (other ≡ true)
-both true true h = (refl, refl)
-both true false h = (cc)
-both false other h = (cc)
-
 covered_up_to_max : (all : Bool) (index acknowledged held after reported replayed : ℕ)
     → (all || nat_lt index acknowledged && nat_le after reported) ≡ true
     → (all || nat_lt index (max acknowledged held) && nat_le after (max reported replayed)) ≡ true
 covered_up_to_max true index acknowledged held after reported replayed covered = refl
 covered_up_to_max false index acknowledged held after reported replayed covered =
-    let parts = both (nat_lt index acknowledged) (nat_le after reported) covered in
+    let parts = and_parts (nat_lt index acknowledged) (nat_le after reported) covered in
     rw (below_max index acknowledged held parts.0, within_max after reported replayed parts.1) refl
 
 by_acknowledgement : (c : Covering) (l : Log) (held replayed : ℕ) → StaysCovered c (after_acknowledge c l held replayed)

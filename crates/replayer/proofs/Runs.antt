@@ -4,7 +4,7 @@
 use Rattle.std.proofs.Common.{◌≡◌, ℕ, suc, ◌+◌, ◌<◌, ◌≤◌, Bool, true, false, List, [], ◌∷◌, length, Option, Some, None, is_none, cond, Result, Ok, Err, refl, sym, ap, subst, ◌∙◌, arith, eq-eqb}
 use Rattle.std.specs.Prelude.{◌==◌}
 use Rattle.std.specs.Option.{unwrap_or}
-use Rattle.std.proofs.lemmas.Bool.{eqb-true}
+use Rattle.std.proofs.lemmas.Bool.{eqb-true, ne_eqb}
 use Rattle.std.proofs.lemmas.Option.{same_Some}
 use Rattle.guest_lockstep.specs.Machine.{Machine}
 use Rattle.guest_lockstep.specs.Recorded.{Counts}
@@ -108,18 +108,11 @@ refused M s v t held now left fetched come still turns most n fault lt none befo
       a.4 ∙ here.2,
     )
 
-not_same : (a b : ℕ) → (a ≡ b → ⊥) → (a == b) ≡ false
-not_same a b differ = go (a == b) refl
-  where
-    go : (same : Bool) → (a == b) ≡ same → (a == b) ≡ false
-    go false e = e
-    go true e = absurd (differ (eqb-true a b e))
-
 less_not_same : (a b : ℕ) → a < b → (a == b) ≡ false
-less_not_same a b lt = not_same a b (λ same. omega arith)
+less_not_same a b lt = ne_eqb a b (λ same. omega arith)
 
 some_left : (e : Entry) (es : List Entry) → (length (e ∷ es) == 0) ≡ false
-some_left e es = not_same (length (e ∷ es)) 0 (λ same. omega arith)
+some_left e es = ne_eqb (length (e ∷ es)) 0 (λ same. omega arith)
 
 -- an entry at a later count is no read that waits
 behind_waits_not : {S : Type 0} (M : Machine S) (t : S) (left : List Entry) (still : Option (List ℕ))
