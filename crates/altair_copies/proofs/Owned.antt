@@ -1,9 +1,8 @@
 -- If each sector that came under a head had the bytes of the machine's own disk, it had all its bytes: the sectors at
 -- boot have them, and so has each write of such a sector.
-use Rattle.std.proofs.Common.{◌≡◌, ◌<◌, ℕ, Bool, true, false, cond, not, List, [], ◌∷◌, ◌++◌, length, Option, Some, None, inl, inr, refl, sym, ap, ◌∙◌}
+use Rattle.std.proofs.Common.{◌≡◌, ◌<◌, ℕ, Bool, true, false, cond, not, List, [], ◌∷◌, ◌++◌, length, Some, None, inl, inr, refl, sym, ap, ◌∙◌}
 use Rattle.std.specs.Prelude.{IsTrue, nat_lt, ◌&&◌, ◌==◌, is_none}
-use Rattle.std.specs.Option.{option_map_or}
-use Rattle.std.proofs.lemmas.Bool.{eqb-true, ltb-true, and_parts}
+use Rattle.std.proofs.lemmas.Bool.{ltb-true, and_parts}
 use Rattle.std.proofs.lemmas.Option.{cond_some}
 use Rattle.disk_dcdd.specs.Address.{address_of, has_sector, same_address}
 use Rattle.disk_dcdd.specs.Completion.{is_head_loaded, is_sector_due, is_sector_busy, is_selected}
@@ -20,6 +19,7 @@ use Rattle.guest_lockstep.specs.declared.input.Input.{Input}
 use Rattle.guest_lockstep.specs.declared.input.Input.TheVariants.{Rx, Sent, Sector, Written}
 use Rattle.guest_board.specs.declared.setup.Setup.{Setup}
 use Rattle.guest_lockstep.specs.Reach.{Own, Owns, bytes_after, image_from}
+use Rattle.altair_laws.proofs.Drives.{selected_is}
 use Rattle.altair_laws.specs.Stands.{AltairStands, AreWhole, AreWholeWrites, IsWhole}
 use Rattle.pair_protocol.specs.Lawful.{Among, Reaches}
 use Rattle.pair_protocol.specs.OnDisk.{StaysOnDisk}
@@ -61,11 +61,6 @@ image_whole issued q bytes (Take (Written number) ∷ moves) all h k =
     image_whole issued q (bytes_after issued number q bytes) moves all (after_whole issued number q bytes all h) k
 
 -- a sector that comes is one of the selected drive
-selected_is : (o : Option ℕ) (drive : ℕ) → option_map_or (λ selected. selected == drive) o false ≡ true
-    → o ≡ Some drive
-selected_is None drive e = cc
-selected_is (Some selected) drive e = ap (λ n. Some n) (eqb-true selected drive e)
-
 record ComesFrom (g : Guest) (drive sector : ℕ) : Type 0 where
   selected : g.devices.disk.selected ≡ Some drive
   there : sector < SECTORS
@@ -78,7 +73,7 @@ comes_from g u drive sector number bytes e =
     let two = and_parts (is_selected disk drive) (is_due g.devices (done.Sector sector bytes)) may in
     let due = (and_parts (is_sector_due disk sector) (not (is_sector_busy disk sector)) two.1).0 in
     let there = (and_parts (is_head_loaded disk && is_none disk.current) (nat_lt sector SECTORS) due).1 in
-    record { selected = selected_is disk.selected drive two.0; there = ltb-true sector SECTORS there }
+    record { selected = selected_is disk drive two.0; there = ltb-true sector SECTORS there }
 
 whole-more : (moves : List Move) (m : Move) → AreWhole moves → AreWhole (m ∷ []) → AreWhole (moves ++ m ∷ [])
 whole-more [] m h k = k

@@ -3,8 +3,18 @@
 -- nothing, and leaves at most the same sector under the head.
 use Rattle.std.proofs.Common.{◌≡◌, ℕ, ◌+◌, ◌≤◌, ◌<◌, Bool, true, false, cond, length, Option, Some, None, refl, sym, ap, ◌∙◌, subst, arith}
 use Rattle.std.specs.Prelude.{IsTrue, IfSome, ◌&&◌, ◌==◌, nat_lt}
-use Rattle.std.proofs.lemmas.Bool.{ltb-true, eqb-false}
+use Rattle.std.specs.Option.{option_map_or}
+use Rattle.std.proofs.lemmas.Bool.{ltb-true, eqb-false, eqb-true}
+use Rattle.disk_dcdd.specs.Completion.{is_selected}
 use Rattle.altair_laws.proofs.Words.{AreDrives, AreOutstanding, CurrentSector, DRIVES, Drives, IsUnfinished, SECTORS, SECTOR_BYTES, after_position, after_read, after_reading, after_select, after_showing, is_head_loaded, is_sector_busy, is_shown_now, may_read, selected_by}
+
+-- the drive that a test tells is selected
+pub selected_is : (d : Drives) (drive : ℕ) → is_selected d drive ≡ true → d.selected ≡ Some drive
+selected_is d drive is = go d.selected is
+  where
+    go : (selected : Option ℕ) → option_map_or (λ selected. selected == drive) selected false ≡ true → selected ≡ Some drive
+    go None e = (cc)
+    go (Some selected) e = ap (λ n. Some n) (eqb-true selected drive e)
 
 -- the place of byte 137
 abbrev pub LAST_BYTE : ℕ

@@ -22,7 +22,7 @@ use Rattle.guest_parts.specs.Guest.{Guest}
 use Rattle.pair_generations.specs.Generations.{machine_at}
 use Rattle.pair_standing.specs.Standing.{Stands}
 use Rattle.pair_standing.specs.declared.standing.Standing.{Standing}
-use Rattle.pair_threads.specs.Stores.{bytes_in}
+use Rattle.shared_disk.specs.Records.{bytes_in}
 use Rattle.script_language.specs.declared.line.Line.{Line}
 use Rattle.script_language.specs.declared.setup.ScriptSetup.{ScriptSetup}
 use Rattle.shared_disk.specs.declared.store.Record.{Record}

@@ -24,12 +24,11 @@ use Rattle.pair_generations.proofs.Altair.{boots_as_guest}
 use Rattle.pair_generations.specs.declared.generation.Next.{Next}
 use Rattle.pair_protocol.specs.Lawful.{Among}
 use Rattle.pair_threads.specs.Ending.{WonBy}
-use Rattle.pair_threads.specs.Stores.{bytes_in}
 use Rattle.pair_threads.specs.declared.gate.Who.{Who}
 use Rattle.pair_threads.specs.declared.gate.Who.TheVariants as who
 use Rattle.script_language.specs.declared.line.Line.{Line}
 use Rattle.script_language.specs.declared.setup.ScriptSetup.{ScriptSetup}
-use Rattle.shared_disk.specs.Records.{HasWholeSectors, IsAtBoot, IsUnwritten, boot_record, bytes_after, record_at}
+use Rattle.shared_disk.specs.Records.{HasWholeSectors, IsAtBoot, IsUnwritten, boot_record, record_at}
 use Rattle.shared_disk.specs.declared.store.Record.{Record}
 
 -- one more of each

@@ -20,9 +20,9 @@ use Rattle.command_ending.specs.declared.failure.Failure.TheVariants as failure
 use Rattle.command_ending.proofs.Handing.{settled_kept, settled_line}
 use Rattle.command_line.specs.declared.live_order.LiveOrder.{LiveOrder}
 use Rattle.pair_threads.specs.Ending.{EndsBy, WonBy}
-use Rattle.pair_threads.specs.Stores.{bytes_in}
 use Rattle.pair_threads.specs.declared.gate.Who.{Who}
-use Rattle.shared_disk.specs.Records.{HasWholeSectors, IsAtBoot, IsUnwritten, boot_record, bytes_after}
+use Rattle.disk_dcdd.specs.Address.{bytes_with_all}
+use Rattle.shared_disk.specs.Records.{HasWholeSectors, IsAtBoot, IsUnwritten, boot_record, bytes_in}
 use Rattle.shared_disk.specs.declared.store.Record.{Record}
 use Rattle.script_language.specs.declared.line.Line.{Line}
 use Rattle.script_language.specs.declared.setup.ScriptSetup.{ScriptSetup}
@@ -142,7 +142,7 @@ pub are_booted : (setup : ScriptSetup) (given : List SectorWrite) (records : Lis
     → IsAtBoot records setup.guest.drives given → AreBooted setup given (bytes_in records)
 are_booted setup given records at address there =
     ap (λ (r : Option Record). option_map_or (λ (r : Record). r.bytes) r [])
-    (at address ∙ ap (λ b. if b then Some (boot_record (bytes_after given address (replicate SECTOR_BYTES 0))) else None) there)
+    (at address ∙ ap (λ b. if b then Some (boot_record (bytes_with_all given address (replicate SECTOR_BYTES 0))) else None) there)
 
 -- what its parts give
 pub begins_as : (setup : ScriptSetup) (given : List SectorWrite) (lines typed : List Line) (primary backup : Guest)

@@ -6,7 +6,7 @@ use Rattle.std.proofs.lemmas.List.{flat_map_more, take_more}
 use Rattle.std.proofs.lemmas.List.FromFn.{map-range_with_len_more}
 use Rattle.command_live.specs.Saving.{address_at, image_of, image_to}
 use Rattle.disk_dcdd.specs.declared.address.SectorAddress.{SectorAddress}
-use Rattle.pair_threads.specs.Stores.{bytes_in}
+use Rattle.shared_disk.specs.Records.{bytes_in}
 use Rattle.shared_disk.specs.declared.store.Record.{Record}
 
 -- these images are what was wanted, and the disk is as it was first

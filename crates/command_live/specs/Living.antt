@@ -2,7 +2,7 @@
 use Rattle.std.specs.Prelude.{◌≡◌, ◌⊎◌, ℕ, ◌==◌, if◌then◌else◌, IsTrue, Option, Some, None, List, [], ◌∷◌, ◌++◌, Bool, Result, MatchResult, codes, replicate}
 use Rattle.std.specs.Global.{Vec}
 use Rattle.std.specs.Io.KnownBytes.{Appends, Keeps}
-use Rattle.disk_dcdd.specs.Address.{has_sector}
+use Rattle.disk_dcdd.specs.Address.{has_sector, bytes_with_all}
 use Rattle.disk_dcdd.specs.declared.address.SectorAddress.{SectorAddress}
 use Rattle.disk_dcdd.specs.declared.sector.SectorWrite.{SectorWrite}
 use Rattle.disk_dcdd.specs.declared.sector.TheConstants.{SECTOR_BYTES}
@@ -25,7 +25,7 @@ use Rattle.pair_threads.specs.declared.gate.Who.TheVariants.{Primary, Backup}
 use Rattle.script_language.specs.declared.line.Line.{Line}
 use Rattle.script_language.specs.declared.line.Line.TheVariants.{Event}
 use Rattle.script_language.specs.declared.setup.ScriptSetup.{ScriptSetup}
-use Rattle.shared_disk.specs.Records.{HasWholeSectors, IsAtBoot, IsUnwritten, bytes_after}
+use Rattle.shared_disk.specs.Records.{HasWholeSectors, IsAtBoot, IsUnwritten}
 use Rattle.shared_disk.specs.declared.store.Record.{Record}
 
 -- the byte that a line types at a port, and the bytes that lines do
@@ -60,7 +60,7 @@ IsWonBy asker.Backup winner = winner ≡ Some Backup
 -- each sector has the bytes of the last of these that goes there, or zeros
 abbrev pub AreBooted : ScriptSetup → List SectorWrite → (SectorAddress → List ℕ) → Type 0
 AreBooted setup given sectors = (address : SectorAddress) → IsTrue (has_sector setup.guest.drives address)
-    → sectors address ≡ bytes_after given address (replicate SECTOR_BYTES 0)
+    → sectors address ≡ bytes_with_all given address (replicate SECTOR_BYTES 0)
 
 -- how a generation of the Altair of a setup ends, if its disk had these sectors and these bytes were typed at its ports: who
 -- goes on alone, what its terminals have accepted, and the images of the disks that are saved

@@ -2,7 +2,7 @@
 use Rattle.std.specs.Prelude.{ℕ, ◌/◌, ◌%◌, List}
 use Rattle.std.specs.List.{flat_map, range_with_len}
 use Rattle.disk_dcdd.specs.declared.address.SectorAddress.{SectorAddress}
-use Rattle.pair_threads.specs.Stores.{bytes_in}
+use Rattle.shared_disk.specs.Records.{bytes_in}
 use Rattle.shared_disk.specs.declared.store.Record.{Record}
 
 -- the sector at this place of a drive's image: sector s of track t is at place 32 t + s

@@ -1,7 +1,7 @@
 //! The disks of a pair on threads, as images.
 ghost use Rattle.std.specs.Prelude.{◌≡◌, ◌++◌, ◌<◌, IfOk, OnOk};
 ghost use Rattle.command_live.specs.Saving.{address_at, image_of, images_of};
-ghost use Rattle.pair_threads.specs.Stores.{bytes_in};
+ghost use Rattle.shared_disk.specs.Records.{bytes_in};
 
 use disk_dcdd::{DRIVE_SECTORS, SECTORS, SectorAddress};
 use i8080_words::R;

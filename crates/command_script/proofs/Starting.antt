@@ -1,15 +1,14 @@
 -- The world that a script begins in: what a pair that has booted shows; there is one for each setup.
-use Rattle.std.proofs.Common.{◌≡◌, ℕ, zero, suc, ◌+◌, ◌-◌, List, [], ◌∷◌, Option, Some, ap, arith, refl, subst, sym, ◌∙◌}
+use Rattle.std.proofs.Common.{◌≡◌, ℕ, zero, suc, ◌+◌, ◌-◌, List, [], Option, Some, ap, arith, refl, subst, sym, ◌∙◌}
 use Rattle.std.specs.Prelude.{replicate, if◌then◌else◌, None}
 use Rattle.std.specs.Option.{option_map_or}
 use Rattle.altair_copies.specs.Copies.{image_copy}
-use Rattle.disk_dcdd.specs.Address.{address_of, same_address}
-use Rattle.disk_dcdd.specs.declared.address.SectorAddress.{SectorAddress}
+use Rattle.disk_dcdd.specs.Address.{bytes_with_all}
 use Rattle.disk_dcdd.specs.declared.sector.SectorWrite.{SectorWrite}
 use Rattle.disk_dcdd.specs.declared.sector.TheConstants.{SECTOR_BYTES}
 use Rattle.std.specs.Prelude.{Result}
 use Rattle.ft_world.specs.Applies.{Shows}
-use Rattle.ft_world.specs.Beginning.{beginning, bytes_in}
+use Rattle.ft_world.specs.Beginning.{beginning}
 use Rattle.ft_world.specs.Standing.{Course, machine_of}
 use Rattle.pair_check.specs.Alike.{ShownIsSame}
 use Rattle.pair_check.specs.Comparing.{IsVerdictOn}
@@ -32,18 +31,11 @@ use Rattle.shared_disk.specs.Failing.{Disk}
 use Rattle.pair_protocol.specs.World.{World, opening, with_host}
 use Rattle.command_script.specs.Answering.{Booted}
 use Rattle.pair_setup.specs.Booting.{HostsCome, IsBooted, Pair, Spare}
-use Rattle.plain_single.specs.Image.{boot_sectors, bytes_with_all, zero_sector}
+use Rattle.plain_single.specs.Image.{boot_sectors, zero_sector}
 use Rattle.script_language.specs.declared.setup.ScriptSetup.{ScriptSetup}
-use Rattle.shared_disk.specs.Records.{IsAtBoot, boot_record, bytes_after}
+use Rattle.shared_disk.specs.Records.{IsAtBoot, boot_record, bytes_in}
 use Rattle.shared_disk.specs.declared.store.Record.{Record}
 use Rattle.sequence_diagram.specs.declared.moment.Moment.{Moment}
-
--- both tables of a sector's bytes at boot are one
-same_bytes : (sectors : List SectorWrite) (address : SectorAddress) (bytes : List ℕ)
-    → bytes_after sectors address bytes ≡ bytes_with_all sectors address bytes
-same_bytes [] address bytes = refl
-same_bytes (sector ∷ sectors) address bytes =
-    same_bytes sectors address (if same_address (address_of sector) address then sector.bytes else bytes)
 
 zeros_are : zero_sector ≡ replicate SECTOR_BYTES 0
 unfolding zero_sector
@@ -55,8 +47,7 @@ begins : (store : List Record) (drives : ℕ) (sectors : List SectorWrite) → I
 begins store drives sectors at_boot address on =
     ap (λ o. option_map_or (λ (r : Record). r.bytes) o [])
     (at_boot address
-    ∙ ap (λ b. if b then Some (boot_record (bytes_after sectors address (replicate SECTOR_BYTES 0))) else None) on)
-    ∙ same_bytes sectors address (replicate SECTOR_BYTES 0)
+    ∙ ap (λ b. if b then Some (boot_record (bytes_with_all sectors address (replicate SECTOR_BYTES 0))) else None) on)
     ∙ ap (λ bytes. bytes_with_all sectors address bytes) (sym zeros_are)
 
 -- a pair that has booted

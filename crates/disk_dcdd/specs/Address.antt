@@ -1,5 +1,5 @@
 -- The sectors of all drives: by address, and by index in a table of them all.
-use Rattle.std.specs.Prelude.{ℕ, ◌+◌, ◌*◌, Bool, ◌==◌, ◌&&◌, nat_lt, if◌then◌else◌, Option, Some, None}
+use Rattle.std.specs.Prelude.{ℕ, ◌+◌, ◌*◌, Bool, ◌==◌, ◌&&◌, nat_lt, if◌then◌else◌, List, [], ◌∷◌, Option, Some, None}
 use Rattle.disk_dcdd.specs.declared.address.TheConstants.{DRIVE_SECTORS}
 use Rattle.disk_dcdd.specs.declared.address.SectorAddress.{SectorAddress}
 use Rattle.disk_dcdd.specs.declared.drive.TheConstants.{TRACKS}
@@ -13,6 +13,15 @@ address_of w = record { drive = w.drive; track = w.track; sector = w.sector }
 -- both are the same sector
 abbrev pub same_address : SectorAddress → SectorAddress → Bool
 same_address a b = a.drive == b.drive && a.track == b.track && a.sector == b.sector
+
+-- what a sector has after a write, if it had these bytes before
+abbrev pub bytes_with : SectorWrite → SectorAddress → List ℕ → List ℕ
+bytes_with write a bytes = if same_address (address_of write) a then write.bytes else bytes
+
+-- what a sector has after a list of writes, one after another
+abbrev pub bytes_with_all : List SectorWrite → SectorAddress → List ℕ → List ℕ
+bytes_with_all [] a bytes = bytes
+bytes_with_all (write ∷ writes) a bytes = bytes_with_all writes a (bytes_with write a bytes)
 
 -- a drive has a sector at this address
 abbrev pub is_on_disk : SectorAddress → Bool

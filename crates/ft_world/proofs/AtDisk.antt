@@ -1,11 +1,11 @@
 -- A write arrives at the disk: the record of its sector is the greatest that arrived there, and every other sector
 -- keeps its record. A write that was released is to a sector of the disk, so only the device itself can fail.
-use Rattle.ft_world.proofs.Words.{Accepts, Agree, Applies, AreMessages, Course, DeviceFails, DeviceFault, Fault, Guest, IsAt, IsDisk, IsMessage, Machine, Message, NeedsMemory, PutsWrite, Record, Reply, Row, Running, SectorAddress, SectorRecord, SectorWrite, Shows, Unknown, address_of, after_meeting, after_put, machine_of, record_at, record_of, refusal_at, reply_of, same_address, same_some, sector_record, sector_record-one, with_put, with_record, write_of, write_refusal}
+use Rattle.ft_world.proofs.Words.{Accepts, Agree, Applies, AreMessages, Course, DeviceFails, DeviceFault, Fault, Guest, IsAt, IsDisk, IsMessage, Machine, Message, NeedsMemory, PutsWrite, Record, Reply, Row, Running, SectorAddress, SectorRecord, SectorWrite, Shows, Unknown, address_of, after_put, machine_of, record_at, record_of, refusal_at, reply_of, same_address, same_some, sector_record, sector_record-one, with_put, write_of, write_refusal}
 use Rattle.std.proofs.Common.{◌≡◌, [], ◌∷◌, ◌++◌, ◌∙◌, Bool, Err, List, None, Ok, Some, ap, cond, false, inl, inr, refl, subst, sym, true, ℕ}
-use Rattle.std.specs.Option.{option_and_then, option_map_or}
+use Rattle.std.specs.Option.{option_and_then}
 use Rattle.std.specs.Prelude.{if◌then◌else◌, Option, Result, is_some, nat_lt, slice_get}
 use Rattle.event_callbacks.specs.declared.operations.Operation.TheVariants as operation
-use Rattle.shared_disk.proofs.RecordsBySector.{is_other, is_same, record_at-with_other, record_at-with_same}
+use Rattle.shared_disk.proofs.Arriving.{known_put, record_at-put}
 use Rattle.pair_protocol.specs.Reply as protocol
 use Rattle.pair_protocol.specs.World as world
 use Rattle.pair_events.specs.declared.event.Event.TheVariants as event
@@ -16,82 +16,29 @@ use Rattle.ft_world.proofs.Sending.{messages_push}
 
 -- What a write leaves.
 
-abbrev brought : SectorWrite → SectorRecord
-brought write = record { number = write.number; bytes = write.bytes }
-
 -- a record of the disk has this number and these bytes
-abbrev Has : Record → SectorRecord → Type 0
-Has r k = (r.number ≡ k.number) × (r.bytes ≡ k.bytes)
+abbrev Has : SectorRecord → Record → Type 0
+Has k r = (r.number ≡ k.number) × (r.bytes ≡ k.bytes)
 
-own_after : (rs : List Record) (write : SectorWrite) (met r : Record) (k : SectorRecord) (less : Bool) → Has met k →
-    record_at rs (address_of write) ≡ Some met →
-    record_at (cond less (with_record rs (address_of write) (record_of write)) rs) (address_of write) ≡ Some r →
-    Has r (cond less (brought write) k)
-own_after rs write met r k true has at e =
-    let q : record_of write ≡ r = same_some (record_of write) r _
-    (record_at-with_same rs (address_of write) (record_of write) met at) e in
-    (ap (λ (r : Record). r.number) (sym q), ap (λ (r : Record). r.bytes) (sym q))
-own_after rs write met r k false has at e =
-    let q : met ≡ r = same_some met r _ at e in
-    (ap (λ (r : Record). r.number) (sym q) ∙ has.0, ap (λ (r : Record). r.bytes) (sym q) ∙ has.1)
-
-other_after : (rs : List Record) (write : SectorWrite) (a : SectorAddress) (less : Bool) →
-    same_address (address_of write) a ≡ false →
-    record_at (cond less (with_record rs (address_of write) (record_of write)) rs) a ≡ record_at rs a
-other_after rs write a true e =
-    record_at-with_other rs (address_of write) a (record_of write) (is_other (address_of write) a e)
-other_after rs write a false e = refl
-
-kept_after : {S : Type 0} (M : Machine S) (drives : ℕ) (rs : List Record) (puts : List SectorWrite)
-    (write : SectorWrite) (met : Record) (a : SectorAddress) (r : Record) (here : Bool) → IsDisk M drives rs puts →
-    record_at rs (address_of write) ≡ Some met → same_address (address_of write) a ≡ here →
-    record_at (cond (nat_lt met.number write.number) (with_record rs (address_of write) (record_of write)) rs) a
-    ≡ Some r →
-    Has r
-    (cond here (cond (nat_lt (sector_record M puts a).number write.number) (brought write) (sector_record M puts a))
-    (sector_record M puts a))
-kept_after M drives rs puts write met a r false d at here e =
-    d.kept a r (sym (other_after rs write a (nat_lt met.number write.number) here) ∙ e)
-kept_after M drives rs puts write met a r true d at here e =
-    let same : address_of write ≡ a = is_same (address_of write) a here in
-    let k = sector_record M puts a in
-    let at_a : record_at rs a ≡ Some met = subst (λ z. record_at rs z ≡ Some met) same at in
-    let has = d.kept a met at_a in
-    let e_own : record_at
-    (cond (nat_lt met.number write.number) (with_record rs (address_of write) (record_of write)) rs)
-    (address_of write) ≡ Some r =
-    subst (λ z. record_at
-    (cond (nat_lt met.number write.number) (with_record rs (address_of write) (record_of write)) rs) z ≡ Some r)
-    (sym same) e in
-    subst (λ b. Has r (cond b (brought write) k)) (ap (λ n. nat_lt n write.number) has.0)
-    (own_after rs write met r k (nat_lt met.number write.number) has at e_own)
-
-there_after : (rs : List Record) (write : SectorWrite) (met : Record) (a : SectorAddress) (here less : Bool) →
-    record_at rs (address_of write) ≡ Some met → same_address (address_of write) a ≡ here →
-    (r : Record) × IsAt rs a r →
-    (r : Record) × IsAt (cond less (with_record rs (address_of write) (record_of write)) rs) a r
-there_after rs write met a here false at e there = there
-there_after rs write met a false true at e (r, there) = (r, other_after rs write a true e ∙ there)
-there_after rs write met a true true at e there = (
-  record_of write,
-  subst
-      (λ z. record_at (with_record rs (address_of write) (record_of write)) z ≡ Some (record_of write))
-      (is_same (address_of write) a e)
-      (record_at-with_same rs (address_of write) (record_of write) met at),
-)
+there_after : (rs : List Record) (write : SectorWrite) (met : Record) (a : SectorAddress) →
+    record_at rs (address_of write) ≡ Some met → (r : Record) × IsAt rs a r → (r : Record) × IsAt (after_put rs write) a r
+there_after rs write met a at there = go (same_address (address_of write) a) (record_at-put rs write met a at)
+  where
+    go : (here : Bool) → record_at (after_put rs write) a
+        ≡ cond here (Some (cond (nat_lt met.number write.number) (record_of write) met)) (record_at rs a)
+        → (r : Record) × IsAt (after_put rs write) a r
+    go true is = (cond (nat_lt met.number write.number) (record_of write) met, is)
+    go false is = (there.0, is ∙ there.1)
 
 disk_put : {S : Type 0} (M : Machine S) (drives : ℕ) (rs : List Record) (puts : List SectorWrite)
     (write : SectorWrite) (met : Record) → IsDisk M drives rs puts → record_at rs (address_of write) ≡ Some met →
     IsDisk M drives (after_put rs write) (puts ++ write ∷ [])
-disk_put M drives rs puts write met d at =
-    subst (λ l. IsDisk M drives l (puts ++ write ∷ []))
-    (sym (ap (λ o. option_map_or (after_meeting rs write) o rs) at))
-    (record {
-      there = λ a t. there_after rs write met a (same_address (address_of write) a)
-          (nat_lt met.number write.number) at refl (d.there a t);
-      kept = λ a r e. subst (λ k. Has r k) (sym (sector_record-one M puts write a))
-          (kept_after M drives rs puts write met a r (same_address (address_of write) a) d at refl e);
-    })
+disk_put M drives rs puts write met d at = record {
+  there = λ a t. there_after rs write met a at (d.there a t);
+  kept = λ a r e. subst (λ k. Has k r) (sym (sector_record-one M puts write a))
+      (known_put Has (λ (k : SectorRecord). k.number) (λ k r has. has.0) rs write
+      (record { number = write.number; bytes = write.bytes }) (refl, refl) met at a (sector_record M puts a) (d.kept a) r e);
+}
 
 -- The message that brings it.
 

@@ -6,7 +6,8 @@ use Rattle.std.specs.Prelude.{IsSome, slice_get}
 use Rattle.std.specs.Option.{option_map_or}
 use Rattle.ft_world.proofs.Words.{Agree, AreHosts, AreMessages, AreTerminals, AreWinners, Asking, AtBoot, Backup, Begins, Copying, Course, Guest, Host, IsDisk, IsHost, IsNode, IsOnlyBackup, IsStation, IsTerminal, Machine, Message, Node, Primary, Reads, Record, Role, Screen, Shows, Station, blank, booted_from, node_count, first_node, is_backup, machine_of, no_terminal, opening, record_at, same_some}
 use Rattle.ft_node.specs.declared.node.Node as code
-use Rattle.ft_world.specs.Beginning.{MayBegin, beginning, bytes_in}
+use Rattle.shared_disk.specs.Records.{bytes_in}
+use Rattle.ft_world.specs.Beginning.{MayBegin, beginning}
 use Rattle.ft_world.specs.declared.host.Host.TheVariants as host
 use Rattle.ft_world.proofs.Agreeing.{agree-push}
 

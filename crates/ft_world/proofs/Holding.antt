@@ -1,14 +1,10 @@
 -- A station holds the next entry of the log: the input of the entry is appended to its inputs, and it settles up to the
 -- count of the entry.
-use Rattle.ft_world.proofs.Words.{Backup, Copying, Entry, IsNode, IsStation, Machine, Makes, MayHold, Node, Station, count_in, holds, inputs_of, inputs_of-append, last_count, list_of, timed_in, timed_of}
-use Rattle.std.proofs.Common.{◌≡◌, ◌∙◌, [], ◌∷◌, ◌++◌, append-nil, append_assoc, List, ℕ, ap, refl, subst, sym}
+use Rattle.ft_world.proofs.Words.{Backup, Copying, Entry, IsNode, IsStation, Machine, Makes, MayHold, Node, Station, count_in, holds, inputs_of, inputs_of-append, last_count-append, list_of, timed_in, timed_of}
+use Rattle.std.proofs.Common.{◌≡◌, ◌∙◌, [], ◌∷◌, ◌++◌, append-nil, append_assoc, ℕ, ap, refl, subst, sym}
 use Rattle.log_entry.specs.Entries.{count_of}
 use Rattle.ft_node.specs.declared.node.Node as code
 use Rattle.ft_node.specs.declared.node.Node.TheVariants as node
-
-last_count-append : (c : ℕ) (es : List Entry) (e : Entry) → last_count c (es ++ e ∷ []) ≡ count_of e
-last_count-append c [] e = refl
-last_count-append c (k ∷ es) e = last_count-append (count_of k) es e
 
 held_station : {B H S : Type 0} (state : B → S) (M : Machine S) (C : Copying S) (drives : ℕ) (h new : Station B H) (e : Entry) (x : Node S)
     → x.role ≡ Backup → IsStation state M C drives h x → IsNode state M C drives new.node (holds x e)

@@ -31,7 +31,7 @@ pub use Rattle.pair_protocol.proofs.Promises.OneMore.{accepted-one, arrival-coun
 pub use Rattle.pair_protocol.proofs.Promises.Runs.{always_faithful, changes_reach}
 pub use Rattle.pair_protocol.proofs.RowActions.{row_changes, step-serves}
 pub use Rattle.pair_protocol.proofs.Traces.Lists.{among-get, bool_cases, drop-at, get_set, get_set_other, same_or_not, same_some}
-pub use Rattle.pair_protocol.proofs.Traces.Moves.{inputs_of-append, runs-append}
+pub use Rattle.pair_protocol.proofs.Traces.Moves.{inputs_of-append, last_count-append, runs-append}
 pub use Rattle.pair_protocol.specs.Change.{After, AtBoot, Changes, Fetches, GetsPart, HostComes, Reached, Replaying, Serving, Then}
 pub use Rattle.pair_protocol.specs.Copying.{Copying, IsCopying}
 pub use Rattle.pair_protocol.specs.Effects.{Advances, Again, AtEnd, AwaitsBytes, Comes, Completes, Drained, Ends, Fetched, Goes, GotPart, Halted, HasCovered, HasOutstanding, Heard, Held, IsUnder, NeedsEntry, NeedsMoves, NoMemory, NoTurns, NoneLeft, OneInput, OneMark, OneRead, OneStep, Replays, Short, Took, Waits, Wants, after_drain, next_read, stepped, took, wanted, wanted_of}
@@ -42,7 +42,7 @@ pub use Rattle.pair_protocol.specs.Row.{Accepts, DeviceFails, Leaves, NeedsMemor
 pub use Rattle.pair_protocol.specs.Rows.{AtNode, Does, MayNeedMemory, OfNode, drain_reply, is_disk}
 pub use Rattle.pair_protocol.specs.Settled.{Settled, Settles, count_in, highest, is_backup, list_of}
 pub use Rattle.pair_protocol.specs.World.{Released, SectorRecord, Winner, World, accepted, accepted_after, accepted_in, latest, no_terminal, opening, record_after, sector_record, terminal, terminal_in, winner_in, with_arrival, with_host, with_key, with_message, with_node, with_pair, with_put, with_read, with_told, with_winner}
-pub use Rattle.shared_disk.specs.Arrivals.{IsGreatest, after_meeting, after_put, read_of, record_of, written_at}
+pub use Rattle.shared_disk.specs.Arrivals.{IsGreatest, after_meeting, after_put, read_of, record_of, written_at, read_address}
 pub use Rattle.shared_disk.specs.Records.{IsAt, boot_record, faults_in, record_at, refusal_at, with_record}
 pub use Rattle.shared_disk.specs.declared.disk.SectorRead.{SectorRead}
 pub use Rattle.shared_disk.specs.declared.store.Record.{Record}
@@ -58,7 +58,7 @@ pub use Rattle.ft_world.specs.Running.{Running}
 pub use Rattle.ft_world.specs.Shows.{Agree, AreHosts, AreMessages, AreTerminals, AreWinners, IsDisk, IsHost, IsOnlyBackup, IsStation, IsStatusAt, IsTerminal, drained_count}
 pub use Rattle.ft_world.specs.Standing.{Course, IsMachine, machine_of}
 pub use Rattle.ft_world.specs.Staying.{DiskFails, Except, NodeHalts, SpareHostsStay, SparesAfter, SparesLeft, Stays, spare_of}
-pub use Rattle.ft_world.specs.Words.{IsMessage, IsRead, answer_of, read_address, reply_of}
+pub use Rattle.ft_world.specs.Words.{IsMessage, IsRead, answer_of, reply_of}
 pub use Rattle.ft_world.specs.declared.host.Host.{Host}
 pub use Rattle.ft_world.specs.declared.message.Message.{Message}
 pub use Rattle.ft_world.specs.declared.opening.Opening.{Opening}

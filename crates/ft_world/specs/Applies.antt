@@ -18,7 +18,8 @@ use Rattle.pair_protocol.specs.Settled.{highest}
 use Rattle.pair_protocol.specs.World.{World, sector_record}
 use Rattle.ft_world.specs.Shows.{AreHosts, AreMessages, AreTerminals, AreWinners, IsDisk, IsOnlyBackup}
 use Rattle.ft_world.specs.Standing.{Course, machine_of, IsMachine}
-use Rattle.ft_world.specs.Words.{answer_of, read_address}
+use Rattle.shared_disk.specs.Arrivals.{read_address}
+use Rattle.ft_world.specs.Words.{answer_of}
 use Rattle.pair_events.specs.declared.event.Event.{Event}
 use Rattle.pair_events.specs.declared.event.Event.TheVariants as event
 use Rattle.pair_events.specs.declared.reply.Reply.{Reply}

@@ -1,20 +1,14 @@
 -- How a pair begins: both guests are in the same state, and the disk has each sector of its drives, none written yet.
 use Rattle.guest_parts.specs.Guest.{Guest}
 use Rattle.std.specs.Prelude.{◌≡◌, ℕ, List, []}
-use Rattle.std.specs.Option.{option_map_or}
-use Rattle.disk_dcdd.specs.declared.address.SectorAddress.{SectorAddress}
 use Rattle.clone_state.specs.Copies.{CopiesAs}
 use Rattle.guest_lockstep.specs.Machine.{Machine, booted_from}
 use Rattle.guest_lockstep.specs.declared.reads.Reads.{Reads}
 use Rattle.pair_protocol.specs.Copying.{Copying}
 use Rattle.pair_protocol.specs.World.{opening}
-use Rattle.shared_disk.specs.Records.{HasDrives, IsUnwritten, record_at}
+use Rattle.shared_disk.specs.Records.{HasDrives, IsUnwritten, bytes_in}
 use Rattle.shared_disk.specs.declared.store.Record.{Record}
 use Rattle.ft_world.specs.Standing.{Course, IsMachine}
-
--- the bytes of each sector of a disk
-abbrev pub bytes_in : List Record → SectorAddress → List ℕ
-bytes_in records address = option_map_or (λ (r : Record). r.bytes) (record_at records address) []
 
 -- the world that a pair begins with: its machine in the state s, how it is copied, and how its log carries sectors
 abbrev pub beginning : {S : Type 0} → Machine S → Copying S → Reads → S → List Record → Course S

@@ -16,7 +16,7 @@ use Rattle.pair_protocol.specs.Rows.{Does, MayNeedMemory, Takes}
 use Rattle.pair_protocol.specs.World.{World}
 use Rattle.pair_events.specs.declared.event.Event.{Event}
 use Rattle.ft_world.specs.Standing.{Course, machine_of}
-use Rattle.ft_world.specs.Words.{read_address}
+use Rattle.shared_disk.specs.Arrivals.{read_address}
 use Rattle.ft_world.specs.declared.offer.Offer.{Offer}
 use Rattle.ft_world.specs.declared.offer.Offer.TheVariants as offer
 

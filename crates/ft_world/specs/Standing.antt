@@ -1,11 +1,11 @@
 -- What a world knows about the machine that its nodes run.
-use Rattle.std.specs.Prelude.{◌≡◌, ℕ, ◌≤◌, true, Some, List}
+use Rattle.std.specs.Prelude.{ℕ, ◌≤◌, List}
 use Rattle.disk_dcdd.specs.declared.address.SectorAddress.{SectorAddress}
 use Rattle.disk_dcdd.specs.declared.controller.TheConstants.{DRIVES}
 use Rattle.guest_lockstep.specs.Machine.{Machine}
 use Rattle.pair_protocol.specs.Copying.{Copying, IsCopying, Makes}
 use Rattle.pair_protocol.specs.Lawful.{Lawful}
-use Rattle.pair_protocol.specs.OnDisk.{StaysOnDisk}
+use Rattle.pair_protocol.specs.OnDisk.{StaysOnDisk, ReadyIsSelected}
 use Rattle.pair_protocol.specs.World.{World}
 use Rattle.guest_lockstep.specs.Outstanding.{ComesAndGoes}
 
@@ -19,11 +19,6 @@ pub record Course (S : Type 0) : Type 0 where
 -- the machine of a course: the one that the nodes run, begun there
 abbrev pub machine_of : {S : Type 0} → Machine S → Course S → Machine S
 machine_of M c = record M { boot = c.boot; boot_sector = c.sectors }
-
--- a sector is only ready at the selected drive
-abbrev pub ReadyIsSelected : {S : Type 0} → Machine S → Type 0
-ReadyIsSelected {S} M =
-    (s : S) (drive sector : ℕ) → M.ready s (M.address s drive sector) ≡ true → M.selected s ≡ Some drive
 
 -- what a pair asks of the machine that it runs, and of its copies
 pub record IsMachine {S : Type 0} (M : Machine S) (C : Copying S) (drives : ℕ) : Type 0 where

@@ -8,6 +8,7 @@ use Rattle.event_callbacks.specs.declared.operations.Operation.TheVariants as op
 use Rattle.i8080_words.specs.declared.refusal.Fault.{Fault}
 use Rattle.log_channel.specs.Packet.{packet_at}
 use Rattle.log_channel.specs.declared.packet.Packet.TheVariants as packet
+use Rattle.shared_disk.specs.Arrivals.{read_address}
 use Rattle.shared_disk.specs.declared.disk.SectorRead.{SectorRead}
 use Rattle.pair_protocol.specs.Reply as protocol
 use Rattle.pair_protocol.specs.World as sent
@@ -39,10 +40,6 @@ reply_of (reply.Stale pages) = protocol.StaleIs pages
 abbrev pub answer_of : Result Reply Fault → protocol.Reply
 answer_of (Ok r) = reply_of r
 answer_of (Err fault) = protocol.Refused fault
-
--- where a sector was read
-abbrev pub read_address : SectorRead → SectorAddress
-read_address r = record { drive = r.drive; track = r.track; sector = r.sector }
 
 -- what a sector has, with where and by which write
 abbrev pub IsRead : SectorAddress → ℕ → List ℕ → SectorRead → Type 0

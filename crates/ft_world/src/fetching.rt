@@ -5,7 +5,7 @@ ghost use Rattle.pair_protocol.specs.Node as protocol;
 ghost use Rattle.ft_node.specs.Calls as calls;
 ghost use Rattle.ft_node.specs.AnyNode.{MayFetch, PagesStay};
 ghost use Rattle.ft_world.specs.Shows.{IsStation};
-ghost use Rattle.ft_world.specs.Words.{read_address};
+ghost use Rattle.shared_disk.specs.Arrivals.{read_address};
 
 use crate::station::Station;
 use clone_state::Copies;

@@ -1,20 +1,20 @@
 -- A faithful pair of Altairs is alike; and a disk that begins alike on the drives of an Altair has the same traces.
-use Rattle.std.proofs.Common.{◌≡◌, ℕ, suc, List, [], ◌∷◌, Some, None, arith, inl, inr, refl, subst, sym}
+use Rattle.std.proofs.Common.{◌≡◌, ℕ, suc, List, [], ◌∷◌, arith, inl, inr, refl, subst, sym}
 use Rattle.std.specs.Prelude.{Any, not}
 use Rattle.std.proofs.lemmas.List.Elements.{All-cons, All-nil}
 use Rattle.disk_dcdd.specs.declared.address.SectorAddress.{SectorAddress}
-use Rattle.disk_dcdd.specs.declared.sector.SectorWrite.{SectorWrite}
 use Rattle.event_callbacks.specs.declared.operations.OpId.TheVariants as id
-use Rattle.event_callbacks.specs.declared.operations.Operation.TheVariants.{Byte, Write}
+use Rattle.event_callbacks.specs.declared.operations.Operation.TheVariants.{Write}
 use Rattle.guest_board.specs.Guest.{altair}
-use Rattle.guest_lockstep.specs.Machine.{Do, Move, Take}
+use Rattle.guest_lockstep.specs.Machine.{Move}
 use Rattle.guest_board.specs.declared.setup.Setup.{Setup}
-use Rattle.guest_lockstep.specs.Reach.{Reach, image, operations, writes}
+use Rattle.guest_lockstep.specs.Reach.{Reach, image, writes}
 use Rattle.guest_lockstep.specs.declared.timed.Bare.TheVariants.{Written}
 use Rattle.guest_lockstep.specs.declared.timed.Timed.{Timed}
 use Rattle.pair_protocol.specs.Faithful as promise
 use Rattle.pair_protocol.specs.Faithful.{Faithful}
 use Rattle.pair_protocol.specs.Lawful.{Among, Lawful}
+use Rattle.pair_protocol.proofs.Traces.Moves.{writes-given}
 use Rattle.altair_laws.proofs.Images.{Apart, bares}
 use Rattle.pair_check.proofs.Dones.{not_done}
 use Rattle.pair_check.specs.Alike.{FaithfulIsAlike}
@@ -36,16 +36,6 @@ some_of P x (y ∷ xs) (inr a) p = next (some_of P x xs a p)
     next : Any P xs → Any P (y ∷ xs)
     next (k, z, low, at, q) = (suc k, z, omega arith, at, q)
 
--- the writes among the operations
-written : (w : SectorWrite) (moves : List Move) → Among (Write w) (operations moves) → Among w (writes moves)
-written w [] a = a
-written w (Do None ∷ moves) a = written w moves a
-written w (Do (Some (Byte port number byte)) ∷ moves) (inl e) = (cc)
-written w (Do (Some (Byte port number byte)) ∷ moves) (inr a) = written w moves a
-written w (Do (Some (Write v)) ∷ moves) (inl e) = inl (cc)
-written w (Do (Some (Write v)) ∷ moves) (inr a) = inr (written w moves a)
-written w (Take i ∷ moves) a = written w moves a
-
 -- ---- a faithful pair
 
 module _ (apart : Apart) (setup : Setup) (start : SectorAddress → List ℕ) (laws : Lawful (altair setup start)) where
@@ -55,7 +45,7 @@ module _ (apart : Apart) (setup : Setup) (start : SectorAddress → List ℕ) (l
   may_have list count trace r address bytes (promise.IsImage is) = inl is
   may_have list count trace r address bytes (promise.IsOutstanding w found there is) =
       inr (some_of (Brings list address bytes) w (writes trace)
-      (written w trace (laws.given trace r.last (id.Write w.number) (Write w) r.runs found)) (record {
+      (writes-given w trace (laws.given trace r.last (id.Write w.number) (Write w) r.runs found)) (record {
         there = there;
         bytes_are = sym is;
         undone = none_of w.number list (λ a. not_done apart setup start trace r.last r.runs w found

@@ -1,7 +1,8 @@
 -- A comparison of a pair with the machine, by its outputs and its sectors.
-use Rattle.std.proofs.Common.{◌≡◌, ℕ, zero, suc, ◌<◌, ◌≤◌, ◌+◌, Bool, true, false, IsTrue, List, refl, sym, arith, subst, inl, inr}
+use Rattle.std.proofs.Common.{◌≡◌, ℕ, ◌<◌, ◌≤◌, ◌+◌, Bool, true, false, IsTrue, List, refl, sym, arith, subst, inl, inr}
 use Rattle.std.proofs.lemmas.Bool.{and_from, and_parts, lt-ltb, ltb-false, ltb-true}
 use Rattle.std.specs.Prelude.{◌⊎◌, ◌↔◌, nat_lt, if◌then◌else◌}
+use Rattle.i8080_words.proofs.Bits.{below_two}
 use Rattle.disk_dcdd.specs.Address.{has_sector, is_on_disk}
 use Rattle.disk_dcdd.specs.declared.address.SectorAddress.{SectorAddress}
 use Rattle.disk_dcdd.specs.declared.drive.TheConstants.{TRACKS}
@@ -51,19 +52,13 @@ there_at drives drive track sector d t s =
     (and_from (nat_lt track TRACKS) (nat_lt sector SECTORS) (lt-ltb track TRACKS t) (lt-ltb sector SECTORS s))
     (lt-ltb drive drives d)
 
--- the two ports
-at_ports : (P : ℕ → Type 0) → P 0 → P 1 → (port : ℕ) → port < 2 → P port
-at_ports P first second zero low = first
-at_ports P first second (suc zero) low = second
-at_ports P first second (suc (suc port)) low = absurd (omega arith)
-
 -- if the first terminal has what it may have, an answer for the second one is an answer for both
 pub by_second : (accepted output : ℕ → List ℕ) (answer : Bool) → IsAllBut 16 (accepted 0) (output 0)
     → (IsTrue answer ↔ IsAllBut 16 (accepted 1) (output 1))
     → IsTrue answer ↔ ((port : ℕ) → port < 2 → IsAllBut 16 (accepted port) (output port))
 by_second accepted output answer first second =
     let low : 1 < 2 = omega arith in
-    ((λ yes. at_ports (λ port. IsAllBut 16 (accepted port) (output port)) first (second.0 yes)), λ all. second.1 (all 1 low))
+    ((λ yes. below_two (λ port. IsAllBut 16 (accepted port) (output port)) first (second.0 yes)), λ all. second.1 (all 1 low))
 
 module _ (drives : ℕ) (d : Deeds) (records : List Record) (output : ℕ → List ℕ) (writes : List SectorWrite)
     (image : SectorAddress → List ℕ) where
@@ -154,5 +149,5 @@ verdict_of M drives d records count a answer few runs is =
     Ran moves answer (subst (λ n. Reach M d.settled n moves) runs.count_is runs.stands.reach)
     (answer_alike drives d records (output_of a) (λ port. output port moves) a.behind.writes (writes moves)
     (sector_at a.disk) (image M moves) answer
-    (at_ports (λ port. output_of a port ≡ output port moves) runs.stands.stands.first runs.stands.stands.second)
+    (below_two (λ port. output_of a port ≡ output port moves) runs.stands.stands.first runs.stands.stands.second)
     runs.stands.stands.writes (λ address on. runs.stands.stands.disk address (is_sector drives few address on)) is)

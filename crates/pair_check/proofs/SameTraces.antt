@@ -1,8 +1,7 @@
 -- An Altair reads only sectors of its own drives. So two disks that begin alike on those have the same traces.
-use Rattle.std.proofs.Common.{◌≡◌, ℕ, ◌≤◌, false, suc, arith, List, [], ◌∷◌, ◌++◌, Option, Some, None, IsTrue, ap, refl, subst, sym, ◌∙◌}
-use Rattle.std.specs.Prelude.{is_none, nat_lt, not, ◌&&◌, ◌==◌}
-use Rattle.std.specs.Option.{option_map_or}
-use Rattle.std.proofs.lemmas.Bool.{and_parts, eqb-true, ltb-true}
+use Rattle.std.proofs.Common.{◌≡◌, ℕ, ◌≤◌, suc, arith, List, [], ◌∷◌, ◌++◌, Option, Some, ap, refl, subst, sym, ◌∙◌}
+use Rattle.std.specs.Prelude.{is_none, nat_lt, not, ◌&&◌}
+use Rattle.std.proofs.lemmas.Bool.{and_parts, ltb-true}
 use Rattle.std.proofs.lemmas.Option.{cond_some}
 use Rattle.disk_dcdd.specs.Completion.{is_head_loaded, is_sector_busy, is_sector_due, is_selected}
 use Rattle.disk_dcdd.specs.declared.address.SectorAddress.{SectorAddress}
@@ -16,16 +15,13 @@ use Rattle.guest_lockstep.specs.declared.input.Input.TheVariants as input
 use Rattle.guest_board.specs.declared.setup.Setup.{Setup}
 use Rattle.guest_lockstep.specs.Reach.{Own, Owns, Reach, image, image_from, inputs}
 use Rattle.guest_lockstep.specs.declared.timed.Timed.{Timed}
+use Rattle.altair_laws.proofs.Drives.{selected_is}
 use Rattle.pair_protocol.specs.OnDisk.{StaysOnDisk}
 use Rattle.pair_protocol.specs.Lawful.{Reaches}
 use Rattle.pair_protocol.proofs.Traces.Lists.{same_some}
 use Rattle.pair_protocol.proofs.Traces.Moves.{runs-append}
 use Rattle.plain_single.specs.Reaching.{NeverFall}
 use Rattle.pair_check.specs.Alike.{BeginAlike}
-
-selected_is : (o : Option ℕ) (drive : ℕ) → IsTrue (option_map_or (λ selected. selected == drive) o false) → o ≡ Some drive
-selected_is None drive e = (cc)
-selected_is (Some s) drive e = ap Some (eqb-true s drive e)
 
 module _ (setup : Setup) (one other : SectorAddress → List ℕ) where
   runs_alike : (moves : List Move) (s t : Guest) → Runs (altair setup one) s moves t → Runs (altair setup other) s moves t
@@ -50,7 +46,7 @@ module _ (setup : Setup) (one other : SectorAddress → List ℕ) where
         let a = and_parts (is_selected c drive) (is_sector_due c sector && not (is_sector_busy c sector)) t.0 in
         let b = and_parts (is_sector_due c sector) (not (is_sector_busy c sector)) a.1 in
         let d = and_parts (is_head_loaded c && is_none c.current) (nat_lt sector SECTORS) b.0 in
-        let on = stays.reads before s drive sector r (selected_is c.selected drive a.0) (ltb-true sector SECTORS d.1) in
+        let on = stays.reads before s drive sector r (selected_is c drive a.0) (ltb-true sector SECTORS d.1) in
         (o.0, sym (image_alike (address_under s drive sector) (begin (address_under s drive sector) on) before) ∙ o.1)
 
     owns_alike : (before moves : List Move) (s t : Guest) → Reaches (altair setup one) before s

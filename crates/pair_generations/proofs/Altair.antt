@@ -5,7 +5,7 @@ use Rattle.std.specs.Prelude.{IsTrue}
 use Rattle.std.specs.Option.{option_map_or}
 use Rattle.altair_copies.specs.Copies.{IsSetup, image_copy}
 use Rattle.clone_state.specs.Copies.{CopiesAs}
-use Rattle.disk_dcdd.specs.Address.{has_sector}
+use Rattle.disk_dcdd.specs.Address.{has_sector, bytes_with_all}
 use Rattle.disk_dcdd.specs.declared.address.SectorAddress.{SectorAddress}
 use Rattle.disk_dcdd.specs.declared.sector.SectorWrite.{SectorWrite}
 use Rattle.disk_dcdd.specs.declared.sector.TheConstants.{SECTOR_BYTES}
@@ -22,8 +22,7 @@ use Rattle.pair_protocol.specs.Copying.{IsCopying, Makes}
 use Rattle.pair_resumed.specs.Settled.{DueIsGiven}
 use Rattle.pair_rule.specs.Law.{Runnable}
 use Rattle.pair_standing.specs.Standing.{OutstandingIsDue}
-use Rattle.pair_threads.specs.Stores.{bytes_in}
-use Rattle.shared_disk.specs.Records.{HasWholeSectors, IsAtBoot, boot_record, bytes_after, record_at}
+use Rattle.shared_disk.specs.Records.{HasWholeSectors, IsAtBoot, boot_record, bytes_in, record_at}
 use Rattle.shared_disk.specs.declared.store.Record.{Record}
 
 as_guests : (drives : ℕ) → CopiesAs (λ (g : Guest). g) (λ (g : Guest). g) drives (image_copy drives).parts
@@ -81,7 +80,7 @@ setup_is setup records given levels memory sense at whole = record {
   memory = memory;
   sense = sense;
   disk = λ address has.
-      let r = boot_record (bytes_after given address (replicate SECTOR_BYTES 0)) in
+      let r = boot_record (bytes_with_all given address (replicate SECTOR_BYTES 0)) in
       let some : record_at records address ≡ Some r = at address ∙ there (has_sector setup.drives address) r has in
       ap (λ o. length (option_map_or (λ (u : Record). u.bytes) o [])) some ∙ whole address r some;
 }

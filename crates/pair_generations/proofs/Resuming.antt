@@ -10,7 +10,7 @@ use Rattle.pair_rule.specs.declared.known.Known.{Known}
 use Rattle.pair_standing.specs.declared.standing.Standing.{Standing}
 use Rattle.pair_threads.specs.Leading.{by_port}
 use Rattle.pair_threads.specs.Resuming.{BeginsAt}
-use Rattle.pair_threads.specs.Stores.{bytes_in}
+use Rattle.shared_disk.specs.Records.{bytes_in}
 use Rattle.pair_threads.specs.declared.link.Fate.{Fate}
 use Rattle.shared_disk.specs.declared.store.Record.{Record}
 

@@ -15,7 +15,8 @@ use Rattle.pair_threads.specs.Ending.{EachScreen, EndsBy, NoneUnderWay, WonBy}
 use Rattle.pair_threads.specs.Leading.{by_port}
 use Rattle.pair_threads.specs.Left.{LeavesBy}
 use Rattle.pair_threads.specs.Resuming.{BeginsAt}
-use Rattle.pair_threads.specs.Stores.{IsStore, bytes_in}
+use Rattle.shared_disk.specs.Records.{bytes_in}
+use Rattle.pair_threads.specs.Stores.{IsStore}
 use Rattle.pair_threads.specs.Typing.{IsTyped}
 use Rattle.pair_threads.specs.declared.gate.Who.{Who}
 use Rattle.pair_threads.specs.declared.workers.GenerationEnd.{GenerationEnd}

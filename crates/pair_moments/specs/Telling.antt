@@ -5,7 +5,7 @@ use Rattle.event_callbacks.specs.declared.operations.Operation.{Operation}
 use Rattle.event_callbacks.specs.declared.operations.Operation.TheVariants as operation
 use Rattle.ft_world.specs.Shows.{Agree, IsStatusAt}
 use Rattle.ft_world.specs.Standing.{Course}
-use Rattle.ft_world.specs.Words.{read_address}
+use Rattle.shared_disk.specs.Arrivals.{read_address}
 use Rattle.ft_world.specs.declared.hosts.NodeStatus.{NodeStatus}
 use Rattle.ft_world.specs.declared.message.Message.{Message}
 use Rattle.ft_world.specs.declared.message.Message.TheVariants as message

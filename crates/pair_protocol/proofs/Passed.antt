@@ -1,5 +1,6 @@
 -- What is known of a node and of a message if no refusal applies.
 use Rattle.std.proofs.Common.{[], ◌∙◌, ◌∷◌, ◌≡◌, ◌⊎◌, Bool, List, None, Option, Some, ap, cond, false, inl, inr, not, refl, subst, sym, true, ℕ}
+use Rattle.std.proofs.lemmas.Bool.{not-false}
 use Rattle.std.specs.Prelude.{◌&&◌, ◌||◌, slice_get}
 use Rattle.pair_protocol.proofs.Words.{Acts, Alone, Among, Backup, Change, Changes, Copying, Draining, Joining, Machine, Node, Primary, Replaying, Role, Serving, Spare, Stays, Then, World, acts_as, is_role}
 use Rattle.i8080_words.specs.declared.refusal.Fault.TheVariants.{Lost, Unknown, WrongRole}
@@ -31,10 +32,6 @@ only-passed o h = (first-passed o [] h).0
 pub not-stands : (b : Bool) (fault : Fault) → fault_if b fault ≡ None → b ≡ false
 not-stands true fault h = (cc)
 not-stands false fault h = refl
-
-pub not-false : (b : Bool) → not b ≡ false → b ≡ true
-not-false true h = refl
-not-false false h = (cc)
 
 pub passes-if : (b : Bool) (fault : Fault) → fault_if (not b) fault ≡ None → b ≡ true
 passes-if b fault h = not-false b (not-stands (not b) fault h)

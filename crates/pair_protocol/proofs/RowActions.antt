@@ -1,7 +1,7 @@
 -- A row is a sequence of actions: what passes the refusals meets what the actions ask for.
 use Rattle.std.proofs.Common.{[], ◌∙◌, ◌∷◌, ◌≡◌, ◌≤◌, Bool, List, None, Option, Some, ap, arith, cond, eqb-true, false, inl, inr, length, not, refl, subst, suc, sym, true, zero, ℕ}
 use Rattle.std.specs.Prelude.{◌&&◌, ◌==◌, is_none, slice_get}
-use Rattle.std.proofs.lemmas.Bool.{or_parts}
+use Rattle.std.proofs.lemmas.Bool.{not-false, or_parts}
 use Rattle.disk_dcdd.proofs.Addresses.{same_address-is}
 use Rattle.pair_protocol.proofs.Words.{Acknowledgement, Acts, Alone, AloneReleases, Backup, Change, Changes, Copying, Draining, Entry, GoesLive, ImagePart, Joining, LogEntry, Machine, Node, OpId, Operation, Primary, PrimaryReleases, Reads, Released, Role, SectorRead, Serving, Spare, Stays, Then, World, acts_as, covers, fetches, gets_part, halts, hears, holds, is_role, joins, keys_covered, note_of, replay_told, same_address, told_by, winner_in, with_message, with_node, with_told, with_winner}
 use Rattle.guest_lockstep.specs.declared.reads.Reads.TheVariants.{Logged, Shared}
@@ -20,7 +20,7 @@ use Rattle.pair_protocol.specs.Rows as row
 use Rattle.pair_protocol.specs.Rows.{AtNode, BeginsPair, DeliversLog, Does, Drains, Steps, Suspects, TakesFetched}
 use Rattle.pair_protocol.proofs.InputRows.{does_get_reply, does_put_reply, does_take_key, does_tell_sent}
 use Rattle.pair_protocol.proofs.OneNode.{advance_changes, from_here, is-at-read, moving, on, replay_changes, with_same}
-use Rattle.pair_protocol.proofs.Passed.{acts-in, and-false, changed, changes-append, first-passed, lost-no_spare, node-passed, not-false, not-stands, only-passed, passes-if, replaying, role_of, serving, unchanged}
+use Rattle.pair_protocol.proofs.Passed.{acts-in, and-false, changed, changes-append, first-passed, lost-no_spare, node-passed, not-stands, only-passed, passes-if, replaying, role_of, serving, unchanged}
 
 -- ---- each event
 

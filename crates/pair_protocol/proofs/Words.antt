@@ -4,7 +4,7 @@ pub use Rattle.guest_lockstep.specs.Machine.{Do, Machine, Move, Runs, Take, boot
 pub use Rattle.guest_lockstep.specs.Recorded.{Recorded}
 pub use Rattle.guest_lockstep.specs.declared.input.Input.{Input}
 pub use Rattle.guest_lockstep.specs.declared.reads.Reads.{Reads}
-pub use Rattle.guest_lockstep.specs.Reach.{Own, Owns, Reach, acceptances, accepted_at, bare, byte_to, image, inputs, key_at, keys, operations, output, steps, timed}
+pub use Rattle.guest_lockstep.specs.Reach.{Own, Owns, Reach, acceptances, accepted_at, bare, byte_to, image, inputs, key_at, keys, operations, output, steps, timed, writes}
 pub use Rattle.guest_lockstep.specs.declared.timed.Timed.{Timed}
 pub use Rattle.log_entry.specs.Entries.{bare_of, count_of, entries, entry_of, input_of, inputs_of, is_read, last_count, marks, read_of, timed_in, timed_of}
 pub use Rattle.log_entry.specs.declared.entry.Entry.{Entry}

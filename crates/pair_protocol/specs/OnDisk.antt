@@ -1,5 +1,5 @@
 -- Which sectors a machine reads and writes: those of its own drives.
-use Rattle.std.specs.Prelude.{◌≡◌, ℕ, ◌<◌, IsTrue, Some, List}
+use Rattle.std.specs.Prelude.{◌≡◌, ℕ, ◌<◌, IsTrue, true, Some, List}
 use Rattle.disk_dcdd.specs.Address.{address_of, has_sector}
 use Rattle.disk_dcdd.specs.declared.sector.SectorWrite.{SectorWrite}
 use Rattle.disk_dcdd.specs.declared.sector.TheConstants.{SECTORS}
@@ -16,3 +16,8 @@ pub record StaysOnDisk {S : Type 0} (M : Machine S) (drives : ℕ) : Type 0 wher
   -- where an outstanding write goes
   pub writes : (moves : List Move) (s : S) (name : OpId) (write : SectorWrite) → Reaches M moves s
       → M.find s name ≡ Some (Write write) → IsTrue (has_sector drives (address_of write))
+
+-- a sector is only ready at the selected drive
+abbrev pub ReadyIsSelected : {S : Type 0} → Machine S → Type 0
+ReadyIsSelected {S} M =
+    (s : S) (drive sector : ℕ) → M.ready s (M.address s drive sector) ≡ true → M.selected s ≡ Some drive

@@ -1,24 +1,17 @@
 -- The Altair of every setup is a machine that the threads may run: only a sector of the selected drive is ready, and where it
 -- boots and what its sectors hold does not matter to how it counts, and how operations come and go.
-use Rattle.std.proofs.Common.{◌≡◌, ℕ, Bool, true, false, ◌==◌, ◌&&◌, List, refl, ap, arith, Option, Some, None}
-use Rattle.std.specs.Option.{option_map_or}
-use Rattle.pair_resumed.proofs.Words.{Counts, Lawful, Machine, ReadsSelected, Runnable, SectorAddress}
+use Rattle.std.proofs.Common.{◌≡◌, ℕ, List, refl, Some, None}
+use Rattle.std.proofs.lemmas.Bool.{and_parts}
+use Rattle.pair_resumed.proofs.Words.{Counts, Lawful, Machine, ReadyIsSelected, Runnable, SectorAddress}
+use Rattle.altair_laws.proofs.Drives.{selected_is}
 use Rattle.guest_board.specs.Guest.{altair}
 use Rattle.guest_board.specs.Inputs.{some_altair}
 use Rattle.guest_board.specs.declared.setup.Setup.{Setup}
 use Rattle.guest_lockstep.specs.Outstanding.{ComesAndGoes}
 use Rattle.pair_protocol.specs.Copying.{IsCopying, no_copies}
 
-and_first : (a b : Bool) → (a && b) ≡ true → a ≡ true
-and_first true b e = refl
-and_first false b e = absurd cc
-
-is_that : (selected : Option ℕ) (drive : ℕ) → option_map_or (λ d. d == drive) selected false ≡ true → selected ≡ Some drive
-is_that None drive e = absurd cc
-is_that (Some d) drive e = ap Some (let same : d ≡ drive = grind arith in same)
-
-altair_selects : (setup : Setup) (sectors : SectorAddress → List ℕ) → ReadsSelected (altair setup sectors)
-altair_selects setup sectors g drive sector ready = is_that g.devices.disk.selected drive (and_first _ _ ready)
+altair_selects : (setup : Setup) (sectors : SectorAddress → List ℕ) → ReadyIsSelected (altair setup sectors)
+altair_selects setup sectors g drive sector ready = selected_is g.devices.disk drive (and_parts _ _ ready).0
 
 pub altair_runnable : (setup : Setup) (sectors : SectorAddress → List ℕ) → Lawful (altair setup sectors) → Counts some_altair
     → ComesAndGoes some_altair → Runnable (altair setup sectors)

@@ -1,6 +1,6 @@
 -- What is known follows a run, move after move: each operation is released, accepted or asked for as soon as it is given.
 use Rattle.std.proofs.Common.{◌≡◌, ℕ, ◌+◌, ◌⊎◌, inl, inr, List, [], ◌∷◌, ◌++◌, length, map, Some, None, Option, refl, sym, ap, ◌∙◌, subst, arith, append-nil, length-append}
-use Rattle.pair_resumed.proofs.Words.{AllAre, Among, AreAnswers, Do, Entry, HasWrite, IsAnswer, IsDone, IsFirst, Knowledge, Logged, Machine, Move, NoneUnderWay, Operation, Runs, SectorWrite, Take, ThreadRun, Write, accepted_after, among-left, among-right, among-split, arrival_of, bare, entries, entries-append, inputs, inputs-append, map-append, operations, operations-append, output, output-append, steps}
+use Rattle.pair_resumed.proofs.Words.{AllAre, Among, AreAnswers, Do, Entry, HasWrite, IsAnswer, IsDone, IsFirst, Knowledge, Logged, Machine, Move, NoneUnderWay, Operation, Runs, SectorWrite, Take, ThreadRun, Write, accepted_after, among-left, among-right, among-split, arrival_of, bare, entries, entries-append, inputs, inputs-append, map-append, operations, operations-append, output, output-append, same_some, steps}
 use Rattle.guest_lockstep.specs.declared.input.Input.{Input}
 use Rattle.guest_lockstep.specs.declared.input.Input.TheVariants as input
 use Rattle.guest_lockstep.specs.declared.timed.Bare.{Bare}
@@ -64,20 +64,14 @@ module _ {S : Type 0} (M : Machine S) where
       → AreAnswers M ns t ys → AreAnswers M ns s (xs ++ ys)
   answers_end ns s t [] ys runs said then = subst (λ u. AreAnswers M ns u ys) (sym runs) then
   answers_end ns s t (Do gives ∷ xs) ys runs said then = λ u e.
-      let same : runs.0 ≡ u = ap (λ (p : S × Option Operation). p.0) (some_is (runs.0, gives) (u, gives) (M.step s) runs.1 e) in
+      let same : runs.0 ≡ u = ap (λ (p : S × Option Operation). p.0) (same_some (runs.0, gives) (u, gives) (M.step s) runs.1 e) in
       answers_end ns u t xs ys (subst (λ v. Runs M v xs t) same runs.2) (said u e) then
-    where
-      some_is : (x y : S × Option Operation) (o : Option (S × Option Operation)) → o ≡ Some x → o ≡ Some y → x ≡ y
-      some_is x y o h k = let e : Some x ≡ Some y = sym h ∙ k in cc
   answers_end ns s t (Take i ∷ xs) ys runs said then = (
     said.0,
     λ u e.
-        let same : runs.0 ≡ u = some_is runs.0 u (M.take s i) runs.1 e in
+        let same : runs.0 ≡ u = same_some runs.0 u (M.take s i) runs.1 e in
         answers_end ns u t xs ys (subst (λ v. Runs M v xs t) same runs.2) (said.1 u e) then,
   )
-    where
-      some_is : (x y : S) (o : Option S) → o ≡ Some x → o ≡ Some y → x ≡ y
-      some_is x y o h k = let e : Some x ≡ Some y = sym h ∙ k in cc
 
 -- ---- what follows a run
 

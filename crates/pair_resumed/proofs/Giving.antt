@@ -1,6 +1,7 @@
 -- A step that gives an operation: its mark is held and seen; a byte is released, accepted and counted. A write waits for its
 -- completion.
 use Rattle.std.proofs.Common.{◌≡◌, ℕ, zero, suc, ◌+◌, ◌<◌, ◌≤◌, List, [], ◌∷◌, ◌++◌, length, Option, Some, refl, sym, ap, ◌∙◌, subst, arith, append-nil, length-append, inr, inl, map, eq-eqb, cond}
+use Rattle.std.proofs.lemmas.List.{map_push}
 use Rattle.pair_resumed.proofs.Words.{Among, AreAnswers, Byte, Bytes0, Bytes1, Do, Empties, Entry, Fills, Goes, HasLonger, HasPort, HasWrite, IsDone, Knowledge, Logged, Machine, MayRelease, Move, Operation, Out, Recorded, Runnable, Runs, SectorWrite, SeesCount, ThreadRun, Write, accepted_after, accepted_at, after_empty, after_fill, among-left, among-right, among-split, arrival_of, arrives, byte_arrived, entries, entries-append, operations, operations-append, output, output-append, recorded-append, recorded-runs, saw_count, steps, steps-append, top, with_release}
 use Rattle.log_entry.specs.declared.entry.Entry.TheVariants.{Mark}
 use Rattle.pair_protocol.proofs.Promises.OneMore.{accepted-one}
@@ -10,14 +11,10 @@ use Rattle.pair_rule.specs.declared.view.TerminalView.{TerminalView}
 use Rattle.pair_rule.specs.Knowledge as rule
 use Rattle.pair_rule.specs.Steps.{Counts}
 use Rattle.pair_rule.proofs.HandsAgain.{counts_once}
-use Rattle.pair_rule.proofs.ShownNodes.{map_more}
 use Rattle.pair_threads.specs.Screens.{next_byte}
 use Rattle.pair_threads.proofs.OneMoment.{as_many}
-use Rattle.pair_resumed.proofs.Logging.{IsAt, log_at, log_runs, logged, may_release}
+use Rattle.pair_resumed.proofs.Logging.{IsAt, has_room, log_at, log_runs, logged, may_release}
 use Rattle.pair_resumed.proofs.Following.{AtPort0, AtPort1, Follows, PortFollows, answers_end, done_before, done_longer, still_none}
-
-short : (n all most : ℕ) → all ≡ n + 1 → all ≤ most → n < most
-short n all most is le = omega (arith, is, le)
 
 -- ---- a byte is given away: it is released, taken, counted, and seen counted
 
@@ -40,7 +37,7 @@ given_on : (port number byte counted : ℕ) (hand : Option Operation) (arrivals 
 given_on port number byte counted hand arrivals out after given is then =
     let a : Arrived = record { number = number; byte = byte } in
     let bytes : accepted_after 0 (map arrival_of (arrivals ++ a ∷ [])) ≡ after =
-    ap (accepted_after 0) (map_more arrival_of arrivals a) ∙ accepted-one (map arrival_of arrivals) (arrival_of a)
+    ap (accepted_after 0) (map_push arrival_of arrivals a) ∙ accepted-one (map arrival_of arrivals) (arrival_of a)
     ∙ next_is (accepted_after 0 (map arrival_of arrivals)) out (record { number = number; byte = byte }) given.bytes is
     ∙ then in record {
       bytes = bytes;
@@ -120,7 +117,7 @@ module _ {S : Type 0} (M : Machine S) (may : Runnable M) (typed0 typed1 : List �
     }
 
     room : length k.primary.list < top
-    room = short (length k.primary.list) (length (entries Logged 0 after)) top
+    room = has_room (length k.primary.list) (length (entries Logged 0 after)) top
         (ap length (are ∙ ap (λ l. l ++ mark ∷ []) (sym f.at.primary)) ∙ length-append k.primary.list (mark ∷ [])) few
 
     marks : ThreadRun M typed0 typed1 known

@@ -1,5 +1,5 @@
 -- An entry is appended, taken by the backup, held and seen; and what is outstanding then may be released.
-use Rattle.std.proofs.Common.{◌≡◌, ℕ, ◌+◌, ◌<◌, cond, List, [], ◌∷◌, ◌++◌, length, None, Some, refl, sym, ap, ◌∙◌, arith, eq-eqb}
+use Rattle.std.proofs.Common.{◌≡◌, ℕ, ◌+◌, ◌<◌, ◌≤◌, cond, List, [], ◌∷◌, ◌++◌, length, None, Some, refl, sym, ap, ◌∙◌, arith, eq-eqb}
 use mathlib.Core.Option.{some}
 use lib.ListN.{get_elem?}
 use Rattle.event_callbacks.specs.Operations.{id_of}
@@ -32,6 +32,10 @@ pub record IsAt (list : List Entry) (k : Knowledge) : Type 0 where
 get_end : (xs : List Entry) (x : Entry) → get_elem? (xs ++ x ∷ []) (length xs) ≡ some x
 get_end [] x = refl
 get_end (y ∷ xs) x = get_end xs x
+
+-- a list of at most as many has room for its last
+pub has_room : (n all most : ℕ) → all ≡ n + 1 → all ≤ most → n < most
+has_room n all most is le = omega (arith, is, le)
 
 room : (n seen : ℕ) → seen ≡ n → n < seen + 256
 room n seen is = omega (arith, is)

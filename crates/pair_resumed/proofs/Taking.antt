@@ -8,20 +8,9 @@ use Rattle.guest_lockstep.specs.declared.input.Input.TheVariants as input
 use Rattle.guest_lockstep.specs.declared.timed.Bare.TheVariants.{Written}
 use Rattle.i8080_words.specs.declared.refusal.Fault.TheVariants.{NotDue}
 use Rattle.pair_rule.specs.Kinds.{counted_at}
-use Rattle.pair_resumed.proofs.Logging.{IsAt, log_at, log_runs, logged}
+use Rattle.pair_rule.proofs.AppendSteps.{is_due}
+use Rattle.pair_resumed.proofs.Logging.{IsAt, has_room, log_at, log_runs, logged}
 use Rattle.pair_resumed.proofs.Following.{AtPort0, AtPort1, Follows, answers_end, done_by, done_longer, still_none}
-
-short : (n all most : ℕ) → all ≡ n + 1 → all ≤ most → n < most
-short n all most is le = omega (arith, is, le)
-
--- an acceptance is refused unless a byte is due
-pub is_due : {S : Type 0} (M : Machine S) (t : S) (port : ℕ) → refusal_of M t (input.Sent port) ≡ None
-    → (number : ℕ) × (M.due_byte t port ≡ Some number)
-is_due M t port allowed = go (M.due_byte t port) allowed
-  where
-    go : (due : Option ℕ) → (if is_none due then Some NotDue else None) ≡ None → (number : ℕ) × (due ≡ Some number)
-    go None e = absurd cc
-    go (Some number) e = (number, refl)
 
 -- a completion is refused unless the write is outstanding
 pub is_out : {S : Type 0} (M : Machine S) (t : S) (n : ℕ) → refusal_of M t (input.Written n) ≡ None
@@ -87,7 +76,7 @@ module _ {S : Type 0} (M : Machine S) (may : Runnable M) (typed0 typed1 : List �
   }
 
   room : length k.primary.list < top
-  room = short (length k.primary.list) (length (entries Logged 0 after)) top
+  room = has_room (length k.primary.list) (length (entries Logged 0 after)) top
       (ap length (are ∙ ap (λ l. l ++ entry ∷ []) (sym h.at.primary)) ∙ length-append k.primary.list (entry ∷ [])) few
 
   same_given : operations moves ≡ operations after

@@ -1,5 +1,6 @@
 -- Steps that are events of the world: an acknowledgement is sent and received, a packet arrives.
 use Rattle.std.proofs.Common.{◌≡◌, ℕ, zero, suc, ◌≤◌, max, eqb, cond, Bool, true, false, List, [], ◌∷◌, ◌++◌, length, sym, refl, ap, ◌∙◌, subst, ◌⊎◌, inl, inr, ⊎_elim, arith, eq-eqb, Option, Some, None, slice_get, slice_set}
+use Rattle.std.proofs.lemmas.Bool.{le-ltb}
 use mathlib.Core.Option.{some}
 use lib.ListN.{get_elem?}
 use Rattle.pair_rule.proofs.Words.{Accepts, Acknowledge, Acknowledgement, Among, BadAck, Copying, DeliverAcknowledgement, DeliverLog, Entry, First, HeldIs, Inbox, Knowledge, Leads, Log, LogEntry, Machine, MessageIs, NamedSector, New, Node, Nothing, Old, Packet, Sector, SectorRead, Sectors, SeeEvents, Sent, Shows, Stands, Whole, World, acknowledge_refusal, after_empty, at_acknowledgement, at_log_entry, at_node, backup_node, backup_role, backup_runs, completed, fault_if, first_of, hears, held, holds, last_or, longer_by, named_by, primary_node, primary_role, primary_runs, saw, visible, wanted_then, with_carried, with_node}
@@ -8,7 +9,7 @@ use Rattle.pair_rule.proofs.Filled.{among_last}
 use Rattle.pair_rule.proofs.ListsThatGrow.{last_among}
 use Rattle.pair_rule.proofs.WordChanges.{held_short}
 use Rattle.pair_rule.proofs.Agree.{completes}
-use Rattle.pair_rule.proofs.ShownNodes.{wants_shows, only_more, only_held, later_covered, index_of, more_sent, among_either, read_slice, not_below, serving, waiting, first_node, second_node}
+use Rattle.pair_rule.proofs.ShownNodes.{wants_shows, only_more, only_held, later_covered, index_of, more_sent, among_either, read_slice, serving, waiting, first_node, second_node}
 
 module _ {S : Type 0} (M : Machine S) (C : Copying S) (typed0 typed1 : List ℕ) (k : Knowledge) (w : World S)
     (z : Shows M typed0 typed1 k w) where
@@ -117,7 +118,7 @@ module _ {S : Type 0} (M : Machine S) (C : Copying S) (typed0 typed1 : List ℕ)
         replies = HeldIs (hears primary n 0).covered ∷ [];
         new = with_node w 0 (hears primary n 0);
         run = First (Accepts ((λ i. at_acknowledgement (at_primary none i) (m.1 i)) ∙ ap (λ b. first_of (fault_if b BadAck ∷ []))
-            (not_below (length k.primary.list) n short)) record {
+            (le-ltb (length k.primary.list) n short)) record {
               generation = 1;
               held = n;
               replayed = 0;

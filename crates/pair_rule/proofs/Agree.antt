@@ -3,10 +3,10 @@
 use Rattle.std.proofs.Common.{◌≡◌, ◌==◌, ℕ, List, ◌∷◌, [], ◌++◌, length, Bool, true, false, cond, sym, refl, ap, ◌∙◌, ◌⊎◌, inl, inr, ⊎_elim, eqb-true, Option, Some, None}
 use mathlib.Core.Option.{some}
 use lib.ListN.{get_elem?}
-use Rattle.pair_rule.proofs.Words.{Agrees, AgreesOf, AllAre, Among, Carried, Carries, DiskAnswer, DiskView, Entry, IsEntryOf, IsNext, Named, NamedSector, Packet, SectorRead, SectorWrite, WasRead, WhereSome, Whole, and_parts, completed, is_of, read_at, same_address, same_address-is, sector_entry}
+use Rattle.pair_rule.proofs.Words.{Agrees, AgreesOf, AllAre, Among, Carried, Carries, DiskAnswer, DiskView, Entry, IsEntryOf, IsNext, Named, NamedSector, Packet, SectorRead, SectorWrite, WasRead, WhereSome, Whole, among-left, and_parts, completed, is_of, read_address, same_address, same_address-is, sector_entry}
 use Rattle.log_entry.specs.declared.entry.Entry.TheVariants as entry
 use Rattle.pair_rule.specs.declared.payload.DiskAnswer.TheVariants as answer
-use Rattle.pair_rule.proofs.Elements.{all_in, among_either, among_more, no_read}
+use Rattle.pair_rule.proofs.Elements.{all_in, among_either, no_read}
 
 abbrev pub AllAgree : DiskView → Type 0
 AllAgree d = (r : SectorRead) → WasRead d r → Agrees d r
@@ -19,8 +19,8 @@ agree_more d e x back all new r was s was' at same = go (back r was) (back s was
     go : WasRead d r ⊎ (r ≡ x) → WasRead d s ⊎ (s ≡ x) → s.bytes ≡ r.bytes
     go (inl a) (inl b) = all r a s b at same
     go (inl a) (inr b) = ap (λ (z : SectorRead). z.bytes) b ∙ sym
-        (new r a (sym at ∙ ap read_at b) (sym same ∙ ap (λ (z : SectorRead). z.number) b))
-    go (inr a) (inl b) = new s b (at ∙ ap read_at a) (same ∙ ap (λ (z : SectorRead). z.number) a) ∙ sym
+        (new r a (sym at ∙ ap read_address b) (sym same ∙ ap (λ (z : SectorRead). z.number) b))
+    go (inr a) (inl b) = new s b (at ∙ ap read_address a) (same ∙ ap (λ (z : SectorRead). z.number) a) ∙ sym
         (ap (λ (z : SectorRead). z.bytes) a)
     go (inr a) (inr b) = ap (λ (z : SectorRead). z.bytes) (b ∙ sym a)
 
@@ -55,7 +55,7 @@ agree_found d x all new = agree_more d (record d { found = d.found ++ x ∷ [] }
 
 pub carries_more : (given more : List DiskAnswer) (c : Carried) (e : Entry) → Carries given c e → Carries (given ++ more) c e
 carries_more given more (Whole x) e i = i
-carries_more given more (Named t) e i = (i.0, among_more (answer.Read i.0) given more i.1, i.2, i.3, i.4)
+carries_more given more (Named t) e i = (i.0, among-left (answer.Read i.0) given more i.1, i.2, i.3, i.4)
 
 pub carries_all : (had given : List DiskAnswer) → AllAre had (λ a. Among a given) → (c : Carried) (e : Entry)
     → Carries had c e → Carries given c e
@@ -73,13 +73,13 @@ next_given list given more copy t i = (i.0, i.1, carries_more given more (Named 
 
 -- ---- a sector that completes what is wanted
 
-is_named : (r : SectorRead) (t : NamedSector) → is_of r t ≡ true → (read_at r ≡ t.address) × (r.number ≡ t.number)
+is_named : (r : SectorRead) (t : NamedSector) → is_of r t ≡ true → (read_address r ≡ t.address) × (r.number ≡ t.number)
 is_named r t is =
-    let s = and_parts (same_address (read_at r) t.address) (r.number == t.number) is in
-    (same_address-is (read_at r) t.address s.0, eqb-true r.number t.number s.1)
+    let s = and_parts (same_address (read_address r) t.address) (r.number == t.number) is in
+    (same_address-is (read_address r) t.address s.0, eqb-true r.number t.number s.1)
 
 -- two reads of one place, with one number and the same bytes, give one entry
-one_entry : (count : ℕ) (r s : SectorRead) → read_at s ≡ read_at r → s.number ≡ r.number → s.bytes ≡ r.bytes
+one_entry : (count : ℕ) (r s : SectorRead) → read_address s ≡ read_address r → s.number ≡ r.number → s.bytes ≡ r.bytes
     → sector_entry count s ≡ sector_entry count r
 one_entry count r s at number bytes = λ i. entry.Sector count (at i).drive (at i).sector (number i) (bytes i)
 

@@ -17,7 +17,7 @@ get_between [] x rest = refl
 get_between (y ∷ xs) x rest = get_between xs x rest
 
 -- where an acceptance is not refused, a byte is due
-is_due : {S : Type 0} (M : Machine S) (t : S) (port : ℕ) → refusal_of M t (input.Sent port) ≡ None
+pub is_due : {S : Type 0} (M : Machine S) (t : S) (port : ℕ) → refusal_of M t (input.Sent port) ≡ None
     → (number : ℕ) × (M.due_byte t port ≡ Some number)
 is_due M t port allowed = go (M.due_byte t port) allowed
   where

@@ -1,6 +1,8 @@
 -- An append is events of the world: steps up to the entry's count, its input, and the entry is sent.
 use Rattle.std.proofs.Common.{◌≡◌, ℕ, suc, ◌+◌, ◌-◌, ◌<◌, ◌≤◌, true, false, List, [], ◌∷◌, ◌++◌, length, map, sym, refl, ap, ◌∙◌, subst, inl, inr, ⊎_elim, arith, eq-eqb, ne_eqb, Option, Some, None, slice_get, slice_set, nat_lt, nat_le, is_none, not, ◌||◌, append-nil, ◌==◌}
-use Rattle.pair_rule.proofs.Words.{Accepts, Among, AppendEvents, Begin, Copying, Counts, Do, Entry, Event, First, Get, GetReply, Happens, HasWrite, Idle, Input, IsAcknowledged, IsDone, IsPrefix, IsSentBy, Knowledge, Lawful, Leads, LogEntry, LogFull, Logged, Machine, Mark, Message, MessageIs, More, Move, Node, NotDue, Nothing, Operation, PutReply, Quiet, Ran, Recorded, Reply, Runs, SectorAddress, Send, Sent, Shows, Spent, Stands, Step, Take, TakeKey, Taken, TellSent, Timed, Unknown, World, WriteDone, Written, WrongNumber, accepted, among-prefix, among-split, appended, at_node, at_sector_read, at_write_done, backup_node, bare, count_entry, count_of, entries, entries-append, entry_of, fault_if, first_of, get_refusal, id_of, inputs, inputs-append, inputs_of, inputs_of-append, is_number, log_size, map-append, notes_after, notes_from, operations, operations-prefix, primary_node, primary_role, primary_runs, primary_takes, recorded-append, recorded-runs, refusal, same_address, sector_record, send_refusal, step_refusal, steps, take_key_refusal, tell_sent_refusal, terminal, timed_entry, top, visible, with_message, with_node, with_read}
+use Rattle.std.proofs.lemmas.Bool.{false_from_ne_true}
+use Rattle.pair_rule.proofs.Words.{Accepts, Among, AppendEvents, Begin, Copying, Counts, Do, Entry, Event, First, Get, GetReply, Happens, HasWrite, Idle, Input, IsAcknowledged, IsDone, IsPrefix, IsSentBy, Knowledge, Lawful, Leads, LogEntry, LogFull, Logged, Machine, Mark, Message, MessageIs, More, Move, Node, NotDue, Nothing, Operation, PutReply, Quiet, Ran, Recorded, Reply, Runs, SectorAddress, Send, Sent, Shows, Spent, Stands, Step, Take, TakeKey, Taken, TellSent, Timed, Unknown, World, WriteDone, Written, WrongNumber, accepted, among-prefix, among-split, appended, at_node, at_sector_read, at_write_done, backup_node, bare, count_entry, count_of, entries, entries-append, entry_of, fault_if, first_of, get_refusal, id_of, inputs, inputs-append, inputs_of, inputs_of-append, is_number, last_count-append, log_size, map-append, notes_after, notes_from, operations, operations-prefix, primary_node, primary_role, primary_runs, primary_takes, recorded-append, recorded-runs, refusal, same_address, sector_record, send_refusal, step_refusal, steps, take_key_refusal, tell_sent_refusal, terminal, timed_entry, top, visible, with_message, with_node, with_read}
+use Rattle.disk_dcdd.proofs.Addresses.{same_address-refl}
 use Rattle.guest_lockstep.specs.Recorded.{Accepts as IsAccepted}
 use Rattle.guest_lockstep.specs.declared.input.Input.TheVariants as input
 use Rattle.pair_protocol.specs.Node.{Primary}
@@ -10,7 +12,7 @@ use Rattle.guest_lockstep.specs.declared.running.StopReason.TheVariants as reaso
 use Rattle.pair_protocol.specs.Effects.{Advances, NoneLeft, Gives, Goes}
 use Rattle.pair_rule.proofs.QuietSteps.{QuietMoves, quiet_moves, quiet_count, quiet_first, notes_more}
 use Rattle.pair_rule.proofs.Filled.{among_last}
-use Rattle.pair_rule.proofs.ListEnds.{get_last, get_end, last_of, too_low, same_self, same_number, not_true, key_room}
+use Rattle.pair_rule.proofs.ListEnds.{get_last, get_end, too_low, same_number, key_room}
 use Rattle.pair_rule.proofs.WordChanges.{held_short}
 use Rattle.pair_rule.proofs.ShownNodes.{only_more, only_longer, longer_covered, serving, first_node, more_sent, index_of}
 
@@ -51,7 +53,7 @@ module _ {S : Type 0} (M : Machine S) (C : Copying S) (counts : Counts M) (laws 
       ∙ (let a : nat_le log_size (length list - k.primary.seen) ≡ false =
       too_low (length list - k.primary.seen) log_size (let b = held_short k st in omega arith) in
       let b : nat_le top (length list) ≡ false = too_low (length list) top few in
-      let c : M.is_spent z.s ≡ false = not_true (M.is_spent z.s) (λ e. let n = counts.spent z.s e in let d : None ≡ Some x =
+      let c : M.is_spent z.s ≡ false = false_from_ne_true (M.is_spent z.s) (λ e. let n = counts.spent z.s e in let d : None ≡ Some x =
       sym n ∙ step in absurd (cc)) in
       λ i. first_of (fault_if (a i) LogFull ∷ fault_if (b i) Spent ∷ fault_if (c i) Spent ∷ fault_if (is_none (step i)) Idle ∷
       []))
@@ -101,7 +103,7 @@ module _ {S : Type 0} (M : Machine S) (C : Copying S) (counts : Counts M) (laws 
           s = u;
           recorded = recorded;
           entries_are = entered;
-          count = count ∙ sym (last_of 0 list e);
+          count = count ∙ sym (last_count-append 0 list e);
           nodes = nodes ∙ (λ i. record y { role = primary_role (sym none i); running = primary_runs (sym none i) } ∷ backup_node M (visible k) ∷
               []);
           sent = let t = more_sent (visible k) v.messages (message ∷ []) sent in record {
@@ -411,7 +413,7 @@ module _ {S : Type 0} (M : Machine S) (C : Copying S) (counts : Counts M) (laws 
       get_last w.messages (SectorRead address (sector_record M w.puts address).number (sector_record M w.puts address).bytes)
       ∙ (λ j. Some (SectorRead (placed j) (still j).number (still j).bytes)) in
       let same : same_address (M.address t drive sector) (record address { drive = drive; sector = sector }) ≡ true =
-      ap (λ a. same_address (M.address t drive sector) a) (sym placed) ∙ same_self (M.address t drive sector) in
+      ap (λ a. same_address (M.address t drive sector) a) (sym placed) ∙ same_address-refl (M.address t drive sector) (M.address t drive sector) refl in
       input_leads n t u i q accepts (Get 0 sector ∷ GetReply (length w.messages) 0 ∷ [])
       (MessageIs (length w.messages) ∷ Taken ∷ []) (with_node w2 0 (taken t u i))
       (First (Accepts (let a : nat_le 32 sector ≡ false = too_low sector 32 accepts.is_input.1 in

@@ -4,6 +4,13 @@ use Rattle.pair_rule.proofs.Words.{Accepts, AtBoot, ChangesReach, Copying, Event
 use Rattle.pair_rule.proofs.FirstTable.{first_stands}
 use Rattle.pair_rule.proofs.Law.{run_reaches}
 
+-- events after events
+pub happens_more : {S : Type 0} (M : Machine S) (C : Copying S) (a b c : World S) (es fs : List Event) (rs qs : List Reply)
+    → Happens M C a es rs b → Happens M C b fs qs c → Happens M C a (es ++ fs) (rs ++ qs) c
+happens_more M C a b c _ fs _ qs Nothing then = then
+happens_more M C a b c _ fs _ qs (First {mid = mid} {events = es} {replies = rs} row rest) then =
+    First row (happens_more M C mid b c es fs rs qs rest then)
+
 module _ {S : Type 0} (M : Machine S) (C : Copying S) where
   abbrev typed_world : List ℕ → List ℕ → World S
   typed_world a b = record (opening M Logged) {
@@ -36,12 +43,6 @@ module _ {S : Type 0} (M : Machine S) (C : Copying S) where
         (subst (λ l. Happens M C (typed_world a (b ++ x ∷ [])) r.0 r.1 (typed_world a l)) (append_assoc b (x ∷ []) xs) r.2),
   )
 
-  then_on : (a b c : World S) (es fs : List Event) (rs qs : List Reply) → Happens M C a es rs b → Happens M C b fs qs c
-      → Happens M C a (es ++ fs) (rs ++ qs) c
-  then_on a b c es fs rs qs Nothing more = more
-  then_on a b c es fs rs qs (First {mid = v} {events = es'} {replies = rs'} row rest) more =
-      First row (then_on v b c es' fs rs' qs rest more)
-
   shows_first : Lawful M → (typed0 typed1 : List ℕ) (generation : ℕ)
       → Shows M typed0 typed1 (first_known generation) (typed_world typed0 typed1)
   shows_first laws typed0 typed1 generation = record {
@@ -70,7 +71,7 @@ module _ {S : Type 0} (M : Machine S) (C : Copying S) where
 pub starts_shown : {S : Type 0} → RowIsChanges S → ChangesReach S → StartsShown S
 starts_shown rows changes M C laws typed0 typed1 generation =
     let a = type0 M C [] [] typed0 in let b = type1 M C typed0 [] typed1 in
-    let run = then_on M C (opening M Logged) (typed_world M C typed0 [])
+    let run = happens_more M C (opening M Logged) (typed_world M C typed0 [])
     (typed_world M C typed0 typed1) a.0 b.0 a.1 b.1 a.2 b.2 in record {
       events = a.0 ++ b.0;
       replies = a.1 ++ b.1;

@@ -1,37 +1,18 @@
 -- An operation that is outstanding and covered by its note was given by a step whose mark is acknowledged.
-use Rattle.std.proofs.Common.{◌≡◌, ◌≢◌, ℕ, suc, ◌<◌, Bool, true, false, List, [], ◌∷◌, ◌++◌, length, sym, refl, ap, ◌∙◌, inl, inr, ◌⊎◌, arith, Option, Some, None, append-nil, append_assoc, ◌==◌, ◌&&◌, nat_lt, nat_le, if◌then◌else◌}
-use Rattle.pair_rule.proofs.Words.{Do, Entry, Input, IsAcknowledged, Lawful, Logged, Machine, Move, Note, OpId, Operation, Runs, Take, covers, entries, entry_of, id_of, marks, note_of, notes_after, notes_from, same_name, same_some}
-use Rattle.event_callbacks.specs.declared.operations.OpId.TheVariants as id
+use Rattle.std.proofs.Common.{◌≡◌, ◌≢◌, ℕ, suc, ◌<◌, Bool, true, false, List, [], ◌∷◌, ◌++◌, length, sym, refl, ap, ◌∙◌, inl, inr, ◌⊎◌, arith, Option, Some, None, append-nil, append_assoc, ◌&&◌, nat_lt, nat_le, if◌then◌else◌}
+use Rattle.pair_rule.proofs.Words.{Do, Entry, Input, IsAcknowledged, Lawful, Logged, Machine, Move, Note, OpId, Operation, Runs, Take, and_parts, covers, entries, entry_of, id_of, marks, note_of, notes_after, notes_from, same_name, same_some}
+use Rattle.event_callbacks.proofs.Names.{name_cases, same_name-different, same_name-itself}
 use Rattle.guest_lockstep.specs.Outstanding.{ComesAndGoes, completed_by}
 use Rattle.pair_protocol.specs.Waiting.{waits_for}
 
 -- ---- names
 
-both : (a b : Bool) → (a && b) ≡ true → (a ≡ true) × (b ≡ true)
-both true b e = (refl, e)
-both false b e = absurd cc
-
-same_number : (m n : ℕ) → (m == n) ≡ true → m ≡ n
-same_number m n e = grind arith
-
-name_is : (i j : OpId) → same_name i j ≡ true → i ≡ j
-name_is (id.Byte p n) (id.Byte q m) e = let h =
-    both (p == q) (n == m) e in λ k. id.Byte (same_number p q h.0 k) (same_number n m h.1 k)
-name_is (id.Write n) (id.Write m) e = ap id.Write (same_number n m e)
-name_is (id.Byte p n) (id.Write m) e = absurd cc
-name_is (id.Write n) (id.Byte q m) e = absurd cc
-
-same_self : (i : OpId) → same_name i i ≡ true
-same_self (id.Byte p n) = grind arith
-same_self (id.Write n) = grind arith
-
 -- two names are one, or not
 two_names : (i j : OpId) → (i ≡ j) ⊎ ((i ≢ j) × (same_name i j ≡ false))
-two_names i j = go (same_name i j) refl
-  where
-    go : (b : Bool) → same_name i j ≡ b → (i ≡ j) ⊎ ((i ≢ j) × (same_name i j ≡ false))
-    go true e = inl (name_is i j e)
-    go false e = inr (λ (d : i ≡ j). (let f : true ≡ false = sym (ap (same_name i) (sym d) ∙ same_self i) ∙ e in cc), e)
+two_names i j = elim (name_cases i j) [
+  | inl same ↦ inl same
+  | inr differ ↦ inr (differ, same_name-different i j differ)
+]
 
 -- ---- the last step that gave what is outstanding
 
@@ -88,7 +69,7 @@ module _ {S : Type 0} (M : Machine S) (operations : ComesAndGoes M) (o : Operati
           given = λ i. Do (Some (sym same i)) ∷ ms;
           after = waits_for p log;
           is = h.1 ∙ ap (λ (t : Bool). if t then Some (noted p log) else note_of ns (id_of o))
-              (ap (λ n. same_name (id_of o) n) (sym e) ∙ same_self (id_of o)) ∙
+              (ap (λ n. same_name (id_of o) n) (sym e) ∙ same_name-itself (id_of o)) ∙
               (λ i. Some (record { name = sym e i; index = length (sym (append-nil log) i); after = waits_for p log }));
         })
     | inr d ↦ inl (
@@ -118,7 +99,7 @@ module _ {S : Type 0} (M : Machine S) (operations : ComesAndGoes M) (o : Operati
 
 -- what the note covers is acknowledged
 low_index : (seen index after : ℕ) → (nat_lt index seen && nat_le after 0) ≡ true → index < seen
-low_index seen index after e = let h = (both (nat_lt index seen) (nat_le after 0) e).0 in grind arith
+low_index seen index after e = let h = (and_parts (nat_lt index seen) (nat_le after 0) e).0 in grind arith
 
 pub is_acknowledged : {S : Type 0} (M : Machine S) → ComesAndGoes M → Lawful M
     → (moves : List Move) (s : S) (seen : ℕ) (o : Operation) → Runs M M.boot moves s → M.find s (id_of o) ≡ Some o

@@ -1,12 +1,14 @@
--- The elements of lists that grow by one.
-use Rattle.std.proofs.Common.{◌≡◌, ℕ, List, [], ◌∷◌, ◌++◌, sym, refl, subst, ◌⊎◌, inl, inr, ⊎_elim, Option, Some, None}
+-- The elements of lists, also of those that grow by one.
+use Rattle.std.proofs.Common.{◌≡◌, ℕ, List, [], ◌∷◌, ◌++◌, drop, get_or, sym, refl, ap, subst, ◌⊎◌, inl, inr, ⊎_elim, Option, Some, None}
 use Rattle.pair_rule.proofs.Words.{AllAre, Among, DiskAnswer, SectorRead, WhereSome}
 use Rattle.pair_rule.specs.declared.payload.DiskAnswer.TheVariants as answer
 
 module _ {A : Type 0} where
-  pub among_more : (x : A) (xs ys : List A) → Among x xs → Among x (xs ++ ys)
-  among_more x [] ys a = absurd a
-  among_more x (y ∷ xs) ys a = ⊎_elim (λ e. inl e) (λ i. inr (among_more x xs ys i)) a
+  pub same_head : (x y : A) (xs ys : List A) → x ∷ xs ≡ y ∷ ys → x ≡ y
+  same_head x y xs ys e = ap (λ l. get_or l 0 x) e
+
+  pub same_tail : (x y : A) (xs ys : List A) → x ∷ xs ≡ y ∷ ys → xs ≡ ys
+  same_tail x y xs ys e = ap (λ l. drop 1 l) e
 
   pub among_last : (x : A) (xs : List A) → Among x (xs ++ x ∷ [])
   among_last x [] = inl refl

@@ -2,23 +2,23 @@
 use Rattle.std.proofs.Common.{◌≡◌, ℕ, ◌+◌, List, [], ◌∷◌, ◌++◌, length, sym, refl, ◌∙◌, subst, inl, inr, Option, Some, None}
 use mathlib.Core.Option.{some}
 use lib.ListN.{get_elem?}
-use Rattle.pair_rule.proofs.Words.{Agrees, Backup, Disk, Link, Primary, Terminal, AgreesOf, AllAre, Among, Answer, Answers, Arrived, Byte, Bytes0, Bytes1, CanFill, Carries, DiskAnswer, DiskRequest, DiskView, Entry, Fits, Inbox, IsAsked, IsByteOf, IsEntryOf, IsNext, IsReplied, Knowledge, Log, Lookup, Lookups, Mailbox, NamedSector, Operation, Out, Outbox, Packet, Payload, PortStands, PrimaryView, Request, Requests, SamePart, Sector, SectorAddress, SectorRead, SectorWrite, Sectors, Stands, WhereSome, Write, after_empty, after_fill, after_sector, at_longer, emptier, filler, grown, put_by, with_release, with_request}
+use Rattle.pair_rule.proofs.Words.{Agrees, AgreesOf, AllAre, Among, Answer, Answers, Arrived, Backup, Byte, Bytes0, Bytes1, CanFill, Carries, Disk, DiskAnswer, DiskRequest, DiskView, Entry, Fits, Inbox, IsAsked, IsByteOf, IsEntryOf, IsNext, IsReplied, Knowledge, Link, Log, Lookup, Lookups, Mailbox, NamedSector, Operation, Out, Outbox, Packet, Payload, PortStands, Primary, PrimaryView, Request, Requests, SamePart, Sector, SectorAddress, SectorRead, SectorWrite, Sectors, Stands, Terminal, WhereSome, Write, after_empty, after_fill, after_sector, among-left, at_longer, emptier, filler, grown, put_by, with_release, with_request}
 use Rattle.pair_rule.specs.declared.payload.DiskRequest.TheVariants as ask
 use Rattle.pair_rule.specs.declared.payload.DiskAnswer.TheVariants as answer
 use Rattle.pair_rule.specs.declared.view.PrimaryCall.{PrimaryCall}
 use Rattle.pair_rule.proofs.Parts.{Local, nothing, on_part}
 use Rattle.pair_rule.proofs.BoxSwaps.{Keeps, keeps_all}
 use Rattle.pair_rule.proofs.Agree.{agree_answer, agree_found, carries_all, entry_given, next_given}
-pub use Rattle.pair_rule.proofs.Elements.{all_map, all_more, among_last, among_more, if_map}
+pub use Rattle.pair_rule.proofs.Elements.{all_map, all_more, among_last, if_map}
 
 -- ---- what holds of a list goes on to hold of a longer one
 
 byte_more : (port : ℕ) (xs ys : List Operation) (o : Operation) → IsByteOf port xs o → IsByteOf port (xs ++ ys) o
-byte_more port xs ys (Byte to number byte) i = (i.0, among_more (Byte to number byte) xs ys i.1)
+byte_more port xs ys (Byte to number byte) i = (i.0, among-left (Byte to number byte) xs ys i.1)
 byte_more port xs ys (Write w) i = i
 
 asked_more : (xs ys : List Operation) (r : DiskRequest) → IsAsked xs r → IsAsked (xs ++ ys) r
-asked_more xs ys (ask.Write w) i = among_more (Write w) xs ys i
+asked_more xs ys (ask.Write w) i = among-left (Write w) xs ys i
 asked_more xs ys (ask.Read a) i = i
 
 pub entry_more : (g : ℕ) (list : List Entry) (given : List DiskAnswer) (e : Entry) (p : Packet) → IsEntryOf g list given p
@@ -32,7 +32,7 @@ next_more list given copy e t i = (i.0, at_longer list (e ∷ []) (length copy) 
 -- what was put stays put
 pub put_more : (t : Option DiskRequest) (puts : List SectorWrite) (w : SectorWrite) → Among w puts → Among w (put_by t puts)
 put_more None puts w i = i
-put_more (Some (ask.Write v)) puts w i = among_more w puts (v ∷ []) i
+put_more (Some (ask.Write v)) puts w i = among-left w puts (v ∷ []) i
 put_more (Some (ask.Read a)) puts w i = i
 
 replied_more : (t : Option DiskRequest) (puts : List SectorWrite) (a : DiskAnswer) → IsReplied puts a
@@ -75,7 +75,7 @@ port_more : (port counted : ℕ) (released more : List Operation) (hand : Option
 port_more port counted released more hand arrivals p = record {
   accepted = p.accepted;
   in_hand = if_map hand _ _ (byte_more port released more) p.in_hand;
-  arrived = all_map arrivals _ _ (λ a i. among_more (Byte port a.number a.byte) released more i) p.arrived;
+  arrived = all_map arrivals _ _ (λ a i. among-left (Byte port a.number a.byte) released more i) p.arrived;
 }
 
 module _ (k : Knowledge) (s : Stands k) where
@@ -96,7 +96,7 @@ module _ (k : Knowledge) (s : Stands k) where
     port1 = port_more 1 k.primary.counted1 k.primary.released more k.terminal.hand1 k.terminal.arrivals1 s.port1;
     disk = record {
       taken = if_map k.disk.taken _ _ (asked_more k.primary.released more) s.disk.taken;
-      puts = all_map k.disk.puts _ _ (λ w i. among_more (Write w) k.primary.released more i) s.disk.puts;
+      puts = all_map k.disk.puts _ _ (λ w i. among-left (Write w) k.primary.released more i) s.disk.puts;
       answers = s.disk.answers;
       replies = s.disk.replies;
       agree = s.disk.agree;
@@ -156,7 +156,7 @@ module _ (k : Knowledge) (s : Stands k) where
     disk = record {
       taken = s.disk.taken;
       puts = puts_more k.disk.taken s.disk.taken;
-      answers = all_map k.primary.answers _ _ (λ x i. among_more x k.disk.given (a ∷ []) i) s.disk.answers;
+      answers = all_map k.primary.answers _ _ (λ x i. among-left x k.disk.given (a ∷ []) i) s.disk.answers;
       replies = all_more k.disk.given a (IsReplied (put_by k.disk.taken k.disk.puts))
           (all_map k.disk.given _ _ (λ x i. replied_more k.disk.taken k.disk.puts x i) s.disk.replies) can;
       agree = agree_answer k.disk (put_by k.disk.taken k.disk.puts) a s.disk.agree agrees;
@@ -164,7 +164,7 @@ module _ (k : Knowledge) (s : Stands k) where
   }
 
   answered_fits : (a : DiskAnswer) (b : Mailbox) (x : Payload) → Fits b k x → Fits b (answered a) x
-  answered_fits a Answers (Answer x) f = among_more x k.disk.given (a ∷ []) f
+  answered_fits a Answers (Answer x) f = among-left x k.disk.given (a ∷ []) f
   answered_fits a Outbox (Log p) f = entry_given k.generation k.primary.list k.disk.given (a ∷ []) p f
   answered_fits a Inbox (Log p) f = entry_given k.generation k.primary.list k.disk.given (a ∷ []) p f
   answered_fits a _ _ f = f
@@ -189,7 +189,7 @@ module _ (k : Knowledge) (s : Stands k) where
   }
 
   found_fits : (r : SectorRead) (b : Mailbox) (x : Payload) → Fits b k x → Fits b (found r) x
-  found_fits r Sectors (Sector x) f = among_more x k.disk.found (r ∷ []) f
+  found_fits r Sectors (Sector x) f = among-left x k.disk.found (r ∷ []) f
   found_fits r _ _ f = f
 
   abbrev MayFill : Mailbox → Payload → Type 0

@@ -1,6 +1,6 @@
 -- The end of a list that grows by one element, and what follows from equations of numbers, names and tests.
-use Rattle.std.proofs.Common.{◌≡◌, ℕ, zero, suc, ◌<◌, Bool, true, false, List, [], ◌∷◌, ◌++◌, length, refl, ap, ◌⊎◌, inl, inr, ⊎_elim, arith, Option, Some, None, slice_get, nat_le}
-use Rattle.pair_rule.proofs.Words.{Entry, Machine, SectorAddress, Written, count_of, last_count, same_address, top}
+use Rattle.std.proofs.Common.{◌≡◌, ℕ, zero, suc, ◌<◌, false, List, [], ◌∷◌, ◌++◌, length, refl, ap, ◌⊎◌, inl, inr, ⊎_elim, arith, Option, Some, None, slice_get, nat_le}
+use Rattle.pair_rule.proofs.Words.{Machine, Written, top}
 use Rattle.guest_lockstep.specs.declared.timed.Bare.{Bare}
 use Rattle.i8080_words.specs.declared.limits.TheConstants.{GREATEST_NUMBER}
 
@@ -22,15 +22,8 @@ get_end [] x y (suc i) e = absurd (let c : None ≡ Some y = e in cc)
 get_end (z ∷ xs) x y zero e = inl e
 get_end (z ∷ xs) x y (suc i) e = ⊎_elim (λ t. inl t) (λ t. inr (ap suc t.0, t.1)) (get_end xs x y i e)
 
-pub last_of : (c : ℕ) (es : List Entry) (e : Entry) → last_count c (es ++ e ∷ []) ≡ count_of e
-last_of c [] e = refl
-last_of c (x ∷ es) e = last_of (count_of x) es e
-
 pub too_low : (a b : ℕ) → a < b → nat_le b a ≡ false
 too_low a b lt = grind arith
-
-pub same_self : (a : SectorAddress) → same_address a a ≡ true
-same_self a = grind arith
 
 number_in : Bare → ℕ
 number_in (Written n) = n
@@ -39,10 +32,6 @@ number_in _ = 0
 pub same_number : (m n : ℕ) → Written m ≡ Written n → m ≡ n
 unfolding number_in
 same_number m n e = ap number_in e
-
-pub not_true : (b : Bool) → (b ≡ true → ⊥) → b ≡ false
-not_true true n = absurd (n refl)
-not_true false n = refl
 
 -- there is room for one more key
 pub key_room : {S : Type 0} (M : Machine S) (n : ℕ) → n < GREATEST_NUMBER → n < top

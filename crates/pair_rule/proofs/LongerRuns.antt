@@ -1,45 +1,16 @@
 -- A run whose list of entries begins with another run's continues that one, at its last entry.
 use Rattle.std.proofs.Common.{◌≡◌, ℕ, suc, ◌+◌, ◌≤◌, List, [], ◌∷◌, ◌++◌, sym, refl, ap, ◌∙◌, subst, arith, Option, Some, None, append-nil, le_refl}
-use Rattle.pair_rule.proofs.Words.{Counts, Do, Entry, HasLonger, Input, Logged, Machine, Mark, Move, Operation, Quiet, Recorded, Runs, Take, count_entry, count_of, entries, entries-append, entry_of, input_of, last_count, recorded-rest, recorded-runs, same_some, steps}
+use Rattle.std.proofs.lemmas.List.{append_cancel_left, same_from_push}
+use Rattle.pair_rule.proofs.Words.{Counts, Do, Entry, HasLonger, Input, Logged, Machine, Mark, Move, Operation, Quiet, Recorded, Runs, Take, count_entry, count_of, entries, entries-append, entry_of, input_of, last_count, last_count-append, recorded-rest, recorded-runs, same_some, steps}
 use Rattle.guest_lockstep.specs.Recorded.{Accepts}
 use Rattle.guest_lockstep.specs.declared.input.Input.TheVariants as input
+use Rattle.pair_rule.proofs.Elements.{same_head, same_tail}
 use Rattle.pair_rule.proofs.QuietSteps.{are_quiet}
 
 -- ---- lists
 
-abbrev head_or : {A : Type 0} → A → List A → A
-head_or d [] = d
-head_or d (x ∷ xs) = x
-
-abbrev tail_of : {A : Type 0} → List A → List A
-tail_of [] = []
-tail_of (x ∷ xs) = xs
-
-pub same_head : {A : Type 0} (x y : A) (xs ys : List A) → x ∷ xs ≡ y ∷ ys → x ≡ y
-same_head x y xs ys e = ap (head_or x) e
-
-pub same_tail : {A : Type 0} (x y : A) (xs ys : List A) → x ∷ xs ≡ y ∷ ys → xs ≡ ys
-same_tail x y xs ys e = ap tail_of e
-
 not_empty : {A X : Type 0} (x : A) (xs : List A) → [] ≡ x ∷ xs → X
 not_empty x xs e = absurd cc
-
-none_left : {A X : Type 0} (xs : List A) (x : A) → [] ≡ xs ++ x ∷ [] → X
-none_left [] x e = not_empty x [] e
-none_left (y ∷ xs) x e = not_empty y (xs ++ x ∷ []) e
-
--- the lists before one more element are the same, and so is the element
-pub same_front : {A : Type 0} (xs ys : List A) (x y : A) → xs ++ x ∷ [] ≡ ys ++ y ∷ [] → (xs ≡ ys) × (x ≡ y)
-same_front [] [] x y e = (refl, same_head x y [] [] e)
-same_front [] (b ∷ ys) x y e = none_left ys y (same_tail x b [] (ys ++ y ∷ []) e)
-same_front (a ∷ xs) [] x y e = none_left xs x (sym (same_tail a y (xs ++ x ∷ []) [] e))
-same_front (a ∷ xs) (b ∷ ys) x y e = let r =
-    same_front xs ys x y (same_tail a b (xs ++ x ∷ []) (ys ++ y ∷ []) e) in
-    ((λ i. same_head a b (xs ++ x ∷ []) (ys ++ y ∷ []) e i ∷ r.0 i), r.1)
-
-after_front : {A : Type 0} (xs ys zs : List A) → xs ++ ys ≡ xs ++ zs → ys ≡ zs
-after_front [] ys zs e = e
-after_front (x ∷ xs) ys zs e = after_front xs ys zs (same_tail x x (xs ++ ys) (xs ++ zs) e)
 
 -- ---- counts
 
@@ -186,7 +157,7 @@ run_goes_on M counts boot list moves s run is end others t other same =
     let zs : List Move = f.0 in
     let after : Recorded M s zs t = recorded-rest M M.boot s t moves zs r (subst (λ l. Recorded M M.boot l t) f.1 other) in
     let none : entries Logged (0 + steps moves) zs ≡ [] =
-    after_front (entries Logged 0 moves) (entries Logged (0 + steps moves) zs) []
+    append_cancel_left (entries Logged 0 moves) (entries Logged (0 + steps moves) zs) []
     (sym (entries-append Logged 0 moves zs) ∙ ap (entries Logged 0) (sym f.1) ∙ same ∙ sym is
     ∙ sym (append-nil (entries Logged 0 moves))) in
     let q = are_quiet M counts s t (0 + steps moves) zs after none in
@@ -209,10 +180,6 @@ last_move M counts boot counted list e run = go run.move run.makes run.entries_a
     low : last_count 0 (entries Logged 0 run.moves) ≤ M.count run.before
     low = last_low M counts M.boot run.before 0 run.moves boot (recorded-runs M M.boot run.before run.moves run.recorded)
 
-    last_of : (c : ℕ) (es : List Entry) → last_count c (es ++ e ∷ []) ≡ count_of e
-    last_of c [] = refl
-    last_of c (x ∷ es) = last_of (count_of x) es
-
     go : (move : Move) → Recorded M run.before (move ∷ []) run.after
         → entries Logged 0 (run.moves ++ move ∷ []) ≡ list ++ e ∷ []
         → (entries Logged 0 run.moves ≡ list) × LastMove M run.before run.after list e
@@ -221,17 +188,17 @@ last_move M counts boot counted list e run = go run.move run.makes run.entries_a
         sym (append-nil (entries Logged 0 run.moves)) ∙ sym (entries-append Logged 0 run.moves (Do None ∷ [])) ∙ are in
         let b = counts.by_step run.before makes.0 None makes.1 in let m : M.count makes.0 ≡ M.count run.after =
         ap M.count makes.2 in let l = low in
-        let is : last_count 0 (entries Logged 0 run.moves) ≡ count_of e = ap (last_count 0) all ∙ last_of 0 list in
+        let is : last_count 0 (entries Logged 0 run.moves) ≡ count_of e = ap (last_count 0) all ∙ last_count-append 0 list e in
         let c = run.count in absurd (omega (arith, b, m, l, is, c))
     go (Do (Some o)) makes are =
-        let both = same_front (entries Logged 0 run.moves) list (Mark (suc (0 + steps run.moves))) e
+        let both = same_from_push (entries Logged 0 run.moves) list (Mark (suc (0 + steps run.moves))) e
         (sym (entries-append Logged 0 run.moves (Do (Some o) ∷ [])) ∙ are) in
         let step : M.step run.before ≡ Some (run.after, Some o) = makes.1 ∙ ap (λ v. Some (v, Some o)) makes.2 in
         let same : M.count run.after ≡ suc (0 + steps run.moves) =
         counts.by_step run.before run.after (Some o) step ∙ ap suc at in
         (both.0, subst (LastMove M run.before run.after list) (ap Mark same ∙ both.1) (Steps o step))
     go (Take i) makes are =
-        let both = same_front (entries Logged 0 run.moves) list (entry_of Logged (0 + steps run.moves) i) e
+        let both = same_from_push (entries Logged 0 run.moves) list (entry_of Logged (0 + steps run.moves) i) e
         (sym (entries-append Logged 0 run.moves (Take i ∷ [])) ∙ are) in (
           both.0,
           subst (LastMove M run.before run.after list) (ap (λ n. entry_of Logged n i) at ∙ both.1)

@@ -1,13 +1,13 @@
 -- Each sector that the primary took has what its machine's own disk has there: the disk answered it, by the bytes at boot or
 -- by a write of that machine, and it has the number of the last completed write.
 use Rattle.std.proofs.Common.{◌≡◌, ℕ, zero, suc, ◌+◌, List, [], ◌∷◌, ◌++◌, sym, refl, ap, ◌∙◌, subst, inl, inr, ◌⊎◌, Some, None}
-use Rattle.pair_rule.proofs.Words.{Among, Appends, Arrives, Copying, CountsNone, Do, Entry, Goes, HasLonger, HasRun, Input, IsReplied, IsShown, IsTold, Knowledge, Logged, Machine, Move, Opens, Own, Owns, Recorded, Runnable, Runs, SectorAddress, SectorRead, SectorWrite, SeesCount, Shows, SilentStep, Stands, Take, ThreadRun, ThreadStep, World, Write, among-prefix, entries, entries-append, entry_of, operations, operations-prefix, owns-append, prefix-refl, read_at, recorded-append, recorded-runs, refusal_of, sector-passed, steps}
+use Rattle.std.proofs.lemmas.List.{same_from_push}
+use Rattle.pair_rule.proofs.Words.{Among, Appends, Arrives, Copying, CountsNone, Do, Entry, Goes, HasLonger, HasRun, Input, IsReplied, IsShown, IsTold, Knowledge, Logged, Machine, Move, Opens, Own, Owns, Recorded, Runnable, Runs, SectorAddress, SectorRead, SectorWrite, SeesCount, Shows, SilentStep, Stands, Take, ThreadRun, ThreadStep, World, Write, among-prefix, entries, entries-append, entry_of, last_count-append, operations, operations-prefix, owns-append, prefix-refl, read_address, recorded-append, recorded-runs, refusal_of, sector-passed, steps}
 use Rattle.guest_lockstep.specs.declared.input.Input.TheVariants as input
 use Rattle.pair_protocol.proofs.Invariant.{AtStart, IsRecord, OfWrite}
 use Rattle.pair_protocol.proofs.Keeps.Reads.{right_bytes}
 use Rattle.pair_rule.specs.declared.payload.DiskAnswer.TheVariants as answer
-use Rattle.pair_rule.proofs.ListEnds.{last_of}
-use Rattle.pair_rule.proofs.LongerRuns.{GoesOn, last_move, run_goes_on, same_front}
+use Rattle.pair_rule.proofs.LongerRuns.{GoesOn, last_move, run_goes_on}
 use Rattle.pair_rule.proofs.Elements.{all_in}
 use Rattle.pair_rule.proofs.TableSteps.{table_steps}
 
@@ -44,7 +44,7 @@ module _ {S : Type 0} (M : Machine S) (may : Runnable M) (typed0 typed1 : List �
         (z.issued (Write v) (all_in (λ x. Among (Write x) k.primary.released) k.disk.puts v st.disk.puts m))
 
     -- an answer is of the bytes at boot, or of a write of these moves
-    answer_is : (q : SectorAddress) (r : SectorRead) → Among (answer.Read r) k.primary.answers → read_at r ≡ q
+    answer_is : (q : SectorAddress) (r : SectorRead) → Among (answer.Read r) k.primary.answers → read_address r ≡ q
         → IsRecord M q r.number r.bytes moves
     answer_is q r came at = go (all_in (IsReplied k.disk.puts) k.disk.given (answer.Read r) st.disk.replies given)
       where
@@ -84,7 +84,7 @@ module _ {S : Type 0} (M : Machine S) (may : Runnable M) (typed0 typed1 : List �
 
       on : GoesOn M longer other.moves run.after other.last
       on = run_goes_on M may.counts boot (list ++ e ∷ []) longer run.after made run.entries_are
-          (run.count ∙ sym (last_of 0 list e)) other.moves other.last other.recorded other.entries_are
+          (run.count ∙ sym (last_count-append 0 list e)) other.moves other.last other.recorded other.entries_are
 
       last_owns : (move : Move) → Recorded M run.before (move ∷ []) run.after
           → entries Logged 0 (run.moves ++ move ∷ []) ≡ list ++ e ∷ [] → Owns M run.moves run.before (move ∷ [])
@@ -92,7 +92,7 @@ module _ {S : Type 0} (M : Machine S) (may : Runnable M) (typed0 typed1 : List �
       last_owns (Take i) makes same =
           let c : ℕ = 0 + steps run.moves in
           let is : entry_of Logged c i ≡ e =
-          (same_front (entries Logged 0 run.moves) list (entry_of Logged c i) e
+          (same_from_push (entries Logged 0 run.moves) list (entry_of Logged c i) e
           (sym (entries-append Logged 0 run.moves (Take i ∷ [])) ∙ same)).1 in (
             own run.moves run.before run.recorded are c i makes.1.allowed
                 (subst (IsTold M typed0 typed1 k run.before) (sym is) told),

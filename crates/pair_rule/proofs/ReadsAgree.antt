@@ -2,11 +2,11 @@
 -- writes, and only a write of a greater number replaces a record; so a number has one content, and of number 0 each answer
 -- says so.
 use Rattle.std.proofs.Common.{◌≡◌, ℕ, zero, suc, ◌<◌, ◌≤◌, List, [], ◌∷◌, ◌++◌, sym, refl, ap, ◌∙◌, subst, ◌⊎◌, inl, inr, ⊎_elim, arith, append-nil, append_assoc, Option, Some, None}
-use Rattle.pair_rule.proofs.Words.{Agrees, AgreesOf, Among, Answer, Answers, Bytes0, Bytes1, Came, DiskAnswer, DiskRequest, DiskView, Finds, FirstsAgree, FirstsAgreeOf, Inbox, IsReply, Kept, Knowledge, Log, Lookup, Lookups, Mailbox, Out, Outbox, Payload, PlainRun, PlainStep, Replaced, Replies, Request, Requests, Sector, SectorAddress, SectorRead, SectorRecord, SectorWrite, Sectors, WasRead, after_empty, after_fill, latest, latest_ge, put_by, read_at, record_after, replaced}
+use Rattle.pair_rule.proofs.Words.{Agrees, AgreesOf, Among, Answer, Answers, Bytes0, Bytes1, Came, DiskAnswer, DiskRequest, DiskView, Finds, FirstsAgree, FirstsAgreeOf, Inbox, IsReply, Kept, Knowledge, Log, Lookup, Lookups, Mailbox, Out, Outbox, Payload, PlainRun, PlainStep, Replaced, Replies, Request, Requests, Sector, SectorAddress, SectorRead, SectorRecord, SectorWrite, Sectors, WasRead, after_empty, after_fill, latest, latest_ge, put_by, read_address, record_after, replaced}
 use Rattle.pair_rule.specs.declared.payload.DiskAnswer.TheVariants as answer
 use Rattle.pair_rule.specs.declared.payload.DiskRequest.TheVariants as ask
 use Rattle.pair_rule.specs.Histories as plain
-use Rattle.pair_rule.proofs.Elements.{among_either}
+use Rattle.pair_rule.proofs.Elements.{among_either, same_head, same_tail}
 use Rattle.pair_rule.proofs.Filled.{AgreesBy}
 
 -- ---- records and the writes that replace them
@@ -67,50 +67,41 @@ same_bytes ws more q n b c some e d =
 
 -- of two beginnings of a list one begins with the other
 module _ {A : Type 0} where
-  head_or : A → List A → A
-  head_or d [] = d
-  head_or d (x ∷ xs) = x
-
-  tail_of : List A → List A
-  tail_of [] = []
-  tail_of (x ∷ xs) = xs
-
   abbrev OneLonger : List A → List A → Type 0
   OneLonger a c = ((more : List A) × (c ≡ a ++ more)) ⊎ ((more : List A) × (a ≡ c ++ more))
 
   one_longer : (a b c d : List A) → a ++ b ≡ c ++ d → OneLonger a c
-  unfolding head_or tail_of
   one_longer [] b c d e = inl (c, refl)
   one_longer (x ∷ a) b [] d e = inr (x ∷ a, refl)
   one_longer (x ∷ a) b (y ∷ c) d e =
-      let h : x ≡ y = ap (head_or x) e in
+      let h : x ≡ y = same_head x y (a ++ b) (c ++ d) e in
       ⊎_elim (λ (t : (more : List A) × (c ≡ a ++ more)). inl (t.0, λ i. sym h i ∷ t.1 i))
       (λ (t : (more : List A) × (a ≡ c ++ more)). inr (t.0, λ i. h i ∷ t.1 i))
-      (one_longer a b c d (ap tail_of e))
+      (one_longer a b c d (same_tail x y (a ++ b) (c ++ d) e))
 
 -- ---- each read was the record of its sector after some of the writes
 
 abbrev WasLatest : List SectorWrite → SectorRead → Type 0
 WasLatest puts r =
     (front : List SectorWrite) × (rest : List SectorWrite) × (puts ≡ front ++ rest)
-    × (latest (first r.bytes) front (read_at r) ≡ record { number = r.number; bytes = r.bytes })
+    × (latest (first r.bytes) front (read_address r) ≡ record { number = r.number; bytes = r.bytes })
 
 abbrev AllLatest : DiskView → Type 0
 AllLatest d = (r : SectorRead) → WasRead d r → WasLatest d.puts r
 
 -- two reads of one write of one sector
-agree_two : (puts : List SectorWrite) (r s : SectorRead) → WasLatest puts r → WasLatest puts s → read_at s ≡ read_at r
+agree_two : (puts : List SectorWrite) (r s : SectorRead) → WasLatest puts r → WasLatest puts s → read_address s ≡ read_address r
     → s.number ≡ r.number → 0 < r.number → s.bytes ≡ r.bytes
 agree_two puts r s z w at same some =
-    let d : latest (first s.bytes) w.0 (read_at r) ≡ record { number = r.number; bytes = s.bytes } =
+    let d : latest (first s.bytes) w.0 (read_address r) ≡ record { number = r.number; bytes = s.bytes } =
     ap (latest (first s.bytes) w.0) (sym at) ∙ w.3 ∙ (λ i. record { number = same i; bytes = s.bytes }) in
     ⊎_elim
     (λ (t : (more : List SectorWrite) × (w.0 ≡ z.0 ++ more)). sym
-    (same_bytes z.0 t.0 (read_at r) r.number r.bytes s.bytes some z.3
-    (ap (λ l. latest (first s.bytes) l (read_at r)) (sym t.1) ∙ d)))
+    (same_bytes z.0 t.0 (read_address r) r.number r.bytes s.bytes some z.3
+    (ap (λ l. latest (first s.bytes) l (read_address r)) (sym t.1) ∙ d)))
     (λ (t : (more : List SectorWrite) × (z.0 ≡ w.0 ++ more)).
-    same_bytes w.0 t.0 (read_at r) r.number s.bytes r.bytes some d
-    (ap (λ l. latest (first r.bytes) l (read_at r)) (sym t.1) ∙ z.3))
+    same_bytes w.0 t.0 (read_address r) r.number s.bytes r.bytes some d
+    (ap (λ l. latest (first r.bytes) l (read_address r)) (sym t.1) ∙ z.3))
     (one_longer z.0 z.1 w.0 w.1 (sym z.2 ∙ w.2))
 
 put_longer : (t : Option DiskRequest) (puts : List SectorWrite) → (more : List SectorWrite) × (put_by t puts ≡ puts ++ more)
@@ -171,7 +162,7 @@ was_latest new (plain.Goes {k = k} run step) = step_latest k (was_latest k run) 
 -- ---- so what is read next agrees with all that was read before
 
 next_agrees : (k : Knowledge) → PlainRun k → (r : SectorRead)
-    → latest (first r.bytes) k.disk.puts (read_at r) ≡ record { number = r.number; bytes = r.bytes } → FirstsAgree k.disk r
+    → latest (first r.bytes) k.disk.puts (read_address r) ≡ record { number = r.number; bytes = r.bytes } → FirstsAgree k.disk r
     → Agrees k.disk r
 next_agrees k run r last firsts s was at same = go r.number refl
   where

@@ -1,12 +1,13 @@
 -- Steps that are events of the world: an operation is released, a byte arrives, a write is put.
 use Rattle.std.proofs.Common.{◌≡◌, ℕ, zero, suc, ◌<◌, true, List, [], ◌∷◌, ◌++◌, length, map, sym, refl, ap, ◌∙◌, subst, inl, ⊎_elim, arith, Some, None, slice_get, slice_set, nat_lt, is_none, not, if◌then◌else◌}
+use Rattle.std.proofs.lemmas.List.{map_push}
 use Rattle.pair_rule.proofs.Words.{Accepted, Accepts, Among, Answer, Answers, Arrive, Arrived, Byte, Copying, DiskAnswer, Dropped, First, Happens, IsAcknowledged, IsAsked, Knowledge, Leads, Machine, Message, MessageIs, Node, NotCovered, NotDue, Nothing, OpId, Operation, Put, Release, Released, SectorWrite, Sent, Shows, ShowsVisible, Stands, Visible, WhereSome, World, Write, WriteDone, accepted, after_fill, arrival_of, arrives, at_node, byte_arrived, byte_refusal, covers, fault_if, first_of, hand_of, id_of, no_such, note_of, notes_from, operations, put_by, release_refusal, terminal_in, terminals_of, visible, with_arrival, with_message, with_put, with_release, write_refusal}
 use Rattle.pair_protocol.specs.World.{Terminal}
 use Rattle.pair_rule.specs.declared.payload.DiskRequest.TheVariants as ask
 use Rattle.pair_rule.specs.declared.payload.DiskAnswer.TheVariants as answer
 use Rattle.pair_rule.proofs.Filled.{among_last, put_more}
 use Rattle.pair_rule.proofs.Elements.{no_read}
-use Rattle.pair_rule.proofs.ShownNodes.{only_more, index_of, more_sent, among_either, map_more, serving, first_node}
+use Rattle.pair_rule.proofs.ShownNodes.{only_more, index_of, more_sent, among_either, serving, first_node}
 
 module _ {S : Type 0} (M : Machine S) (C : Copying S) (typed0 typed1 : List ℕ) (k : Knowledge) (w : World S)
     (z : Shows M typed0 typed1 k w) where
@@ -130,7 +131,7 @@ module _ {S : Type 0} (M : Machine S) (C : Copying S) (typed0 typed1 : List ℕ)
               } ∷ [];
             })) z.terminals
             ∙ (λ i. record {
-              arrivals = sym (map_more arrival_of k.terminal.arrivals0 record { number = number; byte = byte }) i;
+              arrivals = sym (map_push arrival_of k.terminal.arrivals0 record { number = number; byte = byte }) i;
               typed = typed0;
               told = 0;
             } ∷ record { arrivals = map arrival_of k.terminal.arrivals1; typed = typed1; told = 0 } ∷ [])
@@ -161,7 +162,7 @@ module _ {S : Type 0} (M : Machine S) (C : Copying S) (typed0 typed1 : List ℕ)
               told = 0;
             } ∷ record {
               arrivals =
-                  sym (map_more arrival_of k.terminal.arrivals1 record { number = number; byte = byte }) i;
+                  sym (map_push arrival_of k.terminal.arrivals1 record { number = number; byte = byte }) i;
               typed = typed1;
               told = 0;
             } ∷ [])

@@ -2,12 +2,13 @@
 use Rattle.std.proofs.Common.{◌≡◌, ◌≢◌, ◌↔◌, ℕ, zero, suc, ◌+◌, ◌<◌, ◌^◌, ◌&&◌, nat_lt, Bool, true, false, List, [], ◌∷◌, length, get_or, set, Some, None, sym, refl, ap, ◌∙◌, subst, arith, Option}
 use mathlib.Core.Option.{some}
 use lib.ListN.{get_elem?}
-use Rattle.pair_rule.proofs.Words.{Answers, Bytes0, Bytes1, Core, Empties, Fills, HasSwapsLeft, Inbox, Knowledge, LeavesRoom, Lookups, Mailbox, Mine, Outbox, Payload, Requests, SeatView, Sectors, Side, Sized, Swapped, WasIn, Who, all_below, box_index, emptied, emptier, filled, filler, found_empty, most_swaps, new_side, nobody, number_of, numbers, rest, seat_index, set_else, set_here, side, side_at, slot_of, with_core, with_known}
+use Rattle.pair_rule.proofs.Words.{Answers, Bytes0, Bytes1, Core, Empties, Fills, HasSwapsLeft, Inbox, Knowledge, LeavesRoom, Lookups, Mailbox, Mine, Outbox, Payload, Requests, SeatView, Sectors, Side, Sized, Swapped, WasIn, Who, all_below, and_parts, box_index, emptied, emptier, filled, filler, found_empty, most_swaps, new_side, nobody, number_of, numbers, rest, seat_index, set_else, set_here, side, side_at, slot_of, with_core, with_known}
 use Rattle.pair_rule.specs.Seats.{Holds, Keeps}
 use Rattle.pair_rule.proofs.Slots.{or_of}
 use Rattle.pair_rule.proofs.SplitSeats.{nobody_has}
 use Rattle.pair_rule.proofs.Parts.{set_there, few_boxes, index_at, owned_fill, owned_empty, owned_find}
 use Rattle.pair_rule.proofs.Filled.{local_fill, local_empty}
+use Rattle.std.proofs.lemmas.Bool.{and_from}
 use Rattle.std.proofs.lemmas.List.{get_or-map, map-set, length-map}
 
 -- a value is put into the slot in hand
@@ -132,21 +133,14 @@ single_has s mine is n ne = ap (λ (l : List Bool). get_elem? l (seat_index n)) 
 
 -- ---- whether swaps are left
 
-both_true : (a b : Bool) → (a && b) ≡ true → (a ≡ true) × (b ≡ true)
-both_true true b e = (refl, e)
-both_true false b e = absurd cc
-
-true_both : (a b : Bool) → a ≡ true → b ≡ true → (a && b) ≡ true
-true_both a b e d = ap (λ c. c && b) e ∙ d
-
 each_below : (ns : List ℕ) → all_below ns ≡ true → (k : ℕ) → k < length ns → get_or ns k 0 < 2 ^ 40
 each_below [] all k few = absurd (omega arith)
-each_below (n ∷ ns) all zero few = let e = (both_true (nat_lt n most_swaps) (all_below ns) all).0 in grind arith
-each_below (n ∷ ns) all (suc k) few = each_below ns (both_true (nat_lt n most_swaps) (all_below ns) all).1 k (omega arith)
+each_below (n ∷ ns) all zero few = let e = (and_parts (nat_lt n most_swaps) (all_below ns) all).0 in grind arith
+each_below (n ∷ ns) all (suc k) few = each_below ns (and_parts (nat_lt n most_swaps) (all_below ns) all).1 k (omega arith)
 
 below_each : (ns : List ℕ) → ((k : ℕ) → k < length ns → get_or ns k 0 < 2 ^ 40) → all_below ns ≡ true
 below_each [] each = refl
-below_each (n ∷ ns) each = true_both (nat_lt n most_swaps) (all_below ns) (let l = each 0 (omega arith) in grind arith)
+below_each (n ∷ ns) each = and_from (nat_lt n most_swaps) (all_below ns) (let l = each 0 (omega arith) in grind arith)
     (below_each ns (λ k few. each (suc k) (omega arith)))
 
 module _ (sides : List Side) (ns : List ℕ) (eight : length sides ≡ 8) (are : ns ≡ numbers sides) where
@@ -179,11 +173,11 @@ room_all sides each = (each Outbox, each Inbox, each Bytes0, each Bytes1, each R
 pub swaps_left : (s : Who) (me : Mine) (slot : ℕ) (fills empties : List ℕ) (left : Bool) → Keeps s me slot fills empties
     → left ≡ (all_below fills && all_below empties) → (left ≡ true) ↔ HasSwapsLeft me.0.core
 swaps_left s me slot fills empties left k is = (
-  λ e. let all = both_true (all_below fills) (all_below empties) (sym is ∙ e) in (
+  λ e. let all = and_parts (all_below fills) (all_below empties) (sym is ∙ e) in (
     room_all me.0.core.fills (side_below me.0.core.fills fills k.holds.sized.fills k.fills_are all.0),
     room_all me.0.core.empties (side_below me.0.core.empties empties k.holds.sized.empties k.empties_are all.1),
   ),
-  λ h. is ∙ true_both (all_below fills) (all_below empties)
+  λ h. is ∙ and_from (all_below fills) (all_below empties)
       (below_side me.0.core.fills fills k.holds.sized.fills k.fills_are (room_at me.0.core.fills h.0))
       (below_side me.0.core.empties empties k.holds.sized.empties k.empties_are (room_at me.0.core.empties h.1)),
 )

@@ -10,9 +10,8 @@ use Rattle.pair_protocol.proofs.Keeps.Reads.{owns-at, right_bytes}
 use Rattle.pair_protocol.proofs.Traces.OneTrace.{one_end, one_trace}
 use Rattle.pair_rule.specs.ReadsKept.{AreKeptFrom, IsKept, SectorsAreKept}
 use Rattle.pair_rule.proofs.ListsThatGrow.{last_below}
-use Rattle.pair_rule.proofs.LongerRuns.{same_head, same_tail}
 use Rattle.pair_rule.proofs.OwnSectors.{run_owns}
-use Rattle.pair_rule.proofs.Elements.{all_in}
+use Rattle.pair_rule.proofs.Elements.{all_in, same_head, same_tail}
 
 -- ---- the moves before a sector
 

@@ -1,11 +1,10 @@
 -- The nodes that a world shows, and its messages.
-use Rattle.std.proofs.Common.{append_assoc, ◌∙◌, ◌≤◌, arith, ◌≡◌, ℕ, zero, suc, ◌≤◌, true, false, List, [], ◌∷◌, ◌++◌, map, sym, refl, ap, ◌∙◌, ⊎_elim, arith, subst, Option, None, Some, slice_get, nat_lt}
+use Rattle.std.proofs.Common.{append_assoc, ◌∙◌, ◌≤◌, arith, ◌≡◌, ℕ, zero, suc, ◌≤◌, true, List, [], ◌∷◌, ◌++◌, sym, ap, ◌∙◌, ⊎_elim, arith, subst, Option, Some, slice_get}
 use mathlib.Core.Option.{some, some-injective, some-ne-none}
 use lib.ListN.{get_elem?}
-use Rattle.pair_rule.proofs.Words.{Acknowledgement, Among, Copying, Do, Entry, IsAcknowledged, IsSentBy, Knowledge, LogEntry, Machine, Message, Move, NamedSector, Node, Operation, Released, Sent, Shows, Visible, World, WriteDone, backup_node, backup_role, backup_runs, primary_node, primary_role, primary_runs, visible}
+use Rattle.pair_rule.proofs.Words.{Acknowledgement, Among, Copying, Do, Entry, IsAcknowledged, IsSentBy, Knowledge, LogEntry, Machine, Message, Move, NamedSector, Node, Operation, Released, Sent, Shows, Visible, World, WriteDone, among-left, backup_node, backup_role, backup_runs, get-longer, primary_node, primary_role, primary_runs, visible}
 use Rattle.pair_protocol.specs.Node.{Primary, Backup}
 pub use Rattle.pair_rule.proofs.Elements.{among_either}
-use Rattle.pair_rule.proofs.Elements.{among_more}
 
 -- a message that is among those sent has a number
 pub index_of : {A : Type 0} (x : A) (xs : List A) → Among x xs → (m : ℕ) × (slice_get xs m ≡ Some x)
@@ -14,10 +13,10 @@ index_of x (y ∷ xs) a = ⊎_elim (λ e. (0, ap Some (sym e))) (λ i. let r = i
 
 pub more_sent : (v : Visible) (messages more : List Message) → Sent v messages → Sent v (messages ++ more)
 more_sent v messages more t = record {
-  logs = λ i e at. among_more (LogEntry 1 i e) messages more (t.logs i e at);
-  acks = λ h at. among_more (Acknowledgement 1 h 0) messages more (t.acks h at);
-  operations = λ o at. among_more (Released o) messages more (t.operations o at);
-  writes = λ n at. among_more (WriteDone n) messages more (t.writes n at);
+  logs = λ i e at. among-left (LogEntry 1 i e) messages more (t.logs i e at);
+  acks = λ h at. among-left (Acknowledgement 1 h 0) messages more (t.acks h at);
+  operations = λ o at. among-left (Released o) messages more (t.operations o at);
+  writes = λ n at. among-left (WriteDone n) messages more (t.writes n at);
 }
 
 -- a list that is read as tables are read
@@ -25,13 +24,6 @@ pub read_slice : {A : Type 0} (l : List A) (i : ℕ) (x : A) → get_elem? l i �
 read_slice [] i x e = absurd (some-ne-none x (sym e))
 read_slice (y ∷ l) zero x e = ap Some (some-injective y x e)
 read_slice (y ∷ l) (suc i) x e = read_slice l i x e
-
-pub not_below : (a b : ℕ) → b ≤ a → nat_lt a b ≡ false
-not_below a b le = grind arith
-
-pub map_more : {A B : Type 0} (f : A → B) (xs : List A) (x : A) → map f (xs ++ x ∷ []) ≡ map f xs ++ f x ∷ []
-map_more f [] x = refl
-map_more f (y ∷ xs) x = ap (λ l. f y ∷ l) (map_more f xs x)
 
 -- one message more that the list or the values of held have; and a list or values that grow
 pub only_more : (list : List Entry) (helds : List ℕ) (x : Message) (messages : List Message) → IsSentBy list helds x
@@ -41,21 +33,16 @@ only_more list helds x messages is all m at =
     ⊎_elim (λ (old : Among m messages). all m old) (λ (e : m ≡ x). subst (IsSentBy list helds) (sym e) is)
     (among_either m x messages at)
 
-get_still : {A : Type 0} (xs ys : List A) (i : ℕ) (x : A) → slice_get xs i ≡ Some x → slice_get (xs ++ ys) i ≡ Some x
-get_still [] ys i x e = absurd (let c : None ≡ Some x = e in cc)
-get_still (y ∷ xs) ys zero x e = e
-get_still (y ∷ xs) ys (suc i) x e = get_still xs ys i x e
-
 pub only_longer : (list : List Entry) (helds : List ℕ) (e : Entry) (m : Message) → IsSentBy list helds m
     → IsSentBy (list ++ e ∷ []) helds m
-only_longer list helds e (LogEntry generation i x) is = (is.0, get_still list (e ∷ []) i x is.1)
+only_longer list helds e (LogEntry generation i x) is = (is.0, get-longer list (e ∷ []) i x is.1)
 only_longer list helds e (Acknowledgement generation held replayed) is = is
 only_longer list helds e _ is = tt
 
 pub only_held : (list : List Entry) (helds : List ℕ) (n : ℕ) (m : Message) → IsSentBy list helds m
     → IsSentBy list (helds ++ n ∷ []) m
 only_held list helds n (LogEntry generation i x) is = is
-only_held list helds n (Acknowledgement generation held replayed) is = (is.0, is.1, among_more held helds (n ∷ []) is.2)
+only_held list helds n (Acknowledgement generation held replayed) is = (is.0, is.1, among-left held helds (n ∷ []) is.2)
 only_held list helds n _ is = tt
 
 -- what is acknowledged stays so, where more is seen and more moves are made

@@ -1,6 +1,6 @@
 -- The steps that are not events leave the world as it is, and it shows what is known then.
 use Rattle.std.proofs.Common.{◌≡◌, ℕ, zero, suc, ◌==◌, cond, Bool, true, false, List, [], ◌∷◌, ◌++◌, length, ◌⊎◌, inl, inr, sym, ap, ◌∙◌, subst, Some}
-use Rattle.pair_rule.proofs.Words.{Among, AnswersRead, CountsNone, DiskAnswer, HasWrite, Misses, SectorRead, SeesCount, Shows, SilentStepsShow, Wants, arrives, longer_by, named_by, put_by, read_at, wanted_then, with_carried}
+use Rattle.pair_rule.proofs.Words.{Among, AnswersRead, CountsNone, DiskAnswer, HasWrite, Misses, SectorRead, SeesCount, Shows, SilentStepsShow, Wants, arrives, longer_by, named_by, put_by, read_address, wanted_then, with_carried}
 use Rattle.pair_rule.specs.declared.payload.DiskAnswer.TheVariants as answer
 use Rattle.pair_rule.proofs.ShownNodes.{among_either, wants_shows}
 
@@ -42,11 +42,11 @@ silent_shows M typed0 typed1 k new w z (AnswersRead a r is first) = record {
     read_in d (answer.Written n) = d
 
     more_reads : (x : SectorRead) → Among (answer.Read x) k.disk.given ⊎ (answer.Read x ≡ answer.Read r) → x.number ≡ 0
-        → x.bytes ≡ M.boot_sector (read_at x)
+        → x.bytes ≡ M.boot_sector (read_address x)
     more_reads x (inl at) none = z.first_reads x at none
     more_reads x (inr e) none = let same : x ≡ r = ap (read_in r) e in
         ap (λ (y : SectorRead). y.bytes) same ∙ first (ap (λ (y : SectorRead). y.number) (sym same) ∙ none) ∙ ap
-        (λ (y : SectorRead). M.boot_sector (read_at y)) (sym same)
+        (λ (y : SectorRead). M.boot_sector (read_address y)) (sym same)
 silent_shows M typed0 typed1 k new w z (CountsNone zero none) =
     subst (λ h. Shows M typed0 typed1 (record k { terminal = record k.terminal { arrivals0 = arrives h k.terminal.arrivals0 } })
     w) (sym none) z

@@ -1,7 +1,7 @@
 -- Step after step, what is known is shown by a faithful world.
 use Rattle.std.proofs.Common.{ℕ, zero, suc, ◌<◌, List, ◌++◌, subst, arith, inl, inr}
-use Rattle.pair_rule.proofs.Words.{ChangesReach, Copying, Event, Faithful, First, Goes, Happens, IsAllBut, IsCopying, IsPrefix, IsShown, IsStep, Knowledge, Logged, Machine, MayHave, Nothing, Opens, PrimaryIsTold, Promises, Reached, ReachedGrows, ReachedIsFaithful, Reply, RowIsChanges, Runnable, SectorAddress, Shows, Stands, ThreadsAreFaithful, World, accepted_in, bytes_accepted, keys, opening, output, sector_record, terminal_in, typed_at}
-use Rattle.pair_rule.proofs.Beginning.{starts_shown}
+use Rattle.pair_rule.proofs.Words.{ChangesReach, Copying, Event, Faithful, Goes, Happens, IsAllBut, IsCopying, IsPrefix, IsShown, IsStep, Knowledge, Logged, Machine, MayHave, Opens, PrimaryIsTold, Promises, Reached, ReachedGrows, ReachedIsFaithful, Reply, RowIsChanges, Runnable, SectorAddress, Shows, Stands, ThreadsAreFaithful, World, accepted_in, bytes_accepted, keys, opening, output, sector_record, terminal_in, typed_at}
+use Rattle.pair_rule.proofs.Beginning.{happens_more, starts_shown}
 use Rattle.pair_rule.proofs.Law.{steps_stay_faithful}
 use Rattle.pair_rule.proofs.SilentSteps.{silent_shows}
 use Rattle.pair_rule.proofs.TableSteps.{table_steps}
@@ -48,13 +48,6 @@ shown M C typed0 typed1 k w st told z events replies happened reached f = record
   faithful = f;
   promises = promises M C typed0 typed1 k w z f;
 }
-
--- events after events
-happens_more : {S : Type 0} (M : Machine S) (C : Copying S) (a b c : World S) (es fs : List Event) (rs qs : List Reply)
-    → Happens M C a es rs b → Happens M C b fs qs c → Happens M C a (es ++ fs) (rs ++ qs) c
-happens_more M C a b c _ fs _ qs Nothing then = then
-happens_more M C a b c _ fs _ qs (First {mid = mid} {events = es} {replies = rs} row rest) then =
-    First row (happens_more M C mid b c es fs rs qs rest then)
 
 -- a step of the table leads from what is shown to what is shown
 pub next_shown : {S : Type 0} → RowIsChanges S → ChangesReach S → ReachedIsFaithful S → ReachedGrows S

@@ -1,10 +1,9 @@
 -- What the primary's list says was told: each entry that is appended adds what its append asks, and no other step changes
 -- the list or takes back what arrived.
 use Rattle.std.proofs.Common.{◌≡◌, ℕ, zero, suc, ◌+◌, ◌≤◌, Bool, true, false, ◌==◌, if◌then◌else◌, List, [], ◌∷◌, ◌++◌, sym, ap, ◌∙◌, subst, arith, append-nil, le_refl, refl, ⊎_elim}
-use Rattle.pair_rule.proofs.Words.{Among, Appends, Arrives, CountsNone, DiskAnswer, Entry, HasAnswer, IsAnswered, IsPrefix, IsTold, Knowledge, ListIsTold, Machine, Mark, PortIsTold, PrimaryIsTold, Read, Rx, SeesCount, SilentStep, ThreadStep, acceptances, acceptances-append, counted_at, inputs_of, inputs_of-append, keys, keys-append, typed_at}
+use Rattle.pair_rule.proofs.Words.{Among, Appends, Arrives, CountsNone, DiskAnswer, Entry, HasAnswer, IsAnswered, IsPrefix, IsTold, Knowledge, ListIsTold, Machine, Mark, PortIsTold, PrimaryIsTold, Read, Rx, SeesCount, SilentStep, ThreadStep, acceptances, acceptances-append, among-left, counted_at, inputs_of, inputs_of-append, keys, keys-append, typed_at}
 use Rattle.log_entry.specs.declared.entry.Entry.TheVariants.{Sent, Sector, Written}
 use Rattle.pair_rule.specs.declared.payload.DiskAnswer.TheVariants as answer
-use Rattle.pair_rule.proofs.Filled.{among_more}
 use Rattle.pair_rule.proofs.ShownNodes.{among_either}
 
 -- an answer that came stays one when more come
@@ -13,9 +12,9 @@ still_answered : (answers : List DiskAnswer) (a : DiskAnswer) (e : Entry) → Is
 still_answered answers a (Mark count) is = tt
 still_answered answers a (Rx count port byte) is = tt
 still_answered answers a (Sent count port) is = tt
-still_answered answers a (Written count number) is = among_more (answer.Written number) answers (a ∷ []) is
+still_answered answers a (Written count number) is = among-left (answer.Written number) answers (a ∷ []) is
 still_answered answers a (Sector count drive sector number bytes) (r, at, same, alike) =
-    (r, among_more (answer.Read r) answers (a ∷ []) at, same, alike)
+    (r, among-left (answer.Read r) answers (a ∷ []) at, same, alike)
 still_answered answers a (Read count drive sector number) is = absurd is
 
 module _ (list : List Entry) where

@@ -2,8 +2,8 @@
 use Rattle.std.proofs.Common.{◌≡◌, ℕ, zero, suc, ◌≤◌, eqb, List, [], ◌∷◌, ◌++◌, length, refl, ap, inl, inr, ⊎_elim, arith, length-append, le_refl}
 use prog.Atomic.{either}
 use Rattle.std.specs.Prelude.{Option}
-use Rattle.pair_rule.proofs.Words.{Among, Arrived, Entry, Fits, Inbox, Knowledge, Log, Mailbox, Operation, Outbox, Payload, PortStands, Stands, TerminalView, accepted_after, accepted_at, appended, arrives, backup_asked, byte_arrived, held, last_or, primary_asked, saw, saw_count, winner_after, winner_of}
-use Rattle.pair_rule.proofs.Filled.{among_more, if_map, entry_more, next_more}
+use Rattle.pair_rule.proofs.Words.{Among, Arrived, Entry, Fits, Inbox, Knowledge, Log, Mailbox, Operation, Outbox, Payload, PortStands, Stands, TerminalView, accepted_after, accepted_at, among-left, appended, arrives, backup_asked, byte_arrived, held, last_or, primary_asked, saw, saw_count, winner_after, winner_of}
+use Rattle.pair_rule.proofs.Filled.{if_map, entry_more, next_more}
 use Rattle.pair_rule.proofs.ListsThatGrow.{longer_prefix, last_below, rising_more, last_more, last_among, fewer_arrived, all_arrived, decide_primary, decide_backup}
 
 -- the byte in a terminal's hand arrives; the primary sees how many were accepted
@@ -87,7 +87,7 @@ module _ (k : Knowledge) (s : Stands k) where
         behind = (let low = held_low in let b = s.log.behind in let e =
             last_more 0 (length k.backup.list) k.backup.held_values in omega arith);
         once = ⊎_elim (λ e. inl e) (λ (i : Among k.primary.seen k.backup.held_values). inr
-            (among_more k.primary.seen k.backup.held_values (length k.backup.list ∷ []) i)) s.log.once;
+            (among-left k.primary.seen k.backup.held_values (length k.backup.list ∷ []) i)) s.log.once;
       };
       decided = s.decided;
       port0 = s.port0;

@@ -24,8 +24,8 @@ pub use Rattle.pair_events.specs.declared.event.Event.{Event}
 pub use Rattle.pair_events.specs.declared.event.Event.TheVariants.{Acknowledge, Arrive, DeliverAcknowledgement, DeliverLog, Get, GetReply, Put, PutReply, Release, Send, Step, Stop, Suspect, TakeKey, TellSent, TypeByte}
 pub use Rattle.pair_protocol.proofs.Keeps.Disk.{AsBefore, Came, Kept, LatestIs, OfPut, Replaced, latest_all, latest_ge, latest_is, replaced, same_address-is}
 pub use Rattle.pair_protocol.proofs.Keeps.PrimaryMoves.{sector-passed}
-pub use Rattle.pair_protocol.proofs.Traces.Lists.{among-left, among-prefix, among-split, and_parts, map-append, prefix-refl, same_some}
-pub use Rattle.pair_protocol.proofs.Traces.Moves.{acceptances-append, count_entry, entries-append, input_entry, inputs-append, inputs_of-append, inputs_of-entries, keys-append, operations-append, operations-prefix, owns-append, owns-prefix, put-prefix, runs-append, steps-append, timed_entry}
+pub use Rattle.pair_protocol.proofs.Traces.Lists.{among-left, among-prefix, among-split, and_parts, get-longer, map-append, prefix-refl, same_some}
+pub use Rattle.pair_protocol.proofs.Traces.Moves.{acceptances-append, count_entry, entries-append, input_entry, inputs-append, inputs_of-append, inputs_of-entries, keys-append, last_count-append, operations-append, operations-prefix, owns-append, owns-prefix, put-prefix, runs-append, steps-append, timed_entry}
 pub use Rattle.pair_protocol.proofs.Traces.Recorded.{recorded-append, recorded-prefix, recorded-rest, recorded-runs}
 pub use Rattle.pair_protocol.specs.Change.{AtBoot, Reached}
 pub use Rattle.pair_protocol.specs.Copying.{Copying, IsCopying, no_copies}
@@ -42,7 +42,8 @@ pub use Rattle.shared_disk.specs.declared.disk.SectorRead.{SectorRead}
 pub use Rattle.pair_rule.specs.Boxes.{Backup, Boxed, Boxes, Disk, Homes, Laid, Link, Primary, Terminal, Who, box_index, emptier, empty_word, filler, filler_met, full_word, is_full, number_of, seat_index, side, slot_of}
 pub use Rattle.pair_rule.specs.Histories.{AsksNot, IsReply, MayAppend, MayPut, PlainRun, PlainStep}
 pub use Rattle.pair_rule.specs.Kinds.{Emptied, Filled, Mine, Swapped, WasIn, appends, contests_backup, contests_primary, counted_at, counts, counts_at, emptied, empties, filled, fills, found_empty, gives_last_slot, holds_entries, know_of, mixed, nobody, only, part_of, sees, sees_count, sees_count_at, side_at, spent_view, takes_first_slot, which, with_core, with_known, with_part, with_slot, without}
-pub use Rattle.pair_rule.specs.Knowledge.{Agrees, AgreesOf, AllAre, CanFill, Carries, Decided, Finds, FirstsAgree, FirstsAgreeOf, Fits, HasWrite, IsAsked, IsByteOf, IsEntryOf, IsNext, IsReplied, PortStands, Replies, Rising, Stands, StartsWith, WasRead, WhereSome, accepted_after, accepted_at, accepted_with, after_empty, after_fill, after_sector, appended, arrives, backup_asked, byte_arrived, completed, grown, held, is_of, last_or, longer_by, named_by, primary_asked, put_by, read_at, saw, saw_count, sector_entry, wanted_then, winner_after, winner_of, with_carried, with_entry, with_release, with_request, words_of}
+pub use Rattle.shared_disk.specs.Arrivals.{read_address}
+pub use Rattle.pair_rule.specs.Knowledge.{Agrees, AgreesOf, AllAre, CanFill, Carries, Decided, Finds, FirstsAgree, FirstsAgreeOf, Fits, HasWrite, IsAsked, IsByteOf, IsEntryOf, IsNext, IsReplied, PortStands, Replies, Rising, Stands, StartsWith, WasRead, WhereSome, accepted_after, accepted_at, accepted_with, after_empty, after_fill, after_sector, appended, arrives, backup_asked, byte_arrived, completed, grown, held, is_of, last_or, longer_by, named_by, primary_asked, put_by, saw, saw_count, sector_entry, wanted_then, winner_after, winner_of, with_carried, with_entry, with_release, with_request, words_of}
 pub use Rattle.pair_rule.specs.Law.{AnswersLookup, AnswersRead, AppendEvents, Appends, Arrives, AsksRead, BackupLoses, BackupWins, Completes, CountsNone, HasAnswer, HasLonger, HasPort, HasRun, Holds, IsCovered, IsTold, Keeps, Misses, PrimaryLoses, PrimaryWins, Puts, Releases, Runnable, SeeEvents, Sees, SeesCount, SilentStep, SilentStepsShow, StartsShown, StepsAreEvents, StepsAreFaithful, Takes, TakesByte0, TakesByte1, TakesLookup, TakesRequest, ThreadStep, Wants, typed_at, with_released}
 pub use Rattle.pair_rule.specs.Rules.{CountedBy, CountsAs, Facts, Has, IsStart, Moment, Part, Rule, Same, SamePart, Sized, core_of, first_known, has, new_side, part, view_of}
 pub use Rattle.pair_rule.specs.Seats.{Empties, Fills, HasSwapsLeft, LeavesRoom, Opened, all_below, entry_by, most_swaps, numbers, with_sector, zeros}

@@ -22,6 +22,7 @@ use Rattle.pair_rule.specs.declared.payload.DiskAnswer.{DiskAnswer}
 use Rattle.pair_rule.specs.declared.payload.DiskAnswer.TheVariants as answer
 use Rattle.disk_dcdd.specs.Address.{address_of, same_address}
 use Rattle.disk_dcdd.specs.declared.address.SectorAddress.{SectorAddress}
+use Rattle.shared_disk.specs.Arrivals.{read_address}
 use Rattle.shared_disk.specs.declared.disk.SectorRead.{SectorRead}
 use Rattle.pair_rule.specs.declared.view.Arrived.{Arrived}
 use Rattle.pair_rule.specs.declared.view.BackupView.{BackupView}
@@ -67,23 +68,19 @@ words_of k =
 
 -- ---- what holds
 
--- where a sector was read
-abbrev pub read_at : SectorRead → SectorAddress
-read_at r = record { drive = r.drive; track = r.track; sector = r.sector }
-
 -- the entry of a sector that was taken at this count
 abbrev pub sector_entry : ℕ → SectorRead → Entry
 sector_entry count r = entry.Sector count r.drive r.sector r.number r.bytes
 
 -- whether the sector is the one that was named
 abbrev pub is_of : SectorRead → NamedSector → Bool
-is_of r t = same_address (read_at r) t.address && r.number == t.number
+is_of r t = same_address (read_address r) t.address && r.number == t.number
 
 -- what a packet carries is this entry: all of it, or the name of a sector that the disk answered
 abbrev pub Carries : List DiskAnswer → Carried → Entry → Type 0
 Carries given (Whole x) e = e ≡ x
 Carries given (Named t) e =
-    (r : SectorRead) × Among (answer.Read r) given × (read_at r ≡ t.address) × (r.number ≡ t.number)
+    (r : SectorRead) × Among (answer.Read r) given × (read_address r ≡ t.address) × (r.number ≡ t.number)
     × (e ≡ sector_entry t.count r)
 
 -- the packet is that entry of the primary's list
@@ -155,7 +152,7 @@ HasWrite puts n = (w : SectorWrite) × Among w puts × (w.number ≡ n)
 abbrev pub IsReplied : List SectorWrite → DiskAnswer → Type 0
 IsReplied puts (answer.Written n) = HasWrite puts n
 IsReplied puts (answer.Read r) = (r.number ≡ 0) ⊎
-    ((w : SectorWrite) × Among w puts × (address_of w ≡ read_at r) × (w.number ≡ r.number) × (w.bytes ≡ r.bytes))
+    ((w : SectorWrite) × Among w puts × (address_of w ≡ read_address r) × (w.number ≡ r.number) × (w.bytes ≡ r.bytes))
 
 -- the disk read this sector: for the primary, or for the backup
 abbrev pub WasRead : DiskView → SectorRead → Type 0
@@ -163,7 +160,7 @@ WasRead d r = Among (answer.Read r) d.given ⊎ Among r d.found
 
 -- each time that the disk read this write of this sector it had these bytes
 abbrev pub Agrees : DiskView → SectorRead → Type 0
-Agrees d r = (s : SectorRead) → WasRead d s → read_at s ≡ read_at r → s.number ≡ r.number → s.bytes ≡ r.bytes
+Agrees d r = (s : SectorRead) → WasRead d s → read_address s ≡ read_address r → s.number ≡ r.number → s.bytes ≡ r.bytes
 
 abbrev pub AgreesOf : DiskView → DiskAnswer → Type 0
 AgreesOf d (answer.Written n) = Unit {0}
@@ -172,7 +169,7 @@ AgreesOf d (answer.Read r) = Agrees d r
 -- the same for a sector that no write has changed
 abbrev pub FirstsAgree : DiskView → SectorRead → Type 0
 FirstsAgree d r =
-    (s : SectorRead) → WasRead d s → read_at s ≡ read_at r → s.number ≡ 0 → r.number ≡ 0 → s.bytes ≡ r.bytes
+    (s : SectorRead) → WasRead d s → read_address s ≡ read_address r → s.number ≡ 0 → r.number ≡ 0 → s.bytes ≡ r.bytes
 
 abbrev pub FirstsAgreeOf : DiskView → DiskAnswer → Type 0
 FirstsAgreeOf d (answer.Written n) = Unit {0}
@@ -378,8 +375,8 @@ Replies d (answer.Read r) =
 -- it is what the disk has of the sector that was looked up last
 abbrev pub Finds : DiskView → SectorRead → Type 0
 Finds d r =
-    (d.sought ≡ Some (read_at r))
-    × (latest (record { number = 0; bytes = r.bytes }) d.puts (read_at r) ≡ record { number = r.number; bytes = r.bytes })
+    (d.sought ≡ Some (read_address r))
+    × (latest (record { number = 0; bytes = r.bytes }) d.puts (read_address r) ≡ record { number = r.number; bytes = r.bytes })
 
 -- the number that the terminal writes is the number accepted with the byte in hand
 abbrev pub accepted_with : ℕ → Knowledge → ℕ

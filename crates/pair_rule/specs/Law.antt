@@ -16,6 +16,7 @@ use Rattle.log_entry.specs.declared.entry.Entry.{Entry}
 use Rattle.log_entry.specs.declared.entry.Entry.TheVariants.{Mark, Rx, Sent, Sector, Written, Read}
 use Rattle.guest_lockstep.specs.Reach.{keys, acceptances}
 use Rattle.shared_disk.specs.declared.disk.SectorRead.{SectorRead}
+use Rattle.pair_protocol.specs.OnDisk.{ReadyIsSelected}
 use Rattle.pair_protocol.specs.Change.{Reached}
 use Rattle.pair_protocol.specs.Copying.{Copying, IsCopying}
 use Rattle.pair_events.specs.declared.event.Event.{Event}
@@ -37,7 +38,8 @@ use Rattle.pair_rule.specs.declared.payload.Packet.{Packet}
 use Rattle.pair_rule.specs.declared.payload.Payload.TheVariants as payload
 use Rattle.pair_rule.specs.declared.payload.Payload.TheVariants.{Log, Out, Request, Answer, Lookup}
 use Rattle.pair_rule.specs.declared.view.Knowledge.{Knowledge}
-use Rattle.pair_rule.specs.Knowledge.{completed, counted_at, last_or, read_at, Stands, held, saw, saw_count, primary_asked, backup_asked, byte_arrived, appended, after_empty, after_fill, with_release}
+use Rattle.shared_disk.specs.Arrivals.{read_address}
+use Rattle.pair_rule.specs.Knowledge.{completed, counted_at, last_or, Stands, held, saw, saw_count, primary_asked, backup_asked, byte_arrived, appended, after_empty, after_fill, with_release}
 use Rattle.pair_rule.specs.Histories.{first_known}
 pub use Rattle.pair_rule.specs.Histories.{MayAppend}
 use Rattle.pair_rule.specs.Shown.{notes_from, hand_of, Shows, Leads, Happens}
@@ -78,7 +80,7 @@ IsTold M typed0 typed1 k s (Sent count port) =
     acceptances port (inputs_of (k.primary.list ++ Sent count port ∷ [])) ≤ counted_at port k
 IsTold M typed0 typed1 k s (Written count number) = Among (answer.Written number) k.primary.answers
 IsTold M typed0 typed1 k s (Sector count drive sector number bytes) =
-    (r : SectorRead) × Among (answer.Read r) k.primary.answers × (read_at r ≡ M.address s drive sector)
+    (r : SectorRead) × Among (answer.Read r) k.primary.answers × (read_address r ≡ M.address s drive sector)
     × (r.number ≡ number) × (r.bytes ≡ bytes)
 IsTold M typed0 typed1 k s (Read count drive sector number) = ⊥
 
@@ -165,7 +167,7 @@ pub data SilentStep {S : Type 0} (M : Machine S) (k : Knowledge) : Knowledge →
   HasAnswer : (a : DiskAnswer) → SilentStep M k (after_empty Answers (Answer a) k)
   AsksRead : (a : SectorAddress) → SilentStep M k (after_fill Requests (Request (ask.Read a)) k)
   AnswersRead : (a : SectorAddress) (r : SectorRead) → k.disk.taken ≡ Some (ask.Read a) →
-      (r.number ≡ 0 → r.bytes ≡ M.boot_sector (read_at r)) →
+      (r.number ≡ 0 → r.bytes ≡ M.boot_sector (read_address r)) →
       SilentStep M k (after_fill Answers (Answer (answer.Read r)) k)
   -- a packet that only names its sector, a lookup, what was found, and a sector that is not the wanted one
   Wants : (p : Packet) (t : NamedSector) → p.carried ≡ Named t → SilentStep M k (after_empty Inbox (Log p) k)
@@ -176,17 +178,12 @@ pub data SilentStep {S : Type 0} (M : Machine S) (k : Knowledge) : Knowledge →
 
 -- ---- the laws
 
--- a sector that is ready is one of the selected drive
-abbrev pub ReadsSelected : {S : Type 0} → Machine S → Type 0
-ReadsSelected {S} M =
-    (s : S) (drive sector : ℕ) → M.ready s (M.address s drive sector) ≡ true → M.selected s ≡ Some drive
-
 -- what the threads ask of the machine that they run
 pub record Runnable {S : Type 0} (M : Machine S) : Type 0 where
   pub lawful : Lawful M
   pub counts : Counts M
   pub operations : ComesAndGoes M
-  pub selected : ReadsSelected M
+  pub selected : ReadyIsSelected M
 
 -- each step of the threads is its events of the world
 abbrev pub StepsAreEvents : Type 0 → Type 0

@@ -22,7 +22,8 @@ use Rattle.pair_rule.specs.declared.payload.DiskAnswer.{DiskAnswer}
 use Rattle.pair_rule.specs.declared.view.Arrived.{Arrived}
 use Rattle.pair_rule.specs.declared.view.BackupView.{BackupView}
 use Rattle.pair_rule.specs.declared.view.Knowledge.{Knowledge}
-use Rattle.pair_rule.specs.Knowledge.{winner_of, read_at, HasWrite}
+use Rattle.shared_disk.specs.Arrivals.{read_address}
+use Rattle.pair_rule.specs.Knowledge.{winner_of, HasWrite}
 
 -- what each operation of moves waits for, at a primary with this count, this log and these notes
 abbrev pub notes_from : ℕ → List Entry → List Note → List Move → List Note
@@ -151,7 +152,7 @@ pub record ShowsVisible {S : Type 0} (M : Machine S) (typed0 typed1 : List ℕ) 
   pub done : (n : ℕ) → IsDone n moves → HasWrite v.puts n
   -- output rule: whatever was released is acknowledged
   pub covered : (o : Operation) → Among o v.released → IsAcknowledged moves v.seen o
-  pub first_reads : (r : disk.SectorRead) → Among (Read r) v.given → r.number ≡ 0 → r.bytes ≡ M.boot_sector (read_at r)
+  pub first_reads : (r : disk.SectorRead) → Among (Read r) v.given → r.number ≡ 0 → r.bytes ≡ M.boot_sector (read_address r)
 
 -- and so it is by what is known
 abbrev pub Shows : {S : Type 0} → Machine S → List ℕ → List ℕ → Knowledge → World S → Type 0

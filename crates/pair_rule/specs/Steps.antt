@@ -13,7 +13,8 @@ use Rattle.pair_rule.specs.declared.payload.Payload.{Payload}
 use Rattle.pair_rule.specs.declared.payload.Payload.TheVariants.{Out, Request, Answer, Sector}
 use Rattle.pair_rule.specs.declared.view.Knowledge.{Knowledge}
 use Rattle.pair_rule.specs.Boxes.{Primary, Backup, filler, emptier}
-use Rattle.pair_rule.specs.Knowledge.{Agrees, AgreesOf, CanFill, Finds, Fits, Replies, Stands, accepted_at, after_empty, after_fill, appended, backup_asked, byte_arrived, held, last_or, primary_asked, read_at, saw, saw_count, winner_of}
+use Rattle.shared_disk.specs.Arrivals.{read_address}
+use Rattle.pair_rule.specs.Knowledge.{Agrees, AgreesOf, CanFill, Finds, Fits, Replies, Stands, accepted_at, after_empty, after_fill, appended, backup_asked, byte_arrived, held, last_or, primary_asked, saw, saw_count, winner_of}
 use Rattle.pair_rule.specs.Law.{HasLonger, HasRun, IsCovered, IsTold, MayAppend, SilentStep, ThreadStep}
 pub use Rattle.pair_rule.specs.Histories.{AsksNot}
 
@@ -24,7 +25,7 @@ MayRelease M k o = (run : HasRun M k.primary.list) × IsCovered M k run o
 -- a sector that was read before any write has the bytes that it booted with
 abbrev pub ReadsBoot : {S : Type 0} → Machine S → DiskAnswer → Type 0
 ReadsBoot M (answer.Written number) = Unit {0}
-ReadsBoot M (answer.Read r) = r.number ≡ 0 → r.bytes ≡ M.boot_sector (read_at r)
+ReadsBoot M (answer.Read r) = r.number ≡ 0 → r.bytes ≡ M.boot_sector (read_address r)
 
 -- what a thread promises of what it puts into a box
 abbrev pub Promised : {S : Type 0} (M : Machine S) → Knowledge → Mailbox → Payload → Type 0

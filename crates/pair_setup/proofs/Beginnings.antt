@@ -1,10 +1,12 @@
 -- The Altair of a setup is a machine that a pair may run, and two boards of it may begin.
-use Rattle.std.proofs.Common.{◌≡◌, ◌∙◌, [], ◌<◌, ◌^◌, ◌≤◌, Bool, List, None, Option, Some, ap, eqb-true, refl, subst, sym, true, false, ℕ}
-use Rattle.std.specs.Prelude.{IsTrue, length, ◌==◌, ◌&&◌}
+use Rattle.std.proofs.Common.{◌≡◌, ◌∙◌, [], ◌<◌, ◌^◌, ◌≤◌, List, ap, refl, subst, sym, ℕ}
+use Rattle.std.specs.Prelude.{IsTrue, length}
 use Rattle.std.specs.Option.{option_map_or}
+use Rattle.std.proofs.lemmas.Bool.{and_parts}
+use Rattle.altair_laws.proofs.Drives.{selected_is}
 use Rattle.altair_copies.specs.Copies.{IsSetup, TheImageCopies, image_copy}
 use Rattle.disk_dcdd.specs.Address.{has_sector}
-use Rattle.disk_dcdd.specs.Completion.{is_sector_due}
+use Rattle.disk_dcdd.specs.Completion.{is_sector_due, is_selected}
 use Rattle.disk_dcdd.specs.declared.address.SectorAddress.{SectorAddress}
 use Rattle.disk_dcdd.specs.declared.controller.TheConstants.{DRIVES}
 use Rattle.disk_dcdd.specs.declared.sector.TheConstants.{SECTOR_BYTES}
@@ -20,13 +22,13 @@ use Rattle.guest_lockstep.specs.declared.input.Input.{Input}
 use Rattle.guest_lockstep.specs.declared.input.Input.TheVariants.{Rx, Sector, Sent, Written}
 use Rattle.guest_board.specs.declared.setup.Setup.{Setup}
 use Rattle.guest_board.specs.MoveLaws.{guests_issue_and_complete}
-use Rattle.shared_disk.specs.Records.{HasDrives, HasWholeSectors, IsUnwritten, record_at}
+use Rattle.shared_disk.specs.Records.{HasDrives, HasWholeSectors, IsUnwritten, record_at, bytes_in}
 use Rattle.shared_disk.specs.declared.store.Record.{Record}
 use Rattle.pair_protocol.specs.Copying.{IsCopying, Makes}
 use Rattle.pair_protocol.specs.Lawful.{Lawful}
-use Rattle.pair_protocol.specs.OnDisk.{StaysOnDisk}
-use Rattle.ft_world.specs.Beginning.{MayBegin, beginning, bytes_in}
-use Rattle.ft_world.specs.Standing.{Course, IsMachine, ReadyIsSelected, machine_of}
+use Rattle.pair_protocol.specs.OnDisk.{StaysOnDisk, ReadyIsSelected}
+use Rattle.ft_world.specs.Beginning.{MayBegin, beginning}
+use Rattle.ft_world.specs.Standing.{Course, IsMachine, machine_of}
 use Rattle.ft_world.proofs.Beginnings.{some_of}
 
 -- what completes an operation does so wherever the machine boots
@@ -57,18 +59,9 @@ is_machine M c drives lawful operations ready within on_disk copies makes = reco
 }
 
 -- an Altair's sector is ready at the selected drive alone
-selected_is : (selected : Option ℕ) (drive : ℕ) (due : Bool) →
-    (option_map_or (λ s. s == drive) selected false && due) ≡ true → selected ≡ Some drive
-selected_is None drive due ready = absurd (cc)
-selected_is (Some k) drive due ready = go (k == drive) refl ready
-  where
-    go : (same : Bool) → (k == drive) ≡ same → (same && due) ≡ true → Some k ≡ Some drive
-    go false is ready = absurd (cc)
-    go true is ready = ap (λ n. Some n) (eqb-true k drive is)
-
 ready_is_selected : ReadyIsSelected some_altair
 ready_is_selected g drive sector ready =
-    selected_is g.devices.disk.selected drive (is_sector_due g.devices.disk sector) ready
+    selected_is g.devices.disk drive (and_parts (is_selected g.devices.disk drive) (is_sector_due g.devices.disk sector) ready).0
 
 -- a disk that has these drives, and only whole sectors, has all bytes of each of their sectors
 pub whole_at_boot : (drives : ℕ) (records : List Record) → HasDrives records drives → HasWholeSectors records →

@@ -1,10 +1,11 @@
 -- A settled run that stands is one that was left: its acceptances are of bytes that it gave, and each write of it was put.
 use Rattle.std.proofs.Common.{◌≡◌, ℕ, ◌+◌, ◌≤◌, inl, inr, Bool, true, false, cond, List, [], ◌∷◌, ◌++◌, length, Option, Some, None, refl, sym, ap, subst, ◌∙◌, arith, append-nil, append_assoc, length-append, eqb-true}
 use Rattle.std.specs.Prelude.{◌==◌}
-use Rattle.pair_standing.proofs.Words.{Accepts, AllAre, Among, Byte, Do, DueIsGiven, Entry, Has, HasWrite, Input, IsDiskOf, IsDone, IsScreenOf, Lawful, Leaves, Machine, Move, Operation, Record, Recorded, Runs, SectorAddress, SectorWrite, Stands, Take, Write, Written, acceptances, acceptances_of-append, accepted_at, address_of, among-left, among-right, at_boot_is, bare, done_before, done_by, inputs, operations, output, output-append, record_is, recorded-append, recorded-runs, write_of, writes}
+use Rattle.pair_standing.proofs.Words.{Accepts, AllAre, Among, Byte, Do, DueIsGiven, Entry, Has, HasWrite, Input, IsDiskOf, IsDone, IsScreenOf, Lawful, Leaves, Machine, Move, Operation, Record, Recorded, Runs, SectorAddress, SectorWrite, Stands, Take, Write, Written, acceptances, acceptances_of-append, accepted_at, address_of, among-left, at_boot_is, bare, done_before, done_by, inputs, operations, output, output-append, record_is, recorded-append, recorded-runs, write_of, writes, writes-given}
 use Rattle.event_callbacks.specs.declared.operations.OpId.TheVariants as id
 use Rattle.guest_lockstep.specs.declared.input.Input.TheVariants as input
-use Rattle.pair_resumed.proofs.Taking.{a_write, is_due, is_out}
+use Rattle.pair_rule.proofs.AppendSteps.{is_due}
+use Rattle.pair_resumed.proofs.Taking.{a_write, is_out}
 
 -- ---- the writes among the operations
 
@@ -14,14 +15,6 @@ writes-append (Do None ∷ xs) ys = writes-append xs ys
 writes-append (Do (Some o) ∷ xs) ys =
     ap (λ l. write_of o ++ l) (writes-append xs ys) ∙ sym (append_assoc (write_of o) (writes xs) (writes ys))
 writes-append (Take i ∷ xs) ys = writes-append xs ys
-
-is_write : (w : SectorWrite) (moves : List Move) → Among (Write w) (operations moves) → Among w (writes moves)
-is_write w [] at = absurd at
-is_write w (Do None ∷ moves) at = is_write w moves at
-is_write w (Do (Some o) ∷ moves) (inl e) =
-    among-left w (write_of o) (writes moves) (subst (λ p. Among w (write_of p)) e (inl refl))
-is_write w (Do (Some o) ∷ moves) (inr at) = among-right w (write_of o) (writes moves) (is_write w moves at)
-is_write w (Take i ∷ moves) at = is_write w moves at
 
 was_given : (w : SectorWrite) (moves : List Move) → Among w (writes moves) → Among (Write w) (operations moves)
 was_given w [] at = absurd at
@@ -110,7 +103,7 @@ module _ (before : List Move) (told : IsToldRight before) where
           let out = is_out M s number taken.allowed in
           let w = a_write out.0 number (lawful.named before s (id.Write number) out.0 runs out.1) in (
             w.0,
-            is_write w.0 before
+            writes-given w.0 before
                 (subst (λ o. Among o (operations before)) w.1 (lawful.given before s (id.Write number) out.0 runs out.1)),
             w.2 ∙ sym same,
           )

@@ -1,12 +1,13 @@
 -- A winner that has taken all that is outstanding stands: its run is settled, the terminals have its output, and the disk is
 -- the machine's own.
-use Rattle.std.proofs.Common.{◌≡◌, ℕ, zero, suc, ◌<◌, ◌≤◌, inl, inr, List, [], ◌∷◌, ◌++◌, length, Option, Some, None, refl, sym, ap, subst, ◌∙◌, arith, append-nil, length-append}
+use Rattle.std.proofs.Common.{◌≡◌, ℕ, zero, suc, ◌<◌, ◌≤◌, inl, inr, List, [], ◌∷◌, length, Option, Some, None, refl, sym, ap, subst, ◌∙◌, arith}
 use Rattle.std.specs.Prelude.{IsSome}
 use Rattle.pair_standing.proofs.Words.{Among, ComesAndGoes-booted, Do, Entry, GoesOn, Has, Held, IsItsStore, IsLeft, IsScreenOf, Lawful, Leaves, Logged, Machine, Move, OpId, Operation, OutstandingIsDue, Record, Runs, SectorAddress, SectorWrite, Stands, Take, Write, address_of, at_boot_is, booted_from, entries, operations, output, record_is, recorded-runs, top}
 use Rattle.event_callbacks.specs.declared.operations.OpId.TheVariants as id
 use Rattle.guest_lockstep.specs.Outstanding.{ComesAndGoes}
 use Rattle.pair_rule.proofs.ShownGuards.{all_in}
 use Rattle.pair_threads.proofs.AtRest.{all_accepted}
+use Rattle.pair_threads.proofs.Delivered.{none_left}
 
 -- as many operations as marks, which are entries
 few_operations : (c : ℕ) (moves : List Move) → length (operations moves) ≤ length (entries Logged c moves)
@@ -14,11 +15,6 @@ few_operations c [] = omega arith
 few_operations c (Do None ∷ moves) = few_operations (suc c) moves
 few_operations c (Do (Some o) ∷ moves) = (let r = few_operations (suc c) moves in omega (arith, r))
 few_operations c (Take i ∷ moves) = (let r = few_operations c moves in omega (arith, r))
-
-none_left : (screen rest all : List ℕ) → screen ++ rest ≡ all → length all ≤ length screen → screen ≡ all
-none_left screen [] all is le = sym (append-nil screen) ∙ is
-none_left screen (x ∷ rest) all is le =
-    absurd (let a = length-append screen (x ∷ rest) in let b = ap length is in omega (arith, a, b, le))
 
 both : {A X : Type 0} (x : A) (o : Option A) → o ≡ None → o ≡ Some x → X
 both {A} x o none some = let e : ◌≡◌ {A = Option A} None (Some x) = sym none ∙ some in absurd cc

@@ -17,7 +17,7 @@ pub use Rattle.guest_lockstep.specs.declared.timed.Bare.TheVariants.{Written}
 pub use Rattle.log_entry.specs.Entries.{entries, entry_of, marks}
 pub use Rattle.log_entry.specs.declared.entry.Entry.{Entry}
 pub use Rattle.pair_protocol.proofs.Traces.Lists.{among-left, among-right, le-cases, prefix-length, prefix-next, prefix-refl, prefix-trans}
-pub use Rattle.pair_protocol.proofs.Traces.Moves.{acceptances_of-append, count-does, entries-append, keys_of-append, operations-append, output-append, owns-append}
+pub use Rattle.pair_protocol.proofs.Traces.Moves.{acceptances_of-append, count-does, entries-append, keys_of-append, operations-append, output-append, owns-append, writes-given}
 pub use Rattle.pair_protocol.proofs.Traces.Recorded.{recorded-append, recorded-runs, recorded-takes}
 pub use Rattle.pair_protocol.specs.Faithful.{IsPrefix}
 pub use Rattle.pair_protocol.specs.Lawful.{Among, IsDone, IsUnwritten, IsWritten, Lawful, Reaches, top}

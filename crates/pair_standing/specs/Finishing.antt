@@ -6,9 +6,8 @@ use Rattle.guest_lockstep.specs.Machine.{Machine, booted_from}
 use Rattle.log_entry.specs.declared.entry.Entry.{Entry}
 use Rattle.pair_protocol.specs.Faithful.{IsPrefix}
 use Rattle.pair_protocol.specs.Lawful.{Lawful}
-use Rattle.pair_rule.specs.Knowledge.{StartsWith}
+use Rattle.pair_rule.specs.Knowledge.{StartsWith, longer_by}
 use Rattle.pair_threads.specs.Left.{Leaves}
-use Rattle.pair_threads.specs.Leading.{with_waiting}
 use Rattle.pair_threads.specs.declared.gate.Who.{Who}
 use Rattle.pair_threads.specs.declared.gate.Who.TheVariants.{Backup}
 use Rattle.pair_standing.specs.declared.chosen.Guest.{Guest}
@@ -56,7 +55,7 @@ guest_by winner primary backup = primary
 -- its list, with the entry that waits for it
 abbrev pub list_by : Option Who → List Entry → List Entry → Option Entry → List Entry
 list_by (Some Backup) primary backup waiting = backup
-list_by winner primary backup waiting = with_waiting primary waiting
+list_by winner primary backup waiting = longer_by primary waiting
 
 -- each screen begins with the earlier one of its port
 abbrev pub EachPrefix : List (List ℕ) → List (List ℕ) → Type 0

@@ -2,7 +2,7 @@
 ghost use Rattle.std.specs.Prelude.{◌≡◌, IfErr, OnOk};
 ghost use Rattle.pair_standing.specs.Finishing.{guest_by};
 ghost use Rattle.pair_threads.specs.Ending.{IsEnding};
-ghost use Rattle.pair_threads.specs.Leading.{with_waiting};
+ghost use Rattle.pair_rule.specs.Knowledge.{longer_by};
 
 use i8080_words::R;
 use log_entry::Entry;
@@ -29,7 +29,7 @@ pub(crate) fn chosen<B: Drop>(winner: Option<Who>, primary: Guest<B>, backup: Gu
 
 /// Appends the entry that waits.
 pub(crate) fn append(list: &mut Journal, waiting: Option<Entry>) -> R<()>
-    ensures list { OnOk result (list.new.items ≡ with_waiting list.old.items waiting) }
+    ensures list { OnOk result (list.new.items ≡ longer_by list.old.items waiting) }
     ensures refused { IfErr result IsEnding }
 {
     if let Some(entry) = waiting {

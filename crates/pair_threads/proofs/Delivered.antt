@@ -19,7 +19,7 @@ few_left : (front rest all accepted window : ℕ) → front + rest ≡ all → a
     → rest ≤ window
 few_left front rest all accepted window whole most less = omega (arith, whole, most, less)
 
-none_left : (front rest all : List ℕ) → front ++ rest ≡ all → length all ≤ length front → front ≡ all
+pub none_left : (front rest all : List ℕ) → front ++ rest ≡ all → length all ≤ length front → front ≡ all
 none_left front [] all is le = sym (append-nil front) ∙ is
 none_left front (x ∷ rest) all is le =
     absurd (let a = length-append front (x ∷ rest) in let b = ap length is in let c = le in omega (arith, a, b, c))

@@ -2,10 +2,10 @@
 -- asked to go on alone, the primary has seen all its entries acknowledged, so the backup has them all; whoever the table
 -- names as the winner has won.
 use Rattle.std.proofs.Common.{◌≡◌, ◌⊎◌, inl, inr, ℕ, zero, suc, ◌+◌, ◌<◌, ◌≤◌, Bool, true, false, cond, List, [], ◌∷◌, ◌++◌, length, map, take, Option, Some, None, refl, sym, ap, subst, ◌∙◌, arith, length-append, append-nil, vec_len, Vec, Global}
-use Rattle.std.specs.Prelude.{Result, Ok, Err, IsOk, IfOk, OnOk}
+use Rattle.std.specs.Prelude.{Result, Ok, Err, IsOk, OnOk}
 use Rattle.std.proofs.Math.Seq.{take-length}
 use Rattle.std.proofs.lemmas.Bool.{false≢true}
-use Rattle.pair_threads.proofs.Words.{BackupView, BackupWorker, ComesAndGoes, ComesAndGoes-booted, Counts, Counts-booted, Decided, DiskView, EndsAlone, EndsBy, EndsWell, Entry, IsAt, IsAtRest, IsStore, IsWhereItLeads, Lawful, Leads, Machine, PrimaryView, PrimaryWorker, Record, Recorded-booted, Repeats, SectorAddress, Settled, StartsWith, TerminalView, Who, WorkerLeads, accepted_after, arrival_of, booted_from, bytes_in, last_or, winner_named, winner_of, with_waiting}
+use Rattle.pair_threads.proofs.Words.{BackupView, BackupWorker, ComesAndGoes, ComesAndGoes-booted, Counts, Counts-booted, Decided, DiskView, EndsAlone, EndsBy, EndsWell, Entry, IsAt, IsAtRest, IsStore, IsWhereItLeads, Lawful, Leads, Machine, PrimaryView, PrimaryWorker, Record, Recorded-booted, Repeats, SectorAddress, Settled, StartsWith, TerminalView, Who, WorkerLeads, accepted_after, arrival_of, booted_from, bytes_in, last_or, winner_named, winner_of, longer_by}
 use Rattle.pair_rule.proofs.ListsThatGrow.{last_below}
 use Rattle.pair_threads.specs.declared.gate.Who.TheVariants as who
 use Rattle.pair_threads.specs.Left.{Leaves, LeavesBy}
@@ -128,8 +128,8 @@ module _ {B S : Type 0} (state : B → S) (N : Machine S) (counts : Counts N) (l
   abbrev screens : List (List ℕ)
   screens = accepted_after 0 (map arrival_of terminal.arrivals0) ∷ accepted_after 0 (map arrival_of terminal.arrivals1) ∷ []
 
-  known : Leads M boot (with_waiting primary.list p.guest.waiting) p.guest.given.items primary (state p.guest.board)
-  known = leads_there N boot (bytes_in first) boot (with_waiting primary.list p.guest.waiting) p.guest.given.items primary
+  known : Leads M boot (longer_by primary.list p.guest.waiting) p.guest.given.items primary (state p.guest.board)
+  known = leads_there N boot (bytes_in first) boot (longer_by primary.list p.guest.waiting) p.guest.given.items primary
       (state p.guest.board) leads.0
 
   repeats : b.guest.replayed ≡ length b.guest.list.items → Repeats M exact boot backup.list false (state b.guest.board)
@@ -167,7 +167,7 @@ module _ {B S : Type 0} (state : B → S) (N : Machine S) (counts : Counts N) (l
       p.port0.taken p.port1.taken p.port0.accepted p.port1.accepted leads.2 less0 less1 records store
       exact (state b.guest.board) (repeats all)
 
-  first_left : Leaves M p.port0.typed.items p.port1.typed.items (with_waiting primary.list p.guest.waiting) screens records
+  first_left : Leaves M p.port0.typed.items p.port1.typed.items (longer_by primary.list p.guest.waiting) screens records
       (state p.guest.board)
   first_left = primary_leaves M lawful (Counts-booted N boot (bytes_in first) counts)
       (ComesAndGoes-booted N boot (bytes_in first) laws) primary backup terminal disk tail held winner settled
@@ -230,7 +230,7 @@ module _ {B S : Type 0} (state : B → S) (N : Machine S) (counts : Counts N) (l
   left_by None is quiet =
       let none : p.guest.waiting ≡ None = (rests (quiet refl)).none_waits in (
         none,
-        subst (λ w. Leaves M p.port0.typed.items p.port1.typed.items (with_waiting primary.list w) screens records
+        subst (λ w. Leaves M p.port0.typed.items p.port1.typed.items (longer_by primary.list w) screens records
             (state p.guest.board)) none first_left,
       )
   left_by (Some who.Primary) is quiet = first_left
@@ -305,12 +305,3 @@ ends_so M exact typed0 typed1 known0 known1 goes held list all copy held_copy sc
 pub came : {T E : Type 0} (r : Result T E) {P : Type 0} → IsOk r → OnOk r P → P
 came (Ok x) ok holds = holds
 came (Err e) ok holds = absurd (false≢true ok)
-
--- what follows of a result that came
-pub on_ok : {T E : Type 0} (r : Result T E) {P Q : Type 0} → (P → Q) → OnOk r P → OnOk r Q
-on_ok (Ok x) so holds = so holds
-on_ok (Err e) so holds = tt
-
-pub if_ok : {T E : Type 0} (r : Result T E) {P Q : T → Type 0} → ((x : T) → P x → Q x) → IfOk r P → IfOk r Q
-if_ok (Ok x) so holds = so x holds
-if_ok (Err e) so holds = tt

@@ -5,7 +5,7 @@ use Rattle.std.proofs.Common.{◌≡◌, ℕ, zero, suc, ◌+◌, ◌<◌, ◌�
 use Rattle.std.proofs.Math.Seq.{take-length}
 use Rattle.std.proofs.lemmas.List.{take-append-drop}
 use Rattle.std.specs.Prelude.{Contains}
-use Rattle.pair_threads.proofs.Words.{AllAre, Among, Arrived, BackupView, Byte, ComesAndGoes, Counts, DiskView, Do, EachScreen, EndsAlone, EndsWell, Entry, HasWrite, Idle, IsDone, IsFirst, IsPrefix, IsReplied, IsStore, IsTraceOf, IsWhereItLeads, Lawful, Leads, Logged, Machine, MayHave, Move, NoSectorIsDue, OpId, Operation, Owns, PrimaryView, Record, Recorded, Repeats, Runs, Says, SectorAddress, SectorRead, SectorWrite, Settled, StartsWith, Take, TerminalView, Write, acceptances, acceptances-append, accepted_after, address_of, all_map, among-prefix, arrival_of, by_port, entries, inputs, inputs_of, inputs_of-append, inputs_of-entries, keys, keys-append, last_count, operations, operations-prefix, output, owns-append, owns-prefix, read_at, run_goes_on, sector_record, step_refusal, steps, typed_at, with_waiting}
+use Rattle.pair_threads.proofs.Words.{AllAre, Among, Arrived, BackupView, Byte, ComesAndGoes, Counts, DiskView, Do, EachScreen, EndsAlone, EndsWell, Entry, HasWrite, Idle, IsDone, IsFirst, IsPrefix, IsReplied, IsStore, IsTraceOf, IsWhereItLeads, Lawful, Leads, Logged, Machine, MayHave, Move, NoSectorIsDue, OpId, Operation, Owns, PrimaryView, Record, Recorded, Repeats, Runs, Says, SectorAddress, SectorRead, SectorWrite, Settled, StartsWith, Take, TerminalView, Write, acceptances, acceptances-append, accepted_after, address_of, all_map, among-prefix, arrival_of, by_port, entries, inputs, inputs_of, inputs_of-append, inputs_of-entries, keys, keys-append, last_count, operations, operations-prefix, output, owns-append, owns-prefix, read_address, run_goes_on, sector_record, step_refusal, steps, typed_at, longer_by}
 use Rattle.guest_lockstep.specs.declared.timed.Bare.TheVariants.{Written}
 use Rattle.guest_lockstep.specs.declared.timed.Timed.{Timed}
 use Rattle.pair_protocol.specs.Traces.{cut}
@@ -25,7 +25,7 @@ use Rattle.shared_disk.specs.Records.{record_at}
 
 -- ---- lists
 
-begins : (list : List Entry) (o : Option Entry) → StartsWith (with_waiting list o) list
+begins : (list : List Entry) (o : Option Entry) → StartsWith (longer_by list o) list
 begins list None = ([], sym (append-nil list))
 begins list (Some e) = (e ∷ [], refl)
 
@@ -97,12 +97,12 @@ owns-quiet M c before s (Take i ∷ moves) none = absurd cc
 module _ {S : Type 0} (M : Machine S) (lawful : Lawful M) (counts : Counts M) (laws : ComesAndGoes M)
     (primary : PrimaryView) (backup : BackupView) (terminal : TerminalView) (disk : DiskView) (tail held winner : ℕ)
     (settled : Settled primary backup terminal disk tail held winner) (waiting : Option Entry) (names : List OpId) (s : S)
-    (leads : Leads M M.boot (with_waiting primary.list waiting) names primary s) (typed0 typed1 : List ℕ) (n0 n1 a0 a1 : ℕ)
-    (says : Says (with_waiting primary.list waiting) (by_port (take n0 typed0) (take n1 typed1) []) (by_port a0 a1 0))
+    (leads : Leads M M.boot (longer_by primary.list waiting) names primary s) (typed0 typed1 : List ℕ) (n0 n1 a0 a1 : ℕ)
+    (says : Says (longer_by primary.list waiting) (by_port (take n0 typed0) (take n1 typed1) []) (by_port a0 a1 0))
     (less0 : a0 ≤ primary.counted0) (less1 : a1 ≤ primary.counted1) (records : List Record)
     (store : IsStore M.boot_sector records disk) where
   abbrev all : List Entry
-  all = with_waiting primary.list waiting
+  all = longer_by primary.list waiting
 
   abbrev screen0 : List ℕ
   screen0 = accepted_after 0 (map arrival_of terminal.arrivals0)
@@ -136,7 +136,7 @@ module _ {S : Type 0} (M : Machine S) (lawful : Lawful M) (counts : Counts M) (l
       given = all_in (λ a. Among a disk.given) primary.answers (answer.Read r) stands.answers at
 
       go : IsReplied disk.puts (answer.Read r) → (r.number ≡ 0) ⊎ ((w : SectorWrite)
-          × Among (Write w) (operations leads.moves) × (address_of w ≡ read_at r) × (w.number ≡ r.number)
+          × Among (Write w) (operations leads.moves) × (address_of w ≡ read_address r) × (w.number ≡ r.number)
           × (w.bytes ≡ r.bytes))
       go (inl none) = inl none
       go (inr w) = inr (
@@ -349,7 +349,7 @@ module _ {S : Type 0} (M : Machine S) (lawful : Lawful M) (counts : Counts M) (l
 
   module _ (none_waits : waiting ≡ None) (none : names ≡ []) where
     whole : all ≡ primary.list
-    whole = ap (with_waiting primary.list) none_waits
+    whole = ap (longer_by primary.list) none_waits
 
     free : (name : OpId) → M.find s name ≡ None
     free = nothing_out M all names primary s leads none

@@ -5,7 +5,7 @@ use mathlib.Core.Option.{some}
 use lib.ListN.{get_elem?}
 use Rattle.std.specs.Prelude.{Contains, slice_get}
 use Rattle.std.proofs.lemmas.List.Elements.{Contains-append_left, Contains-push}
-use Rattle.pair_threads.proofs.Words.{Accepts, Among, AreAnswers, ComesAndGoes, Counts, DiskAnswer, Do, Entry, Idle, Input, IsAcknowledged, IsAnswer, IsGiven, Leads, Logged, Machine, Mark, Move, OpId, Operation, OutOfMemory, PrimaryView, Recorded, Take, among_last, among_more, completed_by, entries, entry_of, id_of, name_cases, operations, same_some, step_refusal, steps, with_release}
+use Rattle.pair_threads.proofs.Words.{Accepts, Among, AreAnswers, ComesAndGoes, Counts, DiskAnswer, Do, Entry, Idle, Input, IsAcknowledged, IsAnswer, IsGiven, Leads, Logged, Machine, Mark, Move, OpId, Operation, OutOfMemory, PrimaryView, Recorded, Take, among_last, among-left, completed_by, entries, entry_of, id_of, name_cases, operations, same_some, step_refusal, steps, with_release}
 use Rattle.guest_lockstep.specs.Running.{Quiet, Begin, More, RunsOn, AllTurns, Gives, IsRefused, fault_of}
 use Rattle.guest_lockstep.specs.declared.running.StopReason.TheVariants as reason
 use Rattle.guest_lockstep.specs.declared.running.Stopped.{Stopped}
@@ -82,8 +82,8 @@ module _ {S : Type 0} (M : Machine S) where
   still_answer answers more s (input.Rx port byte) h = h
   still_answer answers more s (input.Sent port) h = h
   still_answer answers more s (input.Sector drive sector number bytes) h =
-      (h.0, among_more (answer.Read h.0) answers more h.1, h.2, h.3, h.4)
-  still_answer answers more s (input.Written number) h = among_more (answer.Written number) answers more h
+      (h.0, among-left (answer.Read h.0) answers more h.1, h.2, h.3, h.4)
+  still_answer answers more s (input.Written number) h = among-left (answer.Written number) answers more h
 
   still_answers : (answers more : List DiskAnswer) (s : S) (moves : List Move) → AreAnswers M answers s moves
       → AreAnswers M (answers ++ more) s moves
@@ -116,7 +116,7 @@ module _ {S : Type 0} (M : Machine S) (counts : Counts M) (laws : ComesAndGoes M
   still_given m more name o g = record {
     named = Contains-append_left names more name g.named;
     given = subst (Among o) (sym (trace.operations-append leads.moves (m ∷ [])))
-        (among_more o (operations leads.moves) (operations (m ∷ [])) g.given);
+        (among-left o (operations leads.moves) (operations (m ∷ [])) g.given);
   }
 
   still_named : (m : Move) (name : OpId) (o : Operation) → IsGiven names leads.moves name o

@@ -2,10 +2,12 @@
 use Rattle.std.proofs.Common.{◌≡◌, ℕ, zero, suc, ◌+◌, ◌<◌, ◌≤◌, ◌⊎◌, inl, inr, Bool, true, false, ◌&&◌, ◌||◌, List, [], ◌∷◌, ◌++◌, length, Option, Some, None, refl, sym, ap, ◌∙◌, arith}
 use Rattle.std.specs.Prelude.{◌%◌, nat_eq, slice_get, slice_set}
 use Rattle.std.specs.Str.{bytes_eq}
-use Rattle.std.proofs.lemmas.Bool.{and_parts, eq-eqb, eqb-true, false≢true}
+use Rattle.std.proofs.lemmas.Bool.{and_parts, eq-eqb, eqb-true, false≢true, or_right}
 use Rattle.std.proofs.lemmas.List.{get_or-set_other, get_or-set_same}
+use Rattle.std.proofs.lemmas.Option.{slice_get_within}
 use Rattle.std.proofs.lemmas.Slice.Eq.{bytes_eq-Decides}
-use Rattle.pair_threads.proofs.Words.{Among, Carries, DiskAnswer, Entry, Logged, Mark, Read, Rx, Sector, SectorAddress, SectorRead, Sent, Shared, Written, read_at, same_address, same_some, sector_entry}
+use Rattle.pair_threads.proofs.Words.{Among, Carries, DiskAnswer, Entry, Logged, Mark, Read, Rx, Sector, SectorAddress, SectorRead, Sent, Shared, Written, read_address, same_address, same_some, sector_entry}
+use Rattle.disk_dcdd.proofs.Addresses.{same_address-refl}
 use Rattle.guest_lockstep.specs.declared.reads.Reads.{Reads}
 use Rattle.pair_rule.specs.declared.payload.Carried.TheVariants.{Named}
 use Rattle.pair_rule.specs.declared.payload.DiskAnswer.TheVariants as answer
@@ -14,11 +16,6 @@ use Rattle.pair_threads.specs.Naming.{HasTracks, is_on_track, is_read, name_for,
 use Rattle.shared_disk.proofs.RecordsBySector.{is_same}
 
 -- ---- lists
-
-in_range : {X : Type 0} (xs : List X) (i : ℕ) (x : X) → slice_get xs i ≡ Some x → i < length xs
-in_range [] i x at = absurd cc
-in_range (y ∷ xs) zero x at = omega arith
-in_range (y ∷ xs) (suc i) x at = let l = in_range xs i x at in omega (arith, l)
 
 -- an element of a list that is longer by one is the last one, or was there
 last_or_there : {X : Type 0} (xs : List X) (y : X) (i : ℕ) (x : X) → slice_get (xs ++ y ∷ []) i ≡ Some x
@@ -35,20 +32,10 @@ last_or_there (z ∷ xs) y (suc i) x at = go (last_or_there xs y i x at)
 
 -- ---- what the disk answered
 
-same_itself : (a : SectorAddress) → same_address a a ≡ true
-same_itself a =
-    ap (λ p. p && nat_eq a.track a.track && nat_eq a.sector a.sector) (eq-eqb a.drive a.drive refl)
-    ∙ ap (λ p. p && nat_eq a.sector a.sector) (eq-eqb a.track a.track refl)
-    ∙ eq-eqb a.sector a.sector refl
-
-or_true : (p q : Bool) → q ≡ true → (p || q) ≡ true
-or_true false q e = e
-or_true true q e = refl
-
 -- a sector that the disk answered, of which this is known
 abbrev pub IsReadOf : List DiskAnswer → SectorAddress → ℕ → List ℕ → Type 0
 IsReadOf answers address number bytes =
-    (r : SectorRead) × Among (answer.Read r) answers × (read_at r ≡ address) × (r.number ≡ number) × (r.bytes ≡ bytes)
+    (r : SectorRead) × Among (answer.Read r) answers × (read_address r ≡ address) × (r.number ≡ number) × (r.bytes ≡ bytes)
 
 module _ (address : SectorAddress) (number : ℕ) (bytes : List ℕ) where
   is_there : (answers : List DiskAnswer) → was_read address number bytes answers ≡ true
@@ -62,11 +49,11 @@ module _ (address : SectorAddress) (number : ℕ) (bytes : List ℕ) where
       here : (r : SectorRead) → is_read address number bytes (answer.Read r) ≡ true
           → IsReadOf (answer.Read r ∷ answers) address number bytes
       here r all =
-          let first = and_parts (same_address (read_at r) address && nat_eq r.number number) (bytes_eq r.bytes bytes) all in
-          let second = and_parts (same_address (read_at r) address) (nat_eq r.number number) first.0 in (
+          let first = and_parts (same_address (read_address r) address && nat_eq r.number number) (bytes_eq r.bytes bytes) all in
+          let second = and_parts (same_address (read_address r) address) (nat_eq r.number number) first.0 in (
             r,
             inl refl,
-            is_same (read_at r) address second.0,
+            is_same (read_address r) address second.0,
             eqb-true r.number number second.1,
             (bytes_eq-Decides r.bytes bytes).0 first.1,
           )
@@ -91,14 +78,14 @@ module _ (address : SectorAddress) (number : ℕ) (bytes : List ℕ) where
       go rest false all = rest all
 
 there_read : (r : SectorRead) (answers : List DiskAnswer) → Among (answer.Read r) answers
-    → was_read (read_at r) r.number r.bytes answers ≡ true
+    → was_read (read_address r) r.number r.bytes answers ≡ true
 there_read r [] at = absurd at
 there_read r (b ∷ answers) (inr at) =
-    or_true (is_read (read_at r) r.number r.bytes b) (was_read (read_at r) r.number r.bytes answers) (there_read r answers at)
+    or_right (is_read (read_address r) r.number r.bytes b) (was_read (read_address r) r.number r.bytes answers) (there_read r answers at)
 there_read r (b ∷ answers) (inl same) =
-    ap (λ p. p || was_read (read_at r) r.number r.bytes answers)
-    (ap (is_read (read_at r) r.number r.bytes) (sym same)
-    ∙ ap (λ p. p && nat_eq r.number r.number && bytes_eq r.bytes r.bytes) (same_itself (read_at r))
+    ap (λ p. p || was_read (read_address r) r.number r.bytes answers)
+    (ap (is_read (read_address r) r.number r.bytes) (sym same)
+    ∙ ap (λ p. p && nat_eq r.number r.number && bytes_eq r.bytes r.bytes) (same_address-refl (read_address r) (read_address r) refl)
     ∙ ap (λ p. p && bytes_eq r.bytes r.bytes) (eq-eqb r.number r.number refl)
     ∙ (bytes_eq-Decides r.bytes r.bytes).1 refl)
 
@@ -136,7 +123,7 @@ module _ (answers : List DiskAnswer) where
   -- all is acknowledged
   pub none_left : (seen : ℕ) (tracks : List ℕ) (list : List Entry) → length list ≤ seen → HasTracks answers seen tracks list
   none_left seen tracks list le = record {
-    each = λ i e from at. absurd (let l = in_range list i e at in omega (arith, le, from, l));
+    each = λ i e from at. absurd (let l = slice_get_within list i e at in omega (arith, le, from, l));
   }
 
   -- no sector waits
@@ -177,7 +164,7 @@ module _ (answers : List DiskAnswer) where
           ap (λ j. is_on_track answers (track_at (slice_set tracks (n % 256) track) j) x) both.0
           ∙ ap (λ t. is_on_track answers t x) at_last ∙ ap (is_on_track answers track) both.1 ∙ on
       go i x from (inr there) =
-          ap (λ t. is_on_track answers t x) (at_other i from (in_range list i x there)) ∙ has.each i x from there
+          ap (λ t. is_on_track answers t x) (at_other i from (slice_get_within list i x there)) ∙ has.each i x from there
 
 -- a sector that is on a track is what its name carries
 names : (answers : List DiskAnswer) (track : ℕ) (e : Entry) (t : NamedSector) → is_on_track answers track e ≡ true

@@ -3,7 +3,7 @@ use Rattle.std.proofs.Common.{◌≡◌, ◌≢◌, inl, inr, ℕ, zero, suc, �
 use Rattle.std.specs.Prelude.{Contains}
 use Rattle.std.specs.List.{items_where_true}
 use Rattle.std.specs.List.Retain.{IsFiltered, ReturnsInTurn}
-use Rattle.pair_threads.proofs.Words.{ComesAndGoes, Counts, HasRoom, IdlesIf, Input, IsGiven, IsInput, Leads, LeadsOn, Logged, Machine, Move, OpId, Operation, Recorded, Recording, Says, TakesOn, entry_of, name_cases, refusal_of, step_refusal, with_waiting}
+use Rattle.pair_threads.proofs.Words.{ComesAndGoes, Counts, HasRoom, IdlesIf, Input, IsGiven, IsInput, Leads, LeadsOn, Logged, Machine, Move, OpId, Operation, Recorded, Recording, Says, TakesOn, entry_of, name_cases, refusal_of, step_refusal, longer_by}
 use Rattle.pair_threads.proofs.Leading.{takes}
 use Rattle.pair_threads.proofs.Telling.{says_input}
 
@@ -21,9 +21,9 @@ module _ {B S : Type 0} (state : B → S) (M : Machine S) (counts : Counts M) (l
       → new.idle ≡ false → TakesOn state M i old new
   offers is_input room free allowed taken waits names busy boot view keys after accepted more says keys_after more_after
       leads =
-      let before : with_waiting view.list old.waiting ≡ view.list = ap (with_waiting view.list) free in
-      let now : view.list ++ entry_of Logged (M.count (state old.board)) i ∷ [] ≡ with_waiting view.list new.waiting =
-      sym (ap (with_waiting view.list) waits) in (
+      let before : longer_by view.list old.waiting ≡ view.list = ap (longer_by view.list) free in
+      let now : view.list ++ entry_of Logged (M.count (state old.board)) i ∷ [] ≡ longer_by view.list new.waiting =
+      sym (ap (longer_by view.list) waits) in (
         subst (λ l. Leads M boot l new.given.items view (state new.board)) now
             (subst (λ l. Leads M boot (view.list ++ entry_of Logged (M.count (state old.board)) i ∷ []) l view (state new.board))
             (sym names)
@@ -88,7 +88,7 @@ module _ {B S : Type 0} (state : B → S) (M : Machine S) (old new : Recording B
       → ((name : OpId) → name ≢ id → Contains old.given.items name → Contains new.given.items name)
       → LeadsOn state M old new
   forgets gone board waiting idle others boot view taken accepted leads = (
-    subst (λ w. Leads M boot (with_waiting view.list w) new.given.items view (state new.board)) (sym waiting)
+    subst (λ w. Leads M boot (longer_by view.list w) new.given.items view (state new.board)) (sym waiting)
         (record {
           moves = leads.0.moves;
           runs = subst (λ b. Recorded M boot leads.0.moves (state b)) (sym board) leads.0.runs;
@@ -100,5 +100,5 @@ module _ {B S : Type 0} (state : B → S) (M : Machine S) (old new : Recording B
           answered = leads.0.answered;
         }),
     λ is. ap (λ b. step_refusal M (state b)) board ∙ leads.1 (sym idle ∙ is),
-    subst (λ w. Says (with_waiting view.list w) taken accepted) (sym waiting) leads.2,
+    subst (λ w. Says (longer_by view.list w) taken accepted) (sym waiting) leads.2,
   )

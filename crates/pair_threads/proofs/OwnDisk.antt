@@ -1,7 +1,7 @@
 -- Each sector that came under the head in a run carried what the machine's own disk had there, if each is an answer of a
 -- disk that answers a read by the bytes at boot or by a write of the run. And each write that is done was answered.
 use Rattle.std.proofs.Common.{◌≡◌, ℕ, suc, ◌≤◌, ◌⊎◌, inl, inr, List, [], ◌∷◌, ◌++◌, map, Option, None, refl, sym, ap, subst, ◌∙◌, arith, append_assoc}
-use Rattle.pair_threads.proofs.Words.{Among, AreAnswers, DiskAnswer, Do, Input, IsAnswer, IsPrefix, IsUnwritten, IsWritten, Lawful, Machine, Move, Operation, Own, Owns, Recorded, Runs, SectorAddress, SectorRead, SectorWrite, Take, Write, address_of, among-prefix, bare, image, inputs, operations, operations-prefix, read_at, refusal_of, runs-append, same_some}
+use Rattle.pair_threads.proofs.Words.{Among, AreAnswers, DiskAnswer, Do, Input, IsAnswer, IsPrefix, IsUnwritten, IsWritten, Lawful, Machine, Move, Operation, Own, Owns, Recorded, Runs, SectorAddress, SectorRead, SectorWrite, Take, Write, address_of, among-prefix, bare, image, inputs, operations, operations-prefix, read_address, refusal_of, runs-append, same_some}
 use Rattle.guest_lockstep.specs.declared.input.Input.TheVariants as input
 use Rattle.guest_lockstep.specs.declared.timed.Bare.TheVariants.{Written}
 use Rattle.guest_lockstep.specs.declared.timed.Timed.{Timed}
@@ -10,8 +10,8 @@ use Rattle.pair_rule.specs.declared.payload.DiskAnswer.TheVariants as answer
 
 -- a read found the bytes at boot under number 0, or those of a write that these moves gave
 pub record IsReadOf {S : Type 0} (M : Machine S) (moves : List Move) (r : SectorRead) : Type 0 where
-  pub first : r.number ≡ 0 → r.bytes ≡ M.boot_sector (read_at r)
-  pub written : (r.number ≡ 0) ⊎ ((w : SectorWrite) × Among (Write w) (operations moves) × (address_of w ≡ read_at r)
+  pub first : r.number ≡ 0 → r.bytes ≡ M.boot_sector (read_address r)
+  pub written : (r.number ≡ 0) ⊎ ((w : SectorWrite) × Among (Write w) (operations moves) × (address_of w ≡ read_address r)
       × (w.number ≡ r.number) × (w.bytes ≡ r.bytes))
 
 not_zero : {X : Type 0} (n m k : ℕ) → 1 ≤ n → n ≡ m → m ≡ k → k ≡ 0 → X
@@ -21,13 +21,13 @@ module _ {S : Type 0} (M : Machine S) (laws : Lawful M) (answers : List DiskAnsw
     (whole : Runs M M.boot all last) (reads : (r : SectorRead) → Among (answer.Read r) answers → IsReadOf M all r) where
   module _ (before : List Move) (u : S) (runs : Runs M M.boot before u) (below : IsPrefix before all) where
     same_bytes : (q : SectorAddress) (n : ℕ) (bytes : List ℕ) (r : SectorRead) → IsReadOf M all r → M.done u q ≡ n
-        → read_at r ≡ q → r.number ≡ n → r.bytes ≡ bytes → IsUnwritten M before u q ⊎ IsWritten M before u q
+        → read_address r ≡ q → r.number ≡ n → r.bytes ≡ bytes → IsUnwritten M before u q ⊎ IsWritten M before u q
         → image M before q ≡ bytes
     same_bytes q n bytes r found done there number is (inl o) =
         o.bytes ∙ ap M.boot_sector (sym there) ∙ sym (found.first (number ∙ sym done ∙ o.none)) ∙ is
     same_bytes q n bytes r found done there number is (inr o) = go found.written
       where
-        go : (r.number ≡ 0) ⊎ ((w : SectorWrite) × Among (Write w) (operations all) × (address_of w ≡ read_at r)
+        go : (r.number ≡ 0) ⊎ ((w : SectorWrite) × Among (Write w) (operations all) × (address_of w ≡ read_address r)
             × (w.number ≡ r.number) × (w.bytes ≡ r.bytes)) → image M before q ≡ bytes
         go (inl none) =
             not_zero o.write.number (M.done u q) r.number (laws.write_some before u o.write runs o.issued) o.last

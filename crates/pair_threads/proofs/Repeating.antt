@@ -6,7 +6,7 @@ use Rattle.std.proofs.lemmas.Bool.{false≢true, true≢false}
 use Rattle.std.proofs.Math.Seq.{take-suc}
 use Rattle.std.proofs.lemmas.List.{take-append-le}
 use Rattle.std.proofs.lemmas.Option.{get_or_from_slice_get, slice_get_within}
-use Rattle.pair_threads.proofs.Words.{AsksIn, BackupWorker, Counts, Entry, FollowsFor, GoesOn, HasAsked, IsAt, IsStuck, Machine, MayAsk, OutOfMemory, Repeats, Seat, StepsUnless, count_of, last_count, ran_ahead, step_refusal}
+use Rattle.pair_threads.proofs.Words.{AsksIn, BackupWorker, Counts, Entry, FollowsFor, GoesOn, HasAsked, IsAt, IsStuck, Machine, MayAsk, OutOfMemory, Repeats, Seat, StepsUnless, last_count-append, ran_ahead, step_refusal}
 use Rattle.guest_lockstep.specs.Running.{AllTurns, Gives, IsRefused, Quiet, RunsOn}
 use Rattle.guest_lockstep.specs.declared.running.Stopped.{Stopped}
 use Rattle.guest_lockstep.proofs.QuietSteps.{quiet_count}
@@ -18,10 +18,6 @@ use Rattle.replayer.proofs.FollowedEntries.{following_is_recording}
 use Rattle.pair_threads.proofs.Asking.{asks_so}
 use Rattle.pair_threads.specs.declared.plan.Plan.{Plan}
 use Rattle.pair_threads.specs.declared.repeater.Repeater.{Repeater}
-
-last_more : (count : ℕ) (list : List Entry) (e : Entry) → last_count count (list ++ e ∷ []) ≡ count_of e
-last_more count [] e = refl
-last_more count (x ∷ list) e = last_more (count_of x) list e
 
 pub at_first : {S : Type 0} (M : Machine S) (exact : Bool) (boot : S) → Repeats M exact boot [] false boot
 at_first M exact boot = record { ran = record { moves = []; runs = refl; entries_are = refl }; at = λ stands here. refl }
@@ -73,7 +69,7 @@ module _ {S : Type 0} (M : Machine S) (exact : Bool) (boot s : S) (list : List E
         → Repeats M exact boot (list ++ e ∷ []) false t
     reaches e t r there =
         let made = (following_is_recording M counts boot s list r.ran).reaches e t there in
-        record { ran = made.0; at = λ stands here. made.1 ∙ sym (last_more (M.count boot) list e) }
+        record { ran = made.0; at = λ stands here. made.1 ∙ sym (last_count-append (M.count boot) list e) }
 
 -- the entries repeated after one more
 pub one_more : (list : List Entry) (replayed : ℕ) (e : Entry) → slice_get list replayed ≡ Some e

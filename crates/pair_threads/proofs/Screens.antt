@@ -1,11 +1,12 @@
 -- The terminals' worker: a byte that is counted arrives, and is accepted if it is the next one.
-use Rattle.std.proofs.Common.{◌≡◌, ℕ, ◌==◌, Bool, true, false, List, [], ◌∷◌, ◌++◌, if◌then◌else◌, length, map, Option, Some, refl, sym, ap, subst, ◌∙◌, arith}
+use Rattle.std.proofs.Common.{◌≡◌, ℕ, Bool, true, false, List, [], ◌∷◌, ◌++◌, if◌then◌else◌, length, map, Option, Some, refl, sym, ap, subst, ◌∙◌}
 use Rattle.std.specs.Prelude.{◌≢◌, not}
+use Rattle.std.proofs.lemmas.Bool.{eq-eqb, ne_eqb}
+use Rattle.std.proofs.lemmas.List.{map_push}
 use Rattle.pair_threads.proofs.Words.{Arrived, Byte, Core, HasShown, Knowledge, Operation, accepted_after, arrival_of, arrives, byte_arrived, bytes_accepted, with_byte, with_known}
 use Rattle.pair_lines.specs.declared.screen.Screen.{Screen}
 use Rattle.pair_protocol.proofs.Promises.OneMore.{accepted-one}
 use Rattle.pair_rule.specs.declared.payload.PortByte.{PortByte}
-use Rattle.pair_rule.proofs.ShownNodes.{map_more}
 use Rattle.pair_threads.specs.Screens.{HasInHand, next_byte, port_of}
 
 -- the bytes that are accepted of these arrivals
@@ -17,7 +18,7 @@ one_arrives : (hand : Option Operation) (arrivals : List Arrived) (port : ℕ) (
     → accepted_of (arrives hand arrivals) ≡ accepted_of arrivals ++ next_byte (length (accepted_of arrivals)) b
 one_arrives hand arrivals port b is =
     let a : Arrived = record { number = b.number; byte = b.byte } in
-    ap (λ h. accepted_of (arrives h arrivals)) is ∙ ap (accepted_after 0) (map_more arrival_of arrivals a)
+    ap (λ h. accepted_of (arrives h arrivals)) is ∙ ap (accepted_after 0) (map_push arrival_of arrivals a)
     ∙ accepted-one (map arrival_of arrivals) (arrival_of a)
 
 pub counted : (second : Bool) (b : PortByte) (k : Knowledge) → HasInHand second b k
@@ -42,20 +43,14 @@ other_screen true old new items is counts = is ∙ ap (λ (c : Core). bytes_acce
 
 -- ---- what is shown
 
-same_port : (n m : ℕ) → n ≡ m → (n == m) ≡ true
-same_port n m e = grind (arith, e)
-
-other_port : (n m : ℕ) → m ≢ n → (n == m) ≡ false
-other_port n m e = grind (arith, e)
-
 -- a byte that is shown is one more of its port
 pub shown_on : (s : Screen) (port byte : ℕ) (bytes : List ℕ) → HasShown s port (with_byte port port byte bytes) →
     HasShown s port (bytes ++ byte ∷ [])
 shown_on s port byte bytes shown =
-    subst (λ (b : Bool). HasShown s port (if b then bytes ++ byte ∷ [] else bytes)) (same_port port port refl) shown
+    subst (λ (b : Bool). HasShown s port (if b then bytes ++ byte ∷ [] else bytes)) (eq-eqb port port refl) shown
 
 -- and leaves what was shown of the other port
 pub shown_beside : (s : Screen) (at port byte : ℕ) (bytes : List ℕ) → at ≢ port → HasShown s at (with_byte at port byte bytes) →
     HasShown s at bytes
 shown_beside s at port byte bytes other shown =
-    subst (λ (b : Bool). HasShown s at (if b then bytes ++ byte ∷ [] else bytes)) (other_port port at other) shown
+    subst (λ (b : Bool). HasShown s at (if b then bytes ++ byte ∷ [] else bytes)) (ne_eqb port at (λ same. other (sym same))) shown

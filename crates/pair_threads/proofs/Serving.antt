@@ -4,14 +4,15 @@ use Rattle.std.proofs.Common.{◌≡◌, ℕ, ◌<◌, ◌⊎◌, Bool, true, fa
 use Rattle.std.proofs.lemmas.Bool.{ltb-true}
 use Rattle.std.specs.Prelude.{nat_lt}
 use Rattle.std.specs.Option.{option_map, option_map_or}
-use Rattle.pair_threads.proofs.Words.{AllAre, Among, Core, DiskAnswer, DiskView, Empties, Fills, FirstsAgree, FirstsAgreeOf, Has, IsDiskOf, IsFirst, IsStore, LooksAt, Record, SectorAddress, SectorRead, SectorRecord, SectorWrite, Serves, WasRead, address_of, all_more, at_boot, bytes_in, latest, put_by, record_after, same_address, same_some}
-use Rattle.shared_disk.specs.Arrivals.{after_meeting, after_put, read_at, read_of, record_of}
-use Rattle.shared_disk.specs.Records.{IsThere, IsUnwritten, record_at, with_record}
+use Rattle.pair_threads.proofs.Words.{AllAre, Core, DiskAnswer, DiskView, Empties, Fills, FirstsAgree, FirstsAgreeOf, Has, IsDiskOf, IsFirst, IsStore, LooksAt, Record, SectorAddress, SectorRead, SectorRecord, SectorWrite, Serves, WasRead, address_of, all_more, at_boot, bytes_in, latest, put_by, record_after, same_address, same_some}
+use Rattle.shared_disk.specs.Arrivals.{after_put, read_address, read_at, read_of}
+use Rattle.shared_disk.specs.Records.{IsThere, IsUnwritten, record_at}
 use Rattle.pair_threads.specs.Turns.{Leaves}
 use Rattle.pair_threads.specs.declared.worker.Turn.{Turn}
 use Rattle.pair_threads.specs.declared.worker.Turn.TheVariants.{Moved, Looks, Waits, Ends}
-use Rattle.shared_disk.proofs.RecordsBySector.{is_other, is_same, record_at-with_other, record_at-with_same}
+use Rattle.shared_disk.proofs.Arriving.{known_put}
 use Rattle.pair_protocol.proofs.Promises.OneMore.{latest-one}
+use Rattle.pair_rule.proofs.Elements.{all_in}
 use Rattle.pair_rule.specs.declared.mailbox.Mailbox.TheVariants.{Answers, Lookups, Requests, Sectors}
 use Rattle.pair_rule.specs.declared.payload.DiskAnswer.TheVariants as answer
 use Rattle.pair_rule.specs.declared.payload.DiskRequest.{DiskRequest}
@@ -24,54 +25,13 @@ use Rattle.pair_rule.specs.Knowledge as knowledge
 abbrev brought : SectorWrite → SectorRecord
 brought write = record { number = write.number; bytes = write.bytes }
 
-own_after : (rs : List Record) (write : SectorWrite) (met r : Record) (k : SectorRecord) (less : Bool) → Has met k
-    → record_at rs (address_of write) ≡ Some met
-    → record_at (cond less (with_record rs (address_of write) (record_of write)) rs) (address_of write) ≡ Some r
-    → Has r (cond less (brought write) k)
-own_after rs write met r k true has at e =
-    let q : record_of write ≡ r = same_some (record_of write) r _
-    (record_at-with_same rs (address_of write) (record_of write) met at) e in
-    (ap (λ (r : Record). r.number) (sym q), ap (λ (r : Record). r.bytes) (sym q))
-own_after rs write met r k false has at e =
-    let q : met ≡ r = same_some met r _ at e in
-    (ap (λ (r : Record). r.number) (sym q) ∙ has.0, ap (λ (r : Record). r.bytes) (sym q) ∙ has.1)
-
-other_after : (rs : List Record) (write : SectorWrite) (a : SectorAddress) (less : Bool)
-    → same_address (address_of write) a ≡ false
-    → record_at (cond less (with_record rs (address_of write) (record_of write)) rs) a ≡ record_at rs a
-other_after rs write a true e =
-    record_at-with_other rs (address_of write) a (record_of write) (is_other (address_of write) a e)
-other_after rs write a false e = refl
-
-module _ (boots : SectorAddress → List ℕ) (rs : List Record) (puts : List SectorWrite) (is : IsDiskOf boots rs puts)
-    (write : SectorWrite) where
-  abbrev kept : SectorAddress → SectorRecord
-  kept a = latest (at_boot (boots a)) puts a
-
-  sector_after : (met : Record) (a : SectorAddress) (r : Record) (here : Bool)
-      → record_at rs (address_of write) ≡ Some met → same_address (address_of write) a ≡ here
-      → record_at (cond (nat_lt met.number write.number) (with_record rs (address_of write) (record_of write)) rs) a
-      ≡ Some r
-      → Has r (cond here (cond (nat_lt (kept a).number write.number) (brought write) (kept a)) (kept a))
-  sector_after met a r false at here e = is a r (sym (other_after rs write a (nat_lt met.number write.number) here) ∙ e)
-  sector_after met a r true at here e =
-      let same : address_of write ≡ a = is_same (address_of write) a here in
-      let has : Has met (kept a) = is a met (subst (λ z. record_at rs z ≡ Some met) same at) in
-      let own : record_at
-      (cond (nat_lt met.number write.number) (with_record rs (address_of write) (record_of write)) rs)
-      (address_of write) ≡ Some r =
-      subst (λ z. record_at
-      (cond (nat_lt met.number write.number) (with_record rs (address_of write) (record_of write)) rs) z ≡ Some r)
-      (sym same) e in
-      subst (λ b. Has r (cond b (brought write) (kept a))) (ap (λ n. nat_lt n write.number) has.0)
-      (own_after rs write met r (kept a) (nat_lt met.number write.number) has at own)
-
-  pub after_write : (met : Record) → record_at rs (address_of write) ≡ Some met
-      → IsDiskOf boots (after_put rs write) (puts ++ write ∷ [])
-  after_write met at a r e =
-      subst (Has r) (sym (latest-one (at_boot (boots a)) puts write a))
-      (sector_after met a r (same_address (address_of write) a) at refl
-      (subst (λ found. record_at (option_map_or (after_meeting rs write) found rs) a ≡ Some r) at e))
+pub after_write : (boots : SectorAddress → List ℕ) (rs : List Record) (puts : List SectorWrite) → IsDiskOf boots rs puts
+    → (write : SectorWrite) (met : Record) → record_at rs (address_of write) ≡ Some met
+    → IsDiskOf boots (after_put rs write) (puts ++ write ∷ [])
+after_write boots rs puts is write met at a r e =
+    subst (Has r) (sym (latest-one (at_boot (boots a)) puts write a))
+    (known_put (λ k r. Has r k) (λ (k : SectorRecord). k.number) (λ k r has. has.0) rs write (brought write) (refl, refl)
+    met at a (latest (at_boot (boots a)) puts a) (is a) r e)
 
 pub is_there : (o : Option Record) → IsSome o → (met : Record) × (o ≡ Some met)
 is_there None t = absurd cc
@@ -166,19 +126,19 @@ record_is k n bytes e d =
 -- is none of them
 found_so : (boots : SectorAddress → List ℕ) (old : List Record) (puts : List SectorWrite) (address : SectorAddress)
     (r : SectorRead) → IsDiskOf boots old puts → read_at old address ≡ Some r
-    → (address ≡ knowledge.read_at r) × (latest (at_boot r.bytes) puts address ≡ record { number = r.number; bytes = r.bytes })
+    → (address ≡ read_address r) × (latest (at_boot r.bytes) puts address ≡ record { number = r.number; bytes = r.bytes })
     × IsFirst boots (answer.Read r)
 found_so boots old puts address r disk is = go (record_at old address) refl is
   where
     go : (found : Option Record) → record_at old address ≡ found → option_map (read_of address) found ≡ Some r
-        → (address ≡ knowledge.read_at r)
+        → (address ≡ read_address r)
         × (latest (at_boot r.bytes) puts address ≡ record { number = r.number; bytes = r.bytes })
         × IsFirst boots (answer.Read r)
     go None at e = absurd cc
     go (Some met) at e =
         let came : read_of address met ≡ r = same_some (read_of address met) r _ refl e in
         let has : Has met (latest (at_boot (boots address)) puts address) = disk address met at in
-        subst (λ (z : SectorRead). (address ≡ knowledge.read_at z)
+        subst (λ (z : SectorRead). (address ≡ read_address z)
         × (latest (at_boot z.bytes) puts address ≡ record { number = z.number; bytes = z.bytes })
         × IsFirst boots (answer.Read z)) came (
           refl,
@@ -211,18 +171,13 @@ looked old new address r is same boots view sought disk =
 
 -- ---- what was read before any write agrees
 
-all_there : {A : Type 0} (xs : List A) (P : A → Type 0) (x : A) → AllAre xs P → Among x xs → P x
-all_there [] P x all at = absurd at
-all_there (y ∷ xs) P x all (inl e) = subst P (sym e) all.0
-all_there (y ∷ xs) P x all (inr at) = all_there xs P x all.1 at
-
 module _ (boots : SectorAddress → List ℕ) (records : List Record) (view : DiskView) (store : IsStore boots records view) where
   pub firsts_agree : (r : SectorRead) → IsFirst boots (answer.Read r) → FirstsAgree view r
   firsts_agree r first s was same none there = go was ∙ ap boots same ∙ sym (first there)
     where
-      go : WasRead view s → s.bytes ≡ boots (knowledge.read_at s)
-      go (inl at) = all_there view.given (IsFirst boots) (answer.Read s) store.firsts at none
-      go (inr at) = all_there view.found (λ r. IsFirst boots (answer.Read r)) s store.finds at none
+      go : WasRead view s → s.bytes ≡ boots (read_address s)
+      go (inl at) = all_in (IsFirst boots) view.given (answer.Read s) store.firsts at none
+      go (inr at) = all_in (λ r. IsFirst boots (answer.Read r)) view.found s store.finds at none
 
   pub firsts_agree_of : (a : DiskAnswer) → IsFirst boots a → FirstsAgreeOf view a
   firsts_agree_of (answer.Written number) first = tt

@@ -1,7 +1,7 @@
 -- What the workers end with is what steps of the threads led to: the table has its steps, and each worker kept what its calls
 -- promise.
 use Rattle.std.proofs.Common.{◌≡◌, ◌≤◌, ℕ, Bool, List, [], ◌∷◌, length, map, Option, None, refl, sym, ap, subst, ◌∙◌, arith}
-use Rattle.pair_threads.proofs.Words.{AllAre, BackupView, BackupWorker, CallKept, DiskAnswer, DiskView, Entry, IsAt, IsFirst, IsStore, Lawful, Logged, Machine, NoneUnderWay, PrimaryView, PrimaryWorker, Record, Recorded-booted, Settled, TerminalView, ThreadRun, Who, WorkerKeeps, WorkerLeads, accepted_after, all_map, arrival_of, booted_from, bytes_in, entries, last_or, winner_named, winner_of, with_waiting}
+use Rattle.pair_threads.proofs.Words.{AllAre, BackupView, BackupWorker, CallKept, DiskAnswer, DiskView, Entry, IsAt, IsFirst, IsStore, Lawful, Logged, Machine, NoneUnderWay, PrimaryView, PrimaryWorker, Record, Recorded-booted, Settled, TerminalView, ThreadRun, Who, WorkerKeeps, WorkerLeads, accepted_after, all_map, arrival_of, booted_from, bytes_in, entries, last_or, winner_named, winner_of, longer_by}
 use Rattle.pair_protocol.proofs.Promises.Growth.{row_grows}
 use Rattle.pair_protocol.proofs.RowActions.{row_changes}
 use Rattle.pair_protocol.proofs.Promises.Runs.{always_faithful, changes_reach}
@@ -86,7 +86,7 @@ module _ {B S : Type 0} (state : B → S) (N : Machine S) (exact : Bool) (boot :
       moves = leads.0.moves;
       recorded = Recorded-booted N boot (bytes_in first) boot (state p.guest.board) leads.0.moves leads.0.runs;
       entries_are = ap (λ c. entries Logged c leads.0.moves) (sym zero_at) ∙ leads.0.entries_are
-          ∙ ap (λ l. with_waiting l p.guest.waiting) (sym p.same);
+          ∙ ap (λ l. longer_by l p.guest.waiting) (sym p.same);
     };
     replayed = b.guest.replayed;
     backup_at = record {

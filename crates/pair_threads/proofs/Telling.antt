@@ -1,7 +1,7 @@
 -- What the inputs of a primary's list say: a mark says nothing, an input its key and its acceptance.
 use Rattle.std.proofs.Common.{◌≡◌, ◌==◌, ℕ, zero, suc, ◌+◌, false, cond, List, [], ◌∷◌, ◌++◌, refl, sym, ap, ◌∙◌, arith, append-nil}
 use Rattle.std.proofs.lemmas.Bool.{ne_eqb}
-use Rattle.pair_threads.proofs.Words.{Among, DiskAnswer, Entry, HeardOn, Input, IsAnswer, LeadsOn, Logged, Machine, Mark, Recording, Says, SectorRead, TakesOn, acceptances, acceptances-append, accepted_at, bare, by_port, entry_of, inputs_of, inputs_of-append, key_at, keys, keys-append, read_at}
+use Rattle.pair_threads.proofs.Words.{Among, DiskAnswer, Entry, HeardOn, Input, IsAnswer, LeadsOn, Logged, Machine, Mark, Recording, Says, SectorRead, TakesOn, acceptances, acceptances-append, accepted_at, bare, by_port, entry_of, inputs_of, inputs_of-append, key_at, keys, keys-append, read_address}
 use Rattle.guest_lockstep.specs.declared.input.Input.TheVariants as input
 use Rattle.guest_lockstep.specs.declared.timed.Bare.TheVariants.{Rx, Sent}
 use Rattle.pair_rule.specs.declared.payload.DiskAnswer.TheVariants as answer
@@ -77,7 +77,7 @@ module _ {B S : Type 0} (state : B → S) (M : Machine S) (old new : Recording B
   hears_written number takes =
       hears_as (answer.Written number) (input.Written number) (λ port. refl) (λ port. refl) (λ answers among. among) takes
 
-  pub hears_read : (r : SectorRead) → M.address (state old.board) r.drive r.sector ≡ read_at r
+  pub hears_read : (r : SectorRead) → M.address (state old.board) r.drive r.sector ≡ read_address r
       → TakesOn state M (input.Sector r.drive r.sector r.number r.bytes) old new → HeardOn state M (answer.Read r) old new
   hears_read r under takes =
       hears_as (answer.Read r) (input.Sector r.drive r.sector r.number r.bytes) (λ port. refl) (λ port. refl)

@@ -1,7 +1,7 @@
 -- What each call of its seat leaves of a primary's view, and that its guest still leads under it.
 use Rattle.std.proofs.Common.{◌≡◌, ℕ, zero, suc, ◌+◌, ◌≤◌, inl, inr, List, [], ◌∷◌, ◌++◌, length, Some, None, refl, sym, ap, subst, ◌∙◌, arith, length-append, take, Vec, Global, vec_len}
 use Rattle.std.specs.Prelude.{◌-◌, slice_get}
-use Rattle.pair_threads.proofs.Words.{Among, AreAnswers, CallsKept, ComesAndGoes, Core, Counts, Counts-booted, DiskAnswer, Do, Empties, Entry, Fills, HasAsked, IdlesIf, IsAcknowledged, IsLeading, Leads, Machine, Move, OpId, Operation, PortInputs, PrimaryView, PrimaryWorker, Recorded-booted, Recording, Says, Seat, SectorAddress, SectorWrite, Take, WorkerKeeps, WorkerLeads, Works, Write, appended, booted_from, by_port, id_of, keys_by, keys_taken, told_by, with_known, with_waiting}
+use Rattle.pair_threads.proofs.Words.{Among, AreAnswers, CallsKept, ComesAndGoes, Core, Counts, Counts-booted, DiskAnswer, Do, Empties, Entry, Fills, HasAsked, IdlesIf, IsAcknowledged, IsLeading, Leads, Machine, Move, OpId, Operation, PortInputs, PrimaryView, PrimaryWorker, Recorded-booted, Recording, Says, Seat, SectorAddress, SectorWrite, Take, WorkerKeeps, WorkerLeads, Works, Write, appended, booted_from, by_port, id_of, keys_by, keys_taken, told_by, with_known, longer_by}
 use Rattle.event_callbacks.specs.declared.operations.OpId.TheVariants as id
 use Rattle.pair_rule.specs.declared.mailbox.Mailbox.TheVariants.{Requests, Answers}
 use Rattle.pair_rule.specs.declared.payload.DiskRequest.{DiskRequest}
@@ -93,7 +93,7 @@ module _ {B S : Type 0} (state : B → S) (M : Machine S) (boot : S) (view : Pri
     (counts : Counts M) (laws : ComesAndGoes M) where
   pub sees : (more : ℕ) → view.seen ≤ more → IsLeading state M boot (record view { seen = more }) taken accepted guest
   sees more le = (
-    moving.sees M counts laws boot (state guest.board) (with_waiting view.list guest.waiting) guest.given.items view
+    moving.sees M counts laws boot (state guest.board) (longer_by view.list guest.waiting) guest.given.items view
         leads.0 more le,
     leads.1,
     leads.2,
@@ -101,7 +101,7 @@ module _ {B S : Type 0} (state : B → S) (M : Machine S) (boot : S) (view : Pri
 
   pub hears : (a : DiskAnswer) → IsLeading state M boot (with_answer view a) taken accepted guest
   hears a = (
-    moving.hears M counts laws boot (state guest.board) (with_waiting view.list guest.waiting) guest.given.items view
+    moving.hears M counts laws boot (state guest.board) (longer_by view.list guest.waiting) guest.given.items view
         leads.0 a,
     leads.1,
     leads.2,
@@ -111,8 +111,8 @@ module _ {B S : Type 0} (state : B → S) (M : Machine S) (boot : S) (view : Pri
   pub releases : (name : OpId) (o : Operation) → M.find (state guest.board) name ≡ Some o → guest.waiting ≡ None
       → view.seen ≡ length view.list → IsLeading state M boot (with_release view o) taken accepted guest
   releases name o found waits seen = (
-    moving.releases M counts laws boot (state guest.board) (with_waiting view.list guest.waiting) guest.given.items
-        view leads.0 name o found (seen ∙ ap (λ w. length (with_waiting view.list w)) (sym waits)),
+    moving.releases M counts laws boot (state guest.board) (longer_by view.list guest.waiting) guest.given.items
+        view leads.0 name o found (seen ∙ ap (λ w. length (longer_by view.list w)) (sym waits)),
     leads.1,
     leads.2,
   )
@@ -124,14 +124,14 @@ module _ {B S : Type 0} (state : B → S) (M : Machine S) (boot : S) (view : Pri
     record {
       moves = leads.0.moves;
       runs = leads.0.runs;
-      entries_are = leads.0.entries_are ∙ ap (λ l. with_waiting l guest.waiting) (sym list);
+      entries_are = leads.0.entries_are ∙ ap (λ l. longer_by l guest.waiting) (sym list);
       outstanding = leads.0.outstanding;
       covered = λ o at. subst (λ n. IsAcknowledged leads.0.moves n o) (sym seen)
           (leads.0.covered o (subst (Among o) released at));
       answered = subst (λ a. AreAnswers M a boot leads.0.moves) (sym answers) leads.0.answered;
     },
     leads.1,
-    subst (λ l. Says (with_waiting l guest.waiting) taken accepted) (sym list) leads.2,
+    subst (λ l. Says (longer_by l guest.waiting) taken accepted) (sym list) leads.2,
   )
 
   pub counts_at : (n m : ℕ) → IsLeading state M boot (record view { counted0 = n; counted1 = m }) taken accepted guest
@@ -191,7 +191,7 @@ module _ {B S : Type 0} (state : B → S) (M : Machine S) (counts : Counts M) (o
   release_promised o found waits seen zero_at sectors =
       let view = old.seat.core.known.primary in
       let leads : Leads M boot view.list old.guest.given.items view (state old.guest.board) =
-      subst (λ w. Leads M boot (with_waiting view.list w) old.guest.given.items view (state old.guest.board)) waits
+      subst (λ w. Leads M boot (longer_by view.list w) old.guest.given.items view (state old.guest.board)) waits
       leading.0 in (
         release_kept (booted_from M boot sectors) (Counts-booted M boot sectors counts) zero_at old.guest.given.items view
             (state old.guest.board) old.port0.typed.items old.port1.typed.items o
@@ -205,7 +205,7 @@ module _ {B S : Type 0} (state : B → S) (M : Machine S) (counts : Counts M) (o
       (knowledge.with_entry e old.seat.core.known.primary).calls
   append_promised e waits zero_at sectors =
       let view = old.seat.core.known.primary in
-      let all : with_waiting view.list old.guest.waiting ≡ view.list ++ e ∷ [] = ap (with_waiting view.list) waits in
+      let all : longer_by view.list old.guest.waiting ≡ view.list ++ e ∷ [] = ap (longer_by view.list) waits in
       let leads : Leads M boot (view.list ++ e ∷ []) old.guest.given.items view (state old.guest.board) =
       subst (λ l. Leads M boot l old.guest.given.items view (state old.guest.board)) all leading.0 in (
         append_kept (booted_from M boot sectors) (Counts-booted M boot sectors counts) zero_at old.guest.given.items view
@@ -239,8 +239,8 @@ module _ {B S : Type 0} (state : B → S) (M : Machine S) (counts : Counts M) (o
     refl,
     λ boot leads.
         let view = old.seat.core.known.primary in
-        let now = subst (λ w. Leads M boot (with_waiting view.list w) old.guest.given.items view (state old.guest.board)
-        × IdlesIf M old.guest.idle (state old.guest.board) × Says (with_waiting view.list w) (keys_by old) (told_by old)) waits
+        let now = subst (λ w. Leads M boot (longer_by view.list w) old.guest.given.items view (state old.guest.board)
+        × IdlesIf M old.guest.idle (state old.guest.board) × Says (longer_by view.list w) (keys_by old) (told_by old)) waits
         leads in
         subst (λ (c : Core). IsLeading state M boot c.known.primary (keys_by old) (told_by old) after) (sym is)
         (there boot view now.0, now.1, now.2),

@@ -1,5 +1,5 @@
 -- What the guest of a primary's worker has done.
-use Rattle.std.specs.Prelude.{◌≡◌, ℕ, zero, suc, ◌+◌, Bool, true, List, [], ◌∷◌, ◌++◌, Option, Some, None, Contains}
+use Rattle.std.specs.Prelude.{◌≡◌, ℕ, zero, suc, ◌+◌, Bool, true, List, [], ◌∷◌, ◌++◌, Some, Contains}
 use Rattle.event_callbacks.specs.declared.operations.OpId.{OpId}
 use Rattle.event_callbacks.specs.declared.operations.Operation.{Operation}
 use Rattle.guest_lockstep.specs.Lockstep.{step_refusal}
@@ -13,18 +13,14 @@ use Rattle.i8080_words.specs.declared.refusal.Fault.TheVariants.{Idle}
 use Rattle.log_entry.specs.Entries.{entries, inputs_of}
 use Rattle.log_entry.specs.declared.entry.Entry.{Entry}
 use Rattle.pair_protocol.specs.Lawful.{Among}
-use Rattle.pair_rule.specs.Knowledge.{read_at}
+use Rattle.shared_disk.specs.Arrivals.{read_address}
+use Rattle.pair_rule.specs.Knowledge.{longer_by}
 use Rattle.pair_rule.specs.Shown.{IsAcknowledged}
 use Rattle.pair_rule.specs.declared.payload.DiskAnswer.{DiskAnswer}
 use Rattle.pair_rule.specs.declared.payload.DiskAnswer.TheVariants as answer
 use Rattle.pair_rule.specs.declared.view.PrimaryView.{PrimaryView}
 use Rattle.pair_threads.specs.declared.recording.Recording.{Recording}
 use Rattle.shared_disk.specs.declared.disk.SectorRead.{SectorRead}
-
--- a list with the entry that waits for it
-abbrev pub with_waiting : List Entry → Option Entry → List Entry
-with_waiting list None = list
-with_waiting list (Some e) = list ++ e ∷ []
 
 -- an operation that is outstanding is among the names kept, and a step of the moves gave it
 pub record IsGiven (names : List OpId) (moves : List Move) (name : OpId) (o : Operation) : Type 0 where
@@ -36,7 +32,7 @@ abbrev pub IsAnswer : {S : Type 0} → Machine S → List DiskAnswer → S → I
 IsAnswer M answers s (input.Rx port byte) = Unit {0}
 IsAnswer M answers s (input.Sent port) = Unit {0}
 IsAnswer M answers s (input.Sector drive sector number bytes) =
-    (r : SectorRead) × Among (answer.Read r) answers × (read_at r ≡ M.address s drive sector) × (r.number ≡ number)
+    (r : SectorRead) × Among (answer.Read r) answers × (read_address r ≡ M.address s drive sector) × (r.number ≡ number)
     × (r.bytes ≡ bytes)
 IsAnswer M answers s (input.Written number) = Among (answer.Written number) answers
 
@@ -78,8 +74,8 @@ IdlesIf M idle s = idle ≡ true → step_refusal M s ≡ Some Idle
 abbrev pub IsLeading : {B S : Type 0} → (B → S) → Machine S → S → PrimaryView → (ℕ → List ℕ) → (ℕ → ℕ) →
     Recording B → Type 0
 IsLeading state M boot view taken accepted r =
-    Leads M boot (with_waiting view.list r.waiting) r.given.items view (state r.board)
-    × IdlesIf M r.idle (state r.board) × Says (with_waiting view.list r.waiting) taken accepted
+    Leads M boot (longer_by view.list r.waiting) r.given.items view (state r.board)
+    × IdlesIf M r.idle (state r.board) × Says (longer_by view.list r.waiting) taken accepted
 
 -- and it stays so, whatever the seat knows
 abbrev pub LeadsOn : {B S : Type 0} → (B → S) → Machine S → Recording B → Recording B → Type 0

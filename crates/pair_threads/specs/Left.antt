@@ -11,12 +11,11 @@ use Rattle.log_entry.specs.Entries.{entries}
 use Rattle.log_entry.specs.declared.entry.Entry.{Entry}
 use Rattle.pair_protocol.specs.Faithful.{IsPrefix}
 use Rattle.pair_protocol.specs.Lawful.{Among, IsDone}
-use Rattle.pair_rule.specs.Knowledge.{AllAre, HasWrite}
+use Rattle.pair_rule.specs.Knowledge.{AllAre, HasWrite, longer_by}
 use Rattle.pair_rule.specs.Law.{typed_at}
 use Rattle.pair_threads.specs.declared.gate.Who.{Who}
 use Rattle.pair_threads.specs.declared.gate.Who.TheVariants.{Primary, Backup}
 use Rattle.pair_threads.specs.Ending.{EachScreen}
-use Rattle.pair_threads.specs.Leading.{with_waiting}
 use Rattle.pair_threads.specs.Stores.{IsDiskOf}
 use Rattle.shared_disk.specs.declared.store.Record.{Record}
 
@@ -52,7 +51,7 @@ abbrev pub LeavesBy : {S : Type 0} → Machine S → List ℕ → List ℕ → O
 LeavesBy M typed0 typed1 None primary backup waiting screens records s t =
     (waiting ≡ None) × Leaves M typed0 typed1 primary screens records s
 LeavesBy M typed0 typed1 (Some Primary) primary backup waiting screens records s t =
-    Leaves M typed0 typed1 (with_waiting primary waiting) screens records s
+    Leaves M typed0 typed1 (longer_by primary waiting) screens records s
 LeavesBy M typed0 typed1 (Some Backup) primary backup waiting screens records s t =
     Leaves M typed0 typed1 backup screens records t
 LeavesBy M typed0 typed1 (Some who) primary backup waiting screens records s t = ⊥

@@ -7,7 +7,7 @@ use Rattle.guest_lockstep.specs.declared.reads.Reads.{Reads}
 use Rattle.guest_lockstep.specs.declared.reads.Reads.TheVariants.{Logged, Shared}
 use Rattle.log_entry.specs.declared.entry.Entry.{Entry}
 use Rattle.log_entry.specs.declared.entry.Entry.TheVariants.{Mark, Rx, Sent, Sector, Written, Read}
-use Rattle.pair_rule.specs.Knowledge.{read_at}
+use Rattle.shared_disk.specs.Arrivals.{read_address}
 use Rattle.pair_rule.specs.declared.payload.Carried.{Carried}
 use Rattle.pair_rule.specs.declared.payload.Carried.TheVariants.{Whole, Named}
 use Rattle.pair_rule.specs.declared.payload.DiskAnswer.{DiskAnswer}
@@ -46,7 +46,7 @@ packet_of generation index named e = record { generation = generation; index = i
 
 -- whether the disk answered a sector with this address, this number and these bytes
 abbrev pub is_read : SectorAddress → ℕ → List ℕ → DiskAnswer → Bool
-is_read address number bytes (answer.Read r) = same_address (read_at r) address && r.number == number && bytes_eq r.bytes bytes
+is_read address number bytes (answer.Read r) = same_address (read_address r) address && r.number == number && bytes_eq r.bytes bytes
 is_read address number bytes (answer.Written n) = false
 
 abbrev pub was_read : SectorAddress → ℕ → List ℕ → List DiskAnswer → Bool

@@ -8,12 +8,11 @@ use Rattle.log_entry.specs.Entries.{entries}
 use Rattle.log_entry.specs.declared.entry.Entry.{Entry}
 use Rattle.pair_protocol.specs.Copying.{Copying, IsCopying}
 use Rattle.pair_rule.specs.declared.view.Knowledge.{Knowledge}
-use Rattle.pair_rule.specs.Knowledge.{last_or, winner_of}
+use Rattle.pair_rule.specs.Knowledge.{last_or, winner_of, longer_by}
 use Rattle.pair_rule.specs.Law.{Runnable}
 use Rattle.pair_rule.specs.Threads.{IsShown, ThreadRun, bytes_accepted}
 use Rattle.pair_threads.specs.declared.gate.Who.{Who}
 use Rattle.pair_threads.specs.Ending.{NoneUnderWay, winner_named}
-use Rattle.pair_threads.specs.Leading.{with_waiting}
 use Rattle.pair_threads.specs.Stores.{IsDiskOf}
 use Rattle.shared_disk.specs.declared.store.Record.{Record}
 
@@ -38,7 +37,7 @@ pub record IsOfRun {S : Type 0} (M : Machine S) (typed0 typed1 : List ℕ) (winn
   pub screens_are : screens ≡ bytes_accepted 0 known ∷ bytes_accepted 1 known ∷ []
   pub disk_is : IsDiskOf M.boot_sector records known.disk.puts
   pub waiting : Option Entry
-  pub primary_at : HasMade M (with_waiting primary waiting) s
+  pub primary_at : HasMade M (longer_by primary waiting) s
   pub replayed : ℕ
   pub backup_at : HasMade M (take replayed backup) t
   pub quiet : winner ≡ None → NoneUnderWay known

@@ -1,6 +1,5 @@
 -- What the disk's worker keeps besides its seat: a store whose sectors are as they booted, but for the writes answered.
 use Rattle.std.specs.Prelude.{◌≡◌, ℕ, List, [], Some}
-use Rattle.std.specs.Option.{option_map_or}
 use Rattle.disk_dcdd.specs.declared.address.SectorAddress.{SectorAddress}
 use Rattle.disk_dcdd.specs.declared.sector.SectorWrite.{SectorWrite}
 use Rattle.pair_protocol.specs.World.{SectorRecord, latest}
@@ -8,15 +7,12 @@ use Rattle.pair_rule.specs.declared.payload.DiskAnswer.{DiskAnswer}
 use Rattle.pair_rule.specs.declared.payload.DiskAnswer.TheVariants as answer
 use Rattle.pair_rule.specs.declared.payload.DiskRequest.{DiskRequest}
 use Rattle.pair_rule.specs.declared.view.DiskView.{DiskView}
-use Rattle.pair_rule.specs.Knowledge.{AllAre, Finds, put_by, read_at}
+use Rattle.shared_disk.specs.Arrivals.{read_address}
+use Rattle.pair_rule.specs.Knowledge.{AllAre, Finds, put_by}
 use Rattle.pair_rule.specs.Seats.{Replies}
 use Rattle.shared_disk.specs.Records.{record_at}
 use Rattle.shared_disk.specs.declared.disk.SectorRead.{SectorRead}
 use Rattle.shared_disk.specs.declared.store.Record.{Record}
-
--- the bytes of each sector of a store
-abbrev pub bytes_in : List Record → SectorAddress → List ℕ
-bytes_in records address = option_map_or (λ (r : Record). r.bytes) (record_at records address) []
 
 -- a sector at boot
 abbrev pub at_boot : List ℕ → SectorRecord
@@ -35,7 +31,7 @@ IsDiskOf boots records puts =
 -- a sector that was read before any write of it has the bytes that it booted with
 abbrev pub IsFirst : (SectorAddress → List ℕ) → DiskAnswer → Type 0
 IsFirst boots (answer.Written number) = Unit {0}
-IsFirst boots (answer.Read r) = r.number ≡ 0 → r.bytes ≡ boots (read_at r)
+IsFirst boots (answer.Read r) = r.number ≡ 0 → r.bytes ≡ boots (read_address r)
 
 -- a store is as the view of its seat says, and so is what was read of it before any write, for the primary and for the backup
 pub record IsStore (boots : SectorAddress → List ℕ) (records : List Record) (view : DiskView) : Type 0 where

@@ -13,7 +13,8 @@ ghost use Rattle.pair_threads.specs.Keeping.{HasKept};
 ghost use Rattle.pair_threads.specs.Left.{LeavesBy};
 ghost use Rattle.pair_threads.specs.Resuming.{BeginsAt};
 ghost use Rattle.pair_threads.specs.Shown.{IsOfRun};
-ghost use Rattle.pair_threads.specs.Stores.{IsStore, bytes_in};
+ghost use Rattle.shared_disk.specs.Records.{bytes_in};
+ghost use Rattle.pair_threads.specs.Stores.{IsStore};
 ghost use Rattle.pair_threads.specs.Typing.{IsOver};
 ghost use Rattle.shared_disk.specs.declared.store.Record.{Record};
 

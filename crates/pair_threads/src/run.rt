@@ -16,9 +16,9 @@ ghost use Rattle.pair_threads.specs.Primary.{IsAtRest, WorkerKeeps, WorkerLeads}
 ghost use Rattle.pair_threads.specs.Repeating.{IsAt};
 ghost use Rattle.pair_threads.specs.Showing.{ShowsAll};
 ghost use Rattle.pair_threads.specs.Shown.{IsOfRun};
-ghost use Rattle.pair_threads.specs.Stores.{IsStore, bytes_in};
+ghost use Rattle.pair_threads.specs.Stores.{IsStore};
 ghost use Rattle.pair_threads.specs.Typing.{IsOver, IsTyped, typed_with};
-ghost use Rattle.shared_disk.specs.Records.{IsUnwritten};
+ghost use Rattle.shared_disk.specs.Records.{IsUnwritten, bytes_in};
 ghost use Rattle.shared_disk.specs.declared.store.Record.{Record};
 
 use crate::backup::BackupWorker;

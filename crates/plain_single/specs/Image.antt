@@ -1,7 +1,7 @@
 -- The machine's own disk: a table of all sectors that drives can have.
-use Rattle.std.specs.Prelude.{◌≡◌, ℕ, ◌<◌, true, if◌then◌else◌, List, [], ◌∷◌, replicate, slice_index_or}
+use Rattle.std.specs.Prelude.{◌≡◌, ℕ, ◌<◌, true, List, [], replicate, slice_index_or}
 use Rattle.std.specs.Option.{option_map_or}
-use Rattle.disk_dcdd.specs.Address.{address_of, same_address, is_on_disk, index_of}
+use Rattle.disk_dcdd.specs.Address.{is_on_disk, index_of, bytes_with_all}
 use Rattle.disk_dcdd.specs.declared.address.SectorAddress.{SectorAddress}
 use Rattle.disk_dcdd.specs.declared.controller.TheConstants.{DRIVES}
 use Rattle.disk_dcdd.specs.declared.sector.SectorWrite.{SectorWrite}
@@ -19,15 +19,6 @@ pub record IsSector (a : SectorAddress) : Type 0 where
 -- what a table of sectors has at an address; zeros if it has no place for it
 abbrev pub sector_at : List (List ℕ) → SectorAddress → List ℕ
 sector_at sectors a = option_map_or (λ index. slice_index_or sectors index zero_sector) (index_of a) zero_sector
-
--- what a sector has after a write, if it had these bytes before
-abbrev pub bytes_with : SectorWrite → SectorAddress → List ℕ → List ℕ
-bytes_with write a bytes = if same_address (address_of write) a then write.bytes else bytes
-
--- what a sector has after a list of writes, one after another
-abbrev pub bytes_with_all : List SectorWrite → SectorAddress → List ℕ → List ℕ
-bytes_with_all [] a bytes = bytes
-bytes_with_all (write ∷ writes) a bytes = bytes_with_all writes a (bytes_with write a bytes)
 
 -- the sectors at boot: the last one of the list that goes to a sector counts, and all others are zeros
 abbrev pub boot_sectors : List SectorWrite → SectorAddress → List ℕ

@@ -1,12 +1,12 @@
 //! The machine's own disk: the bytes of every sector that drives can have.
 ghost use Rattle.std.specs.Prelude.{◌≡◌, ℕ, ◌*◌, IfOk, IfErr, List, vec_len, reverse};
 ghost use Rattle.std.specs.Option.{option_map_or, option_copied};
-ghost use Rattle.disk_dcdd.specs.Address.{index_of};
+ghost use Rattle.disk_dcdd.specs.Address.{index_of, bytes_with};
 ghost use Rattle.disk_dcdd.specs.declared.address.SectorAddress.{SectorAddress};
 ghost use Rattle.disk_dcdd.specs.declared.address.TheConstants.{DRIVE_SECTORS};
 ghost use Rattle.disk_dcdd.specs.declared.controller.TheConstants.{DRIVES};
 ghost use Rattle.i8080_words.specs.declared.refusal.Fault.TheVariants.{OutOfMemory};
-ghost use Rattle.plain_single.specs.Image.{IsSector, zero_sector, sector_at, bytes_with, boot_sectors};
+ghost use Rattle.plain_single.specs.Image.{IsSector, zero_sector, sector_at, boot_sectors};
 ghost use Rattle.guest_lockstep.specs.Reach.{bytes_after};
 
 use disk_dcdd::{SECTOR_BYTES, SectorAddress, SectorWrite, sectors_stand_apart};

@@ -5,27 +5,24 @@ use Rattle.std.specs.Prelude.{IsTrue, is_some}
 use Rattle.std.proofs.lemmas.List.{length-replicate}
 use Rattle.std.proofs.lemmas.Option.{same_Some}
 use Rattle.std.proofs.Math.Seq.{take-suc}
-use Rattle.disk_dcdd.specs.Address.{address_of, has_sector, same_address}
+use Rattle.disk_dcdd.specs.Address.{address_of, has_sector, same_address, bytes_with_all, bytes_with}
 use Rattle.disk_dcdd.specs.declared.address.SectorAddress.{SectorAddress}
 use Rattle.disk_dcdd.specs.declared.sector.SectorWrite.{SectorWrite}
 use Rattle.disk_dcdd.specs.declared.sector.TheConstants.{SECTOR_BYTES}
 use Rattle.i8080_words.specs.declared.refusal.Fault.{Fault}
 use Rattle.i8080_words.specs.declared.refusal.Fault.TheVariants.{Unknown}
-use Rattle.shared_disk.specs.Records.{HasDrives, HasWholeSectors, IsAtBoot, IsUnwritten, blank_record, boot_record, bytes_after, put_answer, record_at, unwritten, with_record}
+use Rattle.shared_disk.specs.Records.{HasDrives, HasWholeSectors, IsAtBoot, IsUnwritten, blank_record, boot_record, put_answer, record_at, unwritten, with_record}
 use Rattle.shared_disk.specs.declared.store.Record.{Record}
 use Rattle.shared_disk.proofs.RecordsBySector.{is_other, is_same, record_at-with_other, record_at-with_same, takes_none, unwritten_record}
 
 -- what a sector has after these are put over zeros
 abbrev after : List SectorWrite → SectorAddress → List ℕ
-after sectors a = bytes_after sectors a (replicate SECTOR_BYTES 0)
-
-abbrev after_one : SectorWrite → SectorAddress → List ℕ → List ℕ
-after_one w a bytes = cond (same_address (address_of w) a) w.bytes bytes
+after sectors a = bytes_with_all sectors a (replicate SECTOR_BYTES 0)
 
 after_more : (sectors : List SectorWrite) (w : SectorWrite) (a : SectorAddress) (bytes : List ℕ)
-    → bytes_after (sectors ++ w ∷ []) a bytes ≡ after_one w a (bytes_after sectors a bytes)
+    → bytes_with_all (sectors ++ w ∷ []) a bytes ≡ bytes_with w a (bytes_with_all sectors a bytes)
 after_more [] w a bytes = refl
-after_more (v ∷ sectors) w a bytes = after_more sectors w a (cond (same_address (address_of v) a) v.bytes bytes)
+after_more (v ∷ sectors) w a bytes = after_more sectors w a (bytes_with v a bytes)
 
 -- a new store has what is left if no sector is put
 pub nothing_put : (drives : ℕ) → IsAtBoot (unwritten drives) drives []

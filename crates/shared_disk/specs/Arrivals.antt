@@ -55,6 +55,10 @@ abbrev pub after_put : List Record → SectorWrite → List Record
 after_put records write =
     option_map_or (after_meeting records write) (record_at records (address_of write)) records
 
+-- where a sector was read
+abbrev pub read_address : SectorRead → SectorAddress
+read_address read = record { drive = read.drive; track = read.track; sector = read.sector }
+
 -- what is read at a sector that has this record
 abbrev pub read_of : SectorAddress → Record → SectorRead
 read_of address found = record {

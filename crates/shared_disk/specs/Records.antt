@@ -1,7 +1,7 @@
 -- The records of a disk, one for each sector, by the sector's index in a table of them all.
-use Rattle.std.specs.Prelude.{◌≡◌, ℕ, IsTrue, ◌*◌, if◌then◌else◌, List, [], ◌∷◌, All, length, replicate, slice_get, slice_set, Option, Some, None, is_some, IsSome, Result, Ok, Err}
+use Rattle.std.specs.Prelude.{◌≡◌, ℕ, IsTrue, ◌*◌, if◌then◌else◌, List, [], All, length, replicate, slice_get, slice_set, Option, Some, None, is_some, IsSome, Result, Ok, Err}
 use Rattle.std.specs.Option.{option_and_then, option_map_or}
-use Rattle.disk_dcdd.specs.Address.{address_of, has_sector, index_of, same_address}
+use Rattle.disk_dcdd.specs.Address.{address_of, has_sector, index_of, bytes_with_all}
 use Rattle.disk_dcdd.specs.declared.address.SectorAddress.{SectorAddress}
 use Rattle.disk_dcdd.specs.declared.address.TheConstants.{DRIVE_SECTORS}
 use Rattle.disk_dcdd.specs.declared.sector.SectorWrite.{SectorWrite}
@@ -21,6 +21,10 @@ IsThere records address = IsSome (record_at records address)
 -- this is the record of a sector
 abbrev pub IsAt : List Record → SectorAddress → Record → Type 0
 IsAt records address found = record_at records address ≡ Some found
+
+-- the bytes of each sector of a disk
+abbrev pub bytes_in : List Record → SectorAddress → List ℕ
+bytes_in records address = option_map_or (λ (r : Record). r.bytes) (record_at records address) []
 
 -- the records with another one in a sector; a sector that does not exist takes none
 abbrev pub with_record : List Record → SectorAddress → Record → List Record
@@ -64,17 +68,11 @@ abbrev pub HasWholeSectors : List Record → Type 0
 HasWholeSectors records =
     (address : SectorAddress) (r : Record) → IsAt records address r → length r.bytes ≡ SECTOR_BYTES
 
--- what a sector has after these are put on a disk, one after another, if it had these bytes before
-abbrev pub bytes_after : List SectorWrite → SectorAddress → List ℕ → List ℕ
-bytes_after [] address bytes = bytes
-bytes_after (sector ∷ sectors) address bytes =
-    bytes_after sectors address (if same_address (address_of sector) address then sector.bytes else bytes)
-
 -- each sector of this many drives has the bytes of the last of these that goes there, or zeros if none does; no write has
 -- arrived at it, and no other sector exists
 abbrev pub IsAtBoot : List Record → ℕ → List SectorWrite → Type 0
 IsAtBoot records drives sectors = (address : SectorAddress) → record_at records address
-    ≡ (if has_sector drives address then Some (boot_record (bytes_after sectors address (replicate SECTOR_BYTES 0)))
+    ≡ (if has_sector drives address then Some (boot_record (bytes_with_all sectors address (replicate SECTOR_BYTES 0)))
     else None)
 
 -- each of these goes to a sector of this many drives

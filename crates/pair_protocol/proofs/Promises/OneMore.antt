@@ -1,7 +1,8 @@
 -- One more of what a world has. One more arrival is accepted exactly if its number is the next one, and one more write
 -- replaces the record of its sector if its number is greater.
-use Rattle.std.proofs.Common.{[], ◌++◌, ◌+◌, ◌<◌, ◌∙◌, ◌∷◌, ◌≡◌, Bool, List, ap, arith, cond, false, inl, inr, length, length-append, ltb-false, ltb-true, refl, suc, true, zero, ℕ}
+use Rattle.std.proofs.Common.{[], ◌++◌, ◌+◌, ◌<◌, ◌∙◌, ◌∷◌, ◌≡◌, Bool, List, ap, arith, cond, false, inl, inr, length, length-append, ltb-true, refl, suc, true, zero, ℕ}
 use Rattle.std.specs.Prelude.{◌==◌, nat_lt, slice_set}
+use Rattle.std.proofs.lemmas.Bool.{lt-ltb}
 use Rattle.pair_protocol.proofs.Words.{Arrival, Machine, SectorAddress, SectorRecord, SectorWrite, Terminal, accepted_after, latest, record_after, sector_record, terminal_in}
 use Rattle.pair_protocol.proofs.Traces.Lists.{bool_cases}
 
@@ -57,9 +58,6 @@ arrival-counts xs a =
     ap (λ zs. nat_lt (length (accepted_after 0 xs)) (length zs)) (accepted-one xs a)
     ∙ go (a.number == length (accepted_after 0 xs) + 1)
   where
-    less : (m n : ℕ) → m < n → nat_lt m n ≡ true
-    less m n h = elim (bool_cases (nat_lt m n)) [ inl t ↦ t | inr f ↦ absurd (let k = ltb-false m n f in omega arith) ]
-
     not_less : (m n : ℕ) → m ≡ n → nat_lt m n ≡ false
     not_less m n h = elim (bool_cases (nat_lt m n)) [
       | inl t ↦ absurd (let k = ltb-true m n t in omega arith)
@@ -68,7 +66,7 @@ arrival-counts xs a =
 
     go : (t : Bool) →
         nat_lt (length (accepted_after 0 xs)) (length (accepted_after 0 xs ++ cond t (a.byte ∷ []) [])) ≡ t
-    go true = let e = length-append (accepted_after 0 xs) (a.byte ∷ []) in less _ _ (omega arith)
+    go true = let e = length-append (accepted_after 0 xs) (a.byte ∷ []) in lt-ltb _ _ (omega arith)
     go false = let e = length-append (accepted_after 0 xs) [] in not_less _ _ (omega arith)
 
 -- A write.

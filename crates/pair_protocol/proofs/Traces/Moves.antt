@@ -1,6 +1,6 @@
 -- Moves joined end to end: their counts, inputs, entries, operations and runs.
-use Rattle.std.proofs.Common.{[], ◌++◌, ◌+◌, ◌∙◌, ◌∷◌, ◌≡◌, ◌≤◌, List, None, Option, Some, ap, append-nil, append_assoc, arith, map, refl, subst, suc, sym, ℕ}
-use Rattle.pair_protocol.proofs.Words.{Do, Entry, Input, IsPrefix, Lawful, Machine, Move, Operation, Owns, Runs, SectorWrite, Take, Timed, acceptances, accepted_at, bare, byte_to, entries, entry_of, inputs, inputs_of, key_at, keys, operations, output, steps, timed, timed_in, timed_of, Reads}
+use Rattle.std.proofs.Common.{[], ◌++◌, ◌+◌, ◌∙◌, ◌∷◌, ◌≡◌, ◌≤◌, List, None, Option, Some, ap, append-nil, append_assoc, arith, inl, inr, map, refl, subst, suc, sym, ℕ}
+use Rattle.pair_protocol.proofs.Words.{Do, Entry, Input, IsPrefix, Lawful, Machine, Move, Operation, Owns, Runs, SectorWrite, Take, Timed, acceptances, accepted_at, bare, byte_to, entries, entry_of, inputs, inputs_of, key_at, keys, operations, output, steps, timed, timed_in, timed_of, Reads, Among, Byte, Write, writes, count_of, last_count}
 pub use Rattle.guest_lockstep.proofs.Moves.{inputs-append, runs-append, steps-append}
 use Rattle.guest_lockstep.specs.declared.input.Input.TheVariants as input
 pub use Rattle.log_entry.proofs.TraceEntries.{count_entry, entries-append, input_entry, unmarked}
@@ -14,6 +14,16 @@ operations-append [] ys = refl
 operations-append (Do None ∷ xs) ys = operations-append xs ys
 operations-append (Do (Some o) ∷ xs) ys = ap (λ os. o ∷ os) (operations-append xs ys)
 operations-append (Take i ∷ xs) ys = operations-append xs ys
+
+-- a write that was given is among the writes
+pub writes-given : (w : SectorWrite) (moves : List Move) → Among (Write w) (operations moves) → Among w (writes moves)
+writes-given w [] at = absurd at
+writes-given w (Do None ∷ moves) at = writes-given w moves at
+writes-given w (Do (Some (Byte port number byte)) ∷ moves) (inl e) = (cc)
+writes-given w (Do (Some (Byte port number byte)) ∷ moves) (inr at) = writes-given w moves at
+writes-given w (Do (Some (Write v)) ∷ moves) (inl e) = inl (cc)
+writes-given w (Do (Some (Write v)) ∷ moves) (inr at) = inr (writes-given w moves at)
+writes-given w (Take i ∷ moves) at = writes-given w moves at
 
 pub output-append : (p : ℕ) (xs ys : List Move) → output p (xs ++ ys) ≡ output p xs ++ output p ys
 output-append p [] ys = refl
@@ -58,6 +68,10 @@ pub inputs_of-append : (xs ys : List Entry) → inputs_of (xs ++ ys) ≡ inputs_
 inputs_of-append [] ys = refl
 inputs_of-append (e ∷ xs) ys = ap (λ os. timed_in (timed_of e) ++ os) (inputs_of-append xs ys)
     ∙ sym (append_assoc (timed_in (timed_of e)) (inputs_of xs) (inputs_of ys))
+
+pub last_count-append : (c : ℕ) (es : List Entry) (e : Entry) → last_count c (es ++ e ∷ []) ≡ count_of e
+last_count-append c [] e = refl
+last_count-append c (k ∷ es) e = last_count-append (count_of k) es e
 
 -- the timed input in the entry of an input
 pub timed_entry : (reads : Reads) (c : ℕ) (i : Input) → timed_in (timed_of (entry_of reads c i)) ≡ timed c i ∷ []

@@ -11,7 +11,8 @@ ghost use Rattle.guest_lockstep.specs.declared.input.Input.TheVariants as input;
 ghost use Rattle.pair_rule.specs.declared.payload.DiskAnswer.TheVariants.{Read, Written};
 ghost use Rattle.log_entry.specs.Entries.{entry_of};
 ghost use Rattle.guest_lockstep.specs.declared.reads.Reads.TheVariants.{Logged};
-ghost use Rattle.pair_rule.specs.Knowledge.{read_at, sector_entry};
+ghost use Rattle.shared_disk.specs.Arrivals.{read_address};
+ghost use Rattle.pair_rule.specs.Knowledge.{sector_entry};
 ghost use Rattle.pair_threads.specs.Choosing.{byte_at};
 ghost use Rattle.pair_threads.specs.Leading.{HeardOn, LeadsOn, TakesOn};
 ghost use Rattle.pair_threads.specs.Patience.{guest_is_held_up};
@@ -200,7 +201,7 @@ impl<B: Lockstep> Recording<B> {
 
 // Whether a sector was read at this address.
 fn is_at(read: &SectorRead, address: SectorAddress) -> bool
-    ensures { result ≡ true ↔ address ≡ read_at read.now }
+    ensures { result ≡ true ↔ address ≡ read_address read.now }
 {
     address.drive == read.drive && address.track == read.track && address.sector == read.sector
 }

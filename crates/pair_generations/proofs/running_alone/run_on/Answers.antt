@@ -1,6 +1,6 @@
 -- What was settled is settled again after its guest has run alone.
 use Rattle.pair_generations.proofs.Alone.{over_alone}
-use Rattle.pair_threads.specs.Stores.{bytes_in}
+use Rattle.shared_disk.specs.Records.{bytes_in}
 use Rattle.pair_generations.proofs.running_alone.run_on.Goals as goal
 
 pub returns-clause-settled : goal.returns-clause-settled

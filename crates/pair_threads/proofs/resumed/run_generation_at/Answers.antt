@@ -1,14 +1,15 @@
 -- The workers' ends are those of the machine that booted first.
 use Rattle.std.proofs.Common.{ap, sym, subst, ◌∙◌, Vec, Global, ℕ, refl, inl, inr, false, [], ◌∷◌}
 use Rattle.std.proofs.lemmas.Bool.{false≢true}
+use Rattle.std.proofs.lemmas.Result.{on_ok_weaker}
 use Rattle.pair_rule.specs.Seats.{Seat}
 use Rattle.pair_rule.specs.declared.view.Core.{Core}
 use Rattle.pair_threads.specs.declared.plan.Plan.{Plan}
 use Rattle.pair_threads.specs.Repeating.{Repeats}
-use Rattle.pair_threads.specs.Stores.{IsStore, bytes_in}
+use Rattle.shared_disk.specs.Records.{bytes_in}
+use Rattle.pair_threads.specs.Stores.{IsStore}
 use Rattle.pair_threads.specs.Asking.{asking_of}
 use Rattle.pair_threads.specs.Typing.{IsTyped, typed_with}
-use Rattle.pair_threads.proofs.Ending.{on_ok}
 use Rattle.pair_threads.proofs.Repeating.{loosely}
 use Rattle.pair_threads.proofs.Showing.{shows_began}
 use Rattle.pair_threads.proofs.Typing.{typed_began, typed_same}
@@ -36,14 +37,14 @@ work-served-requires-clause-primary g c κs within =
 pub finish-requires-clause-primary : goal.finish-requires-clause-primary
 finish-requires-clause-primary g c = let served = c.work-served in (
   served.ensures.primary.0,
-  on_ok served.result.primary.1
+  on_ok_weaker served.result.primary.1
       (λ end quiet. end.1 (ap (λ (p : Plan). p.contested) (end.0.0 ∙ c.resume.ensures.plan.0) ∙ refl
       ∙ quiet)) served.ensures.primary.1,
 )
 
 pub finish-requires-clause-primary_asked : goal.finish-requires-clause-primary_asked
 finish-requires-clause-primary_asked g c = let served = c.work-served in
-    on_ok served.result.primary.1 (λ end. (
+    on_ok_weaker served.result.primary.1 (λ end. (
       ap (λ (p : Plan). p.contested) (end.0.0 ∙ c.resume.ensures.plan.0),
       ap (λ (p : Plan). p.watched) (end.0.0 ∙ c.resume.ensures.plan.0) ∙ c.plans_of.ensures.primary.1,
       end.0.3,
@@ -52,7 +53,7 @@ finish-requires-clause-primary_asked g c = let served = c.work-served in
 pub finish-requires-clause-backup : goal.finish-requires-clause-backup
 finish-requires-clause-backup g c = let served = c.work-served in (
   served.ensures.backup.0,
-  on_ok served.result.backup.1
+  on_ok_weaker served.result.backup.1
       (λ end either. end.1 (elim either [
         | inl quiet ↦ inl (ap (λ (p : Plan). p.contested) (end.0.0 ∙ c.resume-2.ensures.plan.0)
             ∙ c.plans_of.ensures.contested ∙ quiet)
@@ -62,7 +63,7 @@ finish-requires-clause-backup g c = let served = c.work-served in (
 
 pub finish-requires-clause-backup_asked : goal.finish-requires-clause-backup_asked
 finish-requires-clause-backup_asked g c = let served = c.work-served in
-    on_ok served.result.backup.1 (λ end. (
+    on_ok_weaker served.result.backup.1 (λ end. (
       ap (λ (p : Plan). p.contested) (end.0.0 ∙ c.resume-2.ensures.plan.0) ∙ c.plans_of.ensures.contested,
       ap (λ (p : Plan). p.watched) (end.0.0 ∙ c.resume-2.ensures.plan.0) ∙ c.plans_of.ensures.backup.1,
       end.0.1,
@@ -73,9 +74,9 @@ returns-clause-decided g c =
     let served = c.work-served in
     let workers = c.args.resumed.workers in
     c.finish.ensures.decided (asking_of workers.primary_contests c.args.watched) (asking_of workers.backup_contests c.args.watched)
-    (on_ok served.result.primary.1 (λ end. ap (λ (p : Plan). p.asking) (end.0.0 ∙ c.resume.ensures.plan.0)
+    (on_ok_weaker served.result.primary.1 (λ end. ap (λ (p : Plan). p.asking) (end.0.0 ∙ c.resume.ensures.plan.0)
     ∙ c.plans_of.ensures.primary.0) served.ensures.primary.1)
-    (on_ok served.result.backup.1 (λ end. ap (λ (p : Plan). p.asking) (end.0.0 ∙ c.resume-2.ensures.plan.0)
+    (on_ok_weaker served.result.backup.1 (λ end. ap (λ (p : Plan). p.asking) (end.0.0 ∙ c.resume-2.ensures.plan.0)
     ∙ c.plans_of.ensures.backup.0) served.ensures.backup.1)
 
 pub returns-clause-ends : goal.returns-clause-ends
@@ -104,10 +105,10 @@ returns-clause-ends g c = λ boot first exact lawful begins.
     (subst (λ (x : Core). IsStore (bytes_in first) (records workers.disk) x.known.disk)
     (sym (ap (λ (x : Seat). x.core) made.seat ∙ opened.disk)) begins.store) in
     c.finish.ensures.ends boot first false lawful
-    (on_ok served.result.primary.1 (λ end. end.0.4 boot (c.resume.ensures.leads boot leads says)) served.ensures.primary.1)
-    (on_ok served.result.backup.1 (λ end. end.0.2 false boot (c.resume-2.ensures.at false boot repeats)) served.ensures.backup.1)
-    (on_ok served.result.backup.1 (λ end stands. absurd (false≢true stands)) served.ensures.backup.1)
-    (on_ok served.result.disk.1 (λ end. end.0 (bytes_in first) store) served.ensures.disk.1)
+    (on_ok_weaker served.result.primary.1 (λ end. end.0.4 boot (c.resume.ensures.leads boot leads says)) served.ensures.primary.1)
+    (on_ok_weaker served.result.backup.1 (λ end. end.0.2 false boot (c.resume-2.ensures.at false boot repeats)) served.ensures.backup.1)
+    (on_ok_weaker served.result.backup.1 (λ end stands. absurd (false≢true stands)) served.ensures.backup.1)
+    (on_ok_weaker served.result.disk.1 (λ end. end.0 (bytes_in first) store) served.ensures.disk.1)
 
 pub returns-clause-left : goal.returns-clause-left
 returns-clause-left g c = λ boot first exact lawful begins.
@@ -134,9 +135,9 @@ returns-clause-left g c = λ boot first exact lawful begins.
     (subst (λ (x : Core). IsStore (bytes_in first) (records workers.disk) x.known.disk)
     (sym (ap (λ (x : Seat). x.core) made.seat ∙ opened.disk)) begins.store) in
     c.finish.ensures.left boot first exact lawful
-    (on_ok served.result.primary.1 (λ end. end.0.4 boot (c.resume.ensures.leads boot leads says)) served.ensures.primary.1)
-    (on_ok served.result.backup.1 (λ end. end.0.2 exact boot (c.resume-2.ensures.at exact boot repeats)) served.ensures.backup.1)
-    (on_ok served.result.disk.1 (λ end. end.0 (bytes_in first) store) served.ensures.disk.1)
+    (on_ok_weaker served.result.primary.1 (λ end. end.0.4 boot (c.resume.ensures.leads boot leads says)) served.ensures.primary.1)
+    (on_ok_weaker served.result.backup.1 (λ end. end.0.2 exact boot (c.resume-2.ensures.at exact boot repeats)) served.ensures.backup.1)
+    (on_ok_weaker served.result.disk.1 (λ end. end.0 (bytes_in first) store) served.ensures.disk.1)
 
 pub returns-clause-over : goal.returns-clause-over
 returns-clause-over g c =
@@ -147,13 +148,13 @@ returns-clause-over g c =
     let second = typed_began resumed.workers.typed1 lines.keyboard1 c.after-2.result c.after-2.ensures.0 c.after-2.ensures.3 in
     c.finish.ensures.over resumed.workers.typed0.items resumed.workers.typed1.items lines
     (resumed.accepted.0.items ∷ resumed.accepted.1.items ∷ [])
-    (on_ok served.result.primary.1 (λ end. (
+    (on_ok_weaker served.result.primary.1 (λ end. (
       first (typed_with served.result.primary.0.port0)
           (subst (λ p. IsTyped (typed_with p) (typed_with served.result.primary.0.port0)) c.resume.ensures.plan.1 end.0.1),
       second (typed_with served.result.primary.0.port1)
           (subst (λ p. IsTyped (typed_with p) (typed_with served.result.primary.0.port1)) c.resume.ensures.plan.2 end.0.2),
     )) served.ensures.primary.1)
-    (on_ok served.result.terminal.1 (λ end. shows_began lines.screen resumed.accepted.0.items resumed.accepted.1.items
+    (on_ok_weaker served.result.terminal.1 (λ end. shows_began lines.screen resumed.accepted.0.items resumed.accepted.1.items
     c.resume-3.result served.result.terminal.0 c.resume-3.ensures.seat.1
     (ap (λ (v : Vec ℕ Global). v.items) c.resume-3.ensures.accepted.0)
     (ap (λ (v : Vec ℕ Global). v.items) c.resume-3.ensures.accepted.1) end.0) served.ensures.terminal.1)
@@ -190,16 +191,16 @@ returns-clause-ran g c = λ boot first exact lawful begins.
     (subst (λ (x : Core). IsStore (bytes_in first) (records workers.disk) x.known.disk)
     (sym (ap (λ (x : Seat). x.core) made.seat ∙ opened.disk)) begins.store) in
     c.finish.ensures.ran boot first exact lawful
-    (on_ok served.result.primary.1 (λ end. end.0.4 boot leads) served.ensures.primary.1)
-    (on_ok served.result.primary.1 (λ end. end.0.5 boot leads kept) served.ensures.primary.1)
-    (on_ok served.result.backup.1 (λ end. end.0.2 exact boot (c.resume-2.ensures.at exact boot repeats)) served.ensures.backup.1)
-    (on_ok served.result.disk.1 (λ end. end.0 (bytes_in first) store) served.ensures.disk.1)
+    (on_ok_weaker served.result.primary.1 (λ end. end.0.4 boot leads) served.ensures.primary.1)
+    (on_ok_weaker served.result.primary.1 (λ end. end.0.5 boot leads kept) served.ensures.primary.1)
+    (on_ok_weaker served.result.backup.1 (λ end. end.0.2 exact boot (c.resume-2.ensures.at exact boot repeats)) served.ensures.backup.1)
+    (on_ok_weaker served.result.disk.1 (λ end. end.0 (bytes_in first) store) served.ensures.disk.1)
 
 pub returns-clause-kept : goal.returns-clause-kept
 returns-clause-kept g c =
     let served = c.work-served in
     c.finish.ensures.kept false
-    (on_ok served.result.primary.1 (λ end. ap (λ (p : Plan). p.keeps) (end.0.0 ∙ c.resume.ensures.plan.0)
+    (on_ok_weaker served.result.primary.1 (λ end. ap (λ (p : Plan). p.keeps) (end.0.0 ∙ c.resume.ensures.plan.0)
     ∙ c.plans_of.ensures.keeps.0) served.ensures.primary.1)
-    (on_ok served.result.backup.1 (λ end. ap (λ (p : Plan). p.keeps) (end.0.0 ∙ c.resume-2.ensures.plan.0)
+    (on_ok_weaker served.result.backup.1 (λ end. ap (λ (p : Plan). p.keeps) (end.0.0 ∙ c.resume-2.ensures.plan.0)
     ∙ c.plans_of.ensures.keeps.1) served.ensures.backup.1)

@@ -10,7 +10,7 @@ use Rattle.pair_lines.specs.declared.screen.Screen.{Screen}
 use Rattle.pair_threads.specs.Ending.{EachScreen}
 use Rattle.pair_threads.specs.Left.{LeavesBy}
 use Rattle.pair_threads.specs.Shown.{IsOfRun}
-use Rattle.pair_threads.specs.Stores.{bytes_in}
+use Rattle.shared_disk.specs.Records.{bytes_in}
 use Rattle.pair_threads.specs.Typing.{IsTyped}
 use Rattle.pair_threads.proofs.Ending.{all_came, ends, ends_so, left, settled_so}
 use Rattle.pair_threads.proofs.Repeating.{loosely}

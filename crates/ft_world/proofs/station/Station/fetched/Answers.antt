@@ -1,5 +1,5 @@
 -- The bytes change nothing by which the node settles.
-use Rattle.ft_world.specs.Words.{read_address}
+use Rattle.shared_disk.specs.Arrivals.{read_address}
 use Rattle.ft_world.proofs.Stations.{fetches_on}
 use Rattle.ft_world.proofs.station.Station.fetched.Goals as goal
 

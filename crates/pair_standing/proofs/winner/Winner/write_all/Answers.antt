@@ -1,6 +1,6 @@
 -- One write after another.
 use Rattle.std.proofs.Common.{arith, ◌∙◌}
-use Rattle.pair_threads.proofs.Ending.{on_ok}
+use Rattle.std.proofs.lemmas.Result.{on_ok_weaker}
 use Rattle.pair_standing.proofs.Going.{and_then, both_ok, gone_below}
 use Rattle.pair_standing.proofs.winner.Winner.write_all.Goals as goal
 
@@ -17,7 +17,7 @@ loop-number-preserved g c =
 
 pub returns-clause-goes_on : goal.returns-clause-goes_on
 returns-clause-goes_on g c =
-    on_ok c.write-2.result (λ goes. and_then g.B.Lockstep.machine _ _ _ c.loop-number.invariant.0 goes)
+    on_ok_weaker c.write-2.result (λ goes. and_then g.B.Lockstep.machine _ _ _ c.loop-number.invariant.0 goes)
     c.write-2.ensures.goes_on
 
 pub returns-clause-gone : goal.returns-clause-gone

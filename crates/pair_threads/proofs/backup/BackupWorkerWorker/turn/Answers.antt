@@ -1,6 +1,6 @@
 -- The worker has come from the first one by way of the one before this turn.
 use Rattle.std.proofs.Common.{inl}
-use Rattle.pair_threads.proofs.Ending.{on_ok}
+use Rattle.std.proofs.lemmas.Result.{on_ok_weaker}
 use Rattle.pair_threads.proofs.Repeating.{asks_now, comes_on, goes_same, still_asked}
 use Rattle.pair_threads.proofs.backup.BackupWorkerWorker.turn.Goals as goal
 
@@ -11,7 +11,7 @@ returns-then-self-clause-came g c = λ first came.
     let state = g.B.Lockstep.state in
     let M = g.B.Lockstep.machine in
     let same = c.drain.ensures.same.0 in
-    on_ok c.drain.result (λ goes. comes_on state M first old new same came
+    on_ok_weaker c.drain.result (λ goes. comes_on state M first old new same came
     (still_asked state M first old new same came c.drain.ensures.seat) goes) c.drain.ensures.goes_on
 
 pub returns-then-asks_at-clause-came : goal.returns-then-asks_at-clause-came
@@ -32,5 +32,5 @@ returns-clause-came g c = λ first came.
     let state = g.B.Lockstep.state in
     let M = g.B.Lockstep.machine in
     let same = c.follow.ensures.same.0 in
-    on_ok c.follow.result (λ goes. comes_on state M first old new same came (inl c.follow.ensures.before) goes)
+    on_ok_weaker c.follow.result (λ goes. comes_on state M first old new same came (inl c.follow.ensures.before) goes)
     c.follow.ensures.goes_on

@@ -2,7 +2,8 @@
 use Rattle.std.proofs.Common.{◌+◌, List, drop, sym, ap, ◌∙◌}
 use Rattle.std.proofs.lemmas.List.{at_drop_more, at_drop_all}
 use Rattle.disk_dcdd.specs.declared.sector.SectorWrite.{SectorWrite}
-use Rattle.plain_single.specs.Image.{bytes_with_all, sector_at}
+use Rattle.disk_dcdd.specs.Address.{bytes_with_all}
+use Rattle.plain_single.specs.Image.{sector_at}
 use Rattle.plain_single.proofs.image.DiskImage.new.Goals as goal
 
 pub loop-write-init : goal.loop-write-init

@@ -1,7 +1,7 @@
 -- A board that has booted is the machine of its setup.
 use Rattle.std.proofs.Common.{rules, ◌≡◌}
 use Rattle.guest_board.specs.Guest.{guest_at_boot}
-use Rattle.pair_threads.specs.Stores.{bytes_in}
+use Rattle.shared_disk.specs.Records.{bytes_in}
 use Rattle.thread_tests.proofs.generations.pairs.run_with.Goals as goal
 
 pub run_generation_over-requires-clause-lawful : goal.run_generation_over-requires-clause-lawful

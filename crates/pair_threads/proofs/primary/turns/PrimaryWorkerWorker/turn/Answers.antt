@@ -1,9 +1,9 @@
 -- A turn of a primary's worker: it leads as before, or asks who goes on alone.
 use Rattle.std.proofs.Common.{ap, inr, sym, subst, ◌∙◌}
 use Rattle.std.proofs.lemmas.Bool.{false≢true}
+use Rattle.std.proofs.lemmas.Result.{IfOk-weaker, on_ok_weaker}
 use Rattle.pair_rule.specs.declared.view.Core.{Core}
 use Rattle.pair_threads.specs.Primary.{DoesNext}
-use Rattle.pair_threads.proofs.Ending.{if_ok, on_ok}
 use Rattle.pair_threads.proofs.Typing.{listened_same}
 use Rattle.pair_threads.proofs.Views.{came_heard, came_on, keeps_alone, leads_alone}
 use Rattle.pair_threads.proofs.Asking.{asks_so}
@@ -11,7 +11,7 @@ use Rattle.pair_threads.proofs.primary.turns.PrimaryWorkerWorker.turn.Goals as g
 
 pub returns-in-Some-clause-came : goal.returns-in-Some-clause-came
 returns-in-Some-clause-came g c = λ first came.
-    on_ok c.append.result (came_on g.B.Lockstep.state g.B.Lockstep.machine first c.args.self.now c.append.new.self came)
+    on_ok_weaker c.append.result (came_on g.B.Lockstep.state g.B.Lockstep.machine first c.args.self.now c.append.new.self came)
     c.append.ensures.works
 
 pub returns-in-None-clause-came : goal.returns-in-None-clause-came
@@ -19,7 +19,7 @@ returns-in-None-clause-came g c = λ first came.
     let state = g.B.Lockstep.state in
     let M = g.B.Lockstep.machine in
     let new = c.listen_and_work.new.self in
-    on_ok c.listen_and_work.result
+    on_ok_weaker c.listen_and_work.result
     (λ done. came_on state M first done.0 new (came_heard state M c.args.self.now done.0 done.1 first came) done.2)
     c.listen_and_work.ensures.works
 
@@ -44,7 +44,7 @@ returns-in-None-clause-turned g c =
     let M = g.B.Lockstep.machine in
     let old = c.args.self.now in
     let new = c.listen_and_work.new.self in
-    if_ok c.listen_and_work.result
+    IfOk-weaker c.listen_and_work.result _ _
     (λ turn done. inr (
       λ asks. false≢true (sym c.if-asks_at.false ∙ c.asks_at.ensures.1 asks),
       (
@@ -61,7 +61,7 @@ returns-in-Some-clause-turned g c =
     let M = g.B.Lockstep.machine in
     let old = c.args.self.now in
     let new = c.append.new.self in
-    if_ok c.append.result
+    IfOk-weaker c.append.result _ _
     (λ turn done. inr (
       λ asks. false≢true (sym c.if-asks_at.false ∙ c.asks_at.ensures.1 asks),
       (
