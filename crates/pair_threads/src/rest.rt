@@ -26,10 +26,10 @@ pub enum Rest {
 
 impl Rest {
     /// What a worker does that has found nothing for this many microseconds, and has slept this often since; `busy` says
-    /// that a yield took long a short while ago. A sleep takes some 55 microseconds more than it should, and a guest that is
-    /// held up would wait for that at each hop of a key or a byte. Yields keep a processor busy, which a guest that computes
-    /// may need. Beside other work a yield gives the worker's whole share of the processor away, and takes milliseconds; who
-    /// sleeps keeps its share, and has the processor soon after it wakes.
+    /// that a yield took long a short while ago. A sleep takes some 55 microseconds more than it should, or 15 if Linux was
+    /// asked for precise sleeps, and a guest that is held up would wait for that at each hop of a key or a byte. Yields keep
+    /// a processor busy, which a guest that computes may need. Beside other work a yield gives the worker's whole share of
+    /// the processor away, and takes milliseconds; who sleeps keeps its share, and has the processor soon after it wakes.
     pub fn after(micros: u128, sleeps: u32, held_up: bool, busy: bool) -> Rest
         ensures { result ≡ rest_after micros sleeps held_up busy }
     {
