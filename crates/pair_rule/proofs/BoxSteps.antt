@@ -134,7 +134,7 @@ module _ (g : ℕ) (s : Table) (r : Rule g s) (id : ℕ) (v : SeatView) (at : ge
               (with_core v (emptied b q word v.core), (slot_of word, Some q) ∷ []) (is_full word)) same
               (subst (Emptied b (v, (hand, x) ∷ []) word (with_core v (emptied b q word v.core), (slot_of word, Some q) ∷ []))
               (sym said)
-              (q, (core.known, record { stands = f.stands; generation = o.generation; same = o.known }, fit), refl, met, refl)),
+              (q, (core.known, record { stands = f.stands; ran = f.ran; generation = o.generation; same = o.known }, fit), refl, met, refl)),
         ))
     empty_goes x asks mine hands has_slot is false said box =
         let f = r.facts in let o = own (emptier b) mine in let sides : side_at v.core.empties (box_index b) ≡ side_at core.empties

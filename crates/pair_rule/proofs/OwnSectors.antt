@@ -2,7 +2,7 @@
 -- by a write of that machine, and it has the number of the last completed write.
 use Rattle.std.proofs.Common.{◌≡◌, ℕ, zero, suc, ◌+◌, List, [], ◌∷◌, ◌++◌, sym, refl, ap, ◌∙◌, subst, inl, inr, ◌⊎◌, Some, None}
 use Rattle.std.proofs.lemmas.List.{same_from_push}
-use Rattle.pair_rule.proofs.Words.{Among, Appends, Arrives, Copying, CountsNone, Do, Entry, Goes, HasLonger, HasRun, Input, IsReplied, IsShown, IsTold, Knowledge, Logged, Machine, Move, Opens, Own, Owns, Recorded, Runnable, Runs, SectorAddress, SectorRead, SectorWrite, SeesCount, Shows, SilentStep, Stands, Take, ThreadRun, ThreadStep, World, Write, among-prefix, entries, entries-append, entry_of, last_count-append, operations, operations-prefix, owns-append, prefix-refl, read_address, recorded-append, recorded-runs, refusal_of, sector-passed, steps}
+use Rattle.pair_rule.proofs.Words.{Among, Appends, Arrives, Copying, CountsNone, Do, Entry, Event, Goes, HasEvents, HasLonger, HasNoEvents, HasRun, Input, IsReplied, IsShown, IsTold, Knowledge, Logged, Machine, Move, Opens, Own, Owns, Recorded, Runnable, Runs, SectorAddress, SectorRead, SectorWrite, SeesCount, Shows, SilentStep, Stands, TableEvents, Take, ThreadRun, ThreadStep, World, Write, among-prefix, entries, entries-append, entry_of, last_count-append, operations, operations-prefix, owns-append, prefix-refl, read_address, recorded-append, recorded-runs, refusal_of, sector-passed, steps}
 use Rattle.guest_lockstep.specs.declared.input.Input.TheVariants as input
 use Rattle.pair_protocol.proofs.Invariant.{AtStart, IsRecord, OfWrite}
 use Rattle.pair_protocol.proofs.Keeps.Reads.{right_bytes}
@@ -116,9 +116,10 @@ module _ {S : Type 0} (M : Machine S) (may : Runnable M) (typed0 typed1 : List �
   silent_owns new (SeesCount zero n more) = owned
   silent_owns new _ = owned
 
-  pub step_owns : (new : Knowledge) → ThreadStep M typed0 typed1 k new ⊎ SilentStep M k new → OwnsAll M new.primary.list
-  step_owns new (inl t) = thread_owns new t
-  step_owns new (inr q) = silent_owns new q
+  pub step_owns : (new : Knowledge) (Row : List Event → Type 0)
+      → HasEvents M typed0 typed1 k new Row ⊎ HasNoEvents M k new Row → OwnsAll M new.primary.list
+  step_owns new Row (inl t) = thread_owns new t.step
+  step_owns new Row (inr q) = silent_owns new q.step
 
 -- so it is after any steps of the threads
 pub run_owns : {S : Type 0} (M : Machine S) (C : Copying S) → Runnable M → (typed0 typed1 : List ℕ)
@@ -128,4 +129,4 @@ run_owns M C may typed0 typed1 shown k (Opens generation) = λ run. owns_quiet M
 run_owns M C may typed0 typed1 shown new (Goes {k = k} run step) =
     let s = shown k run in
     step_owns M may typed0 typed1 k s.world s.shows s.stands (run_owns M C may typed0 typed1 shown k run) new
-    (table_steps M typed0 typed1 k new s.stands step).step
+    (TableEvents step) (table_steps M typed0 typed1 k new s.stands step).step

@@ -2,7 +2,7 @@
 use Rattle.std.proofs.Common.{append_assoc, ◌∙◌, ◌≤◌, arith, ◌≡◌, ℕ, zero, suc, ◌≤◌, true, List, [], ◌∷◌, ◌++◌, sym, ap, ◌∙◌, ⊎_elim, arith, subst, Option, Some, slice_get}
 use mathlib.Core.Option.{some, some-injective, some-ne-none}
 use lib.ListN.{get_elem?}
-use Rattle.pair_rule.proofs.Words.{Acknowledgement, Among, Copying, Do, Entry, IsAcknowledged, IsSentBy, Knowledge, LogEntry, Machine, Message, Move, NamedSector, Node, Operation, Released, Sent, Shows, Visible, World, WriteDone, among-left, backup_node, backup_role, backup_runs, get-longer, primary_node, primary_role, primary_runs, visible}
+use Rattle.pair_rule.proofs.Words.{Acknowledgement, Among, Copying, Do, Entry, ImagePart, IsAcknowledged, IsSentBy, Knowledge, LogEntry, Machine, Message, Move, NamedSector, Node, Operation, Released, Sent, Shows, Visible, World, WriteDone, among-left, backup_node, backup_role, backup_runs, get-longer, primary_node, primary_role, primary_runs, visible}
 use Rattle.pair_protocol.specs.Node.{Primary, Backup}
 pub use Rattle.pair_rule.proofs.Elements.{among_either}
 
@@ -37,12 +37,14 @@ pub only_longer : (list : List Entry) (helds : List ℕ) (e : Entry) (m : Messag
     → IsSentBy (list ++ e ∷ []) helds m
 only_longer list helds e (LogEntry generation i x) is = (is.0, get-longer list (e ∷ []) i x is.1)
 only_longer list helds e (Acknowledgement generation held replayed) is = is
+only_longer list helds e (ImagePart generation i part) is = is
 only_longer list helds e _ is = tt
 
 pub only_held : (list : List Entry) (helds : List ℕ) (n : ℕ) (m : Message) → IsSentBy list helds m
     → IsSentBy list (helds ++ n ∷ []) m
 only_held list helds n (LogEntry generation i x) is = is
 only_held list helds n (Acknowledgement generation held replayed) is = (is.0, is.1, among-left held helds (n ∷ []) is.2)
+only_held list helds n (ImagePart generation i part) is = is
 only_held list helds n _ is = tt
 
 -- what is acknowledged stays so, where more is seen and more moves are made

@@ -1,8 +1,8 @@
 -- Each kind of step of the table is events of the world, or none; and what held still holds.
-use Rattle.std.proofs.Common.{◌≡◌, ℕ, zero, suc, ◌<◌, ◌≤◌, List, sym, refl, ap, ◌∙◌, subst, inl, inr, ◌⊎◌, arith, Option, Some, None}
+use Rattle.std.proofs.Common.{◌≡◌, ℕ, zero, suc, ◌<◌, ◌≤◌, List, [], ◌∷◌, sym, refl, ap, ◌∙◌, subst, inl, inr, ◌⊎◌, arith, Option, Some, None}
 use mathlib.Core.Option.{some}
 use lib.ListN.{get_elem?}
-use Rattle.pair_rule.proofs.Words.{Among, Answer, Answers, AnswersLookup, AnswersRead, AsksRead, BackupAsks, Byte, Bytes0, Bytes1, CanFill, Carried, Carries, CountsNone, Entry, Fits, HasAnswer, Inbox, IsByteOf, Keeps, Knowledge, Log, Lookup, Lookups, Machine, Mailbox, Named, Operation, Out, Outbox, Packet, Payload, PrimaryAsks, Promised, Request, Requests, Sector, SectorRead, Sectors, SilentStep, Stands, Stays, TableStepsAreSteps, TakesByte0, TakesByte1, TakesLookup, TakesRequest, ThreadStep, WhereSome, Whole, Write, accepted_at, after_empty, after_fill, backup_asked, byte_arrived, completed, counted_at, emptier, filler, hand_of, primary_asked, winner_of}
+use Rattle.pair_rule.proofs.Words.{Among, Answer, Answers, AnswersLookup, AnswersRead, AsksRead, BackupAsks, Byte, Bytes0, Bytes1, CanFill, Carried, Carries, CountEvents, CountsNone, EmptyEvents, Entry, Event, EventsOf, FillEvents, FindEvents, Fits, HasAnswer, HasEvents, HasNoEvents, Inbox, IsByteOf, Keeps, Knowledge, Log, Lookup, Lookups, Machine, Mailbox, Named, Operation, Out, Outbox, Packet, Payload, PrimaryAsks, Promised, Request, Requests, Sector, SectorRead, Sectors, SilentStep, Stands, Stays, Suspect, TableStepsAreSteps, TakeEvents, TakesByte0, TakesByte1, TakesLookup, TakesRequest, ThreadStep, WhereSome, Whole, Write, accepted_at, after_empty, after_fill, backup_asked, byte_arrived, completed, counted_at, emptier, filler, hand_of, primary_asked, winner_of}
 use Rattle.pair_rule.specs.declared.payload.DiskAnswer.TheVariants as answer
 use Rattle.pair_rule.specs.declared.payload.DiskRequest.TheVariants as ask
 use Rattle.pair_rule.specs.Law as law
@@ -12,37 +12,50 @@ use Rattle.pair_rule.proofs.Filled.{AgreesBy, fill_keeps}
 use Rattle.pair_rule.proofs.WordChanges.{append_stays, see_stays, hold_stays, primary_asks, backup_asks, came_stays, count_stays}
 
 module _ {S : Type 0} (M : Machine S) (typed0 typed1 : List ℕ) (k : Knowledge) (st : Stands k) where
-  abbrev Step : Knowledge → Type 0
-  Step new = ThreadStep M typed0 typed1 k new ⊎ SilentStep M k new
+  -- a step of the laws whose events are those of a row, or none
+  abbrev Step : Knowledge → (List Event → Type 0) → Type 0
+  Step new Row = HasEvents M typed0 typed1 k new Row ⊎ HasNoEvents M k new Row
 
-  fills : (b : Mailbox) (q : Payload) → AsksNot (filler b) k → CanFill b k q → Promised M k b q → Step (after_fill b q k)
-  fills Outbox (Log p) asks can kept = inr Keeps
-  fills Inbox (Log p) asks can kept = inr Keeps
+  events_of : {new : Knowledge} {Row : List Event → Type 0} (step : ThreadStep M typed0 typed1 k new)
+      → ((events : List Event) → EventsOf step events → Row events) → Step new Row
+  events_of step row = inl record { step = step; row = row }
+
+  no_events : {new : Knowledge} {Row : List Event → Type 0} → SilentStep M k new → Row [] → Step new Row
+  no_events step row = inr record { step = step; row = row }
+
+  fills : (b : Mailbox) (q : Payload) → AsksNot (filler b) k → CanFill b k q → Promised M k b q
+      → Step (after_fill b q k) (FillEvents b q)
+  fills Outbox (Log p) asks can kept = no_events Keeps refl
+  fills Inbox (Log p) asks can kept = no_events Keeps refl
   fills Bytes0 (Out (Byte to number byte)) asks can kept =
-      inl (law.Releases (Byte to number byte) kept.0 (omega (arith, can)) asks kept.1)
+      events_of (law.Releases (Byte to number byte) kept.0 (omega (arith, can)) asks kept.1) (λ events is. is)
   fills Bytes1 (Out (Byte to number byte)) asks can kept =
-      inl (law.Releases (Byte to number byte) kept.0 (omega (arith, can)) asks kept.1)
-  fills Requests (Request (ask.Write w)) asks can kept = inl (law.Releases (Write w) kept.0 tt asks kept.1)
-  fills Requests (Request (ask.Read a)) asks can kept = inr (AsksRead a)
+      events_of (law.Releases (Byte to number byte) kept.0 (omega (arith, can)) asks kept.1) (λ events is. is)
+  fills Requests (Request (ask.Write w)) asks can kept =
+      events_of (law.Releases (Write w) kept.0 tt asks kept.1) (λ events is. is)
+  fills Requests (Request (ask.Read a)) asks can kept = no_events (AsksRead a) refl
   fills Answers (Answer (answer.Written n)) asks can ((w, taken, is), agrees, boots) =
-      subst (λ m. Step (after_fill Answers (Answer (answer.Written m)) k)) (sym is) (inl (law.Puts w taken))
-  fills Answers (Answer (answer.Read r)) asks can ((a, taken, at, last), agrees, boots) = inr (AnswersRead a r taken boots)
-  fills Lookups (Lookup x) asks can kept = inr Keeps
-  fills Sectors (Sector x) asks can kept = inr (AnswersLookup x)
+      subst (λ m. Step (after_fill Answers (Answer (answer.Written m)) k) (FillEvents Answers (Answer (answer.Written m))))
+      (sym is) (events_of (law.Puts w taken) (λ events is. is))
+  fills Answers (Answer (answer.Read r)) asks can ((a, taken, at, last), agrees, boots) =
+      no_events (AnswersRead a r taken boots) refl
+  fills Lookups (Lookup x) asks can kept = no_events Keeps refl
+  fills Sectors (Sector x) asks can kept = no_events (AnswersLookup x) refl
   fills _ _ asks can kept = absurd can
 
   -- a packet has a whole entry, or only names a sector
   packet_step : (p : Packet) → k.backup.winner ≡ 0 → (c : Carried) → p.carried ≡ c → (e : Entry)
-      → get_elem? k.primary.list p.index ≡ some e → Carries k.disk.given p.carried e → Step (after_empty Inbox (Log p) k)
+      → get_elem? k.primary.list p.index ≡ some e → Carries k.disk.given p.carried e
+      → Step (after_empty Inbox (Log p) k) (TakeEvents c)
   packet_step p asks (Whole x) is e at same = let whole : e ≡ x = subst (λ c. Carries k.disk.given c e) is same in
-      inl (law.Takes p x asks is (at ∙ ap some whole))
-  packet_step p asks (Named t) is e at same = inr (law.Wants p t is)
+      events_of (law.Takes p x asks is (at ∙ ap some whole)) (λ events is. is)
+  packet_step p asks (Named t) is e at same = no_events (law.Wants p t is) refl
 
   -- a sector completes the entry that is wanted, or not
   sector_step : (r : SectorRead) → k.backup.winner ≡ 0 → Among r k.disk.found → (x : Option Entry)
-      → completed k.backup.wanted r ≡ x → Step (after_empty Sectors (Sector r) k)
-  sector_step r asks fit None is = inr (law.Misses r is)
-  sector_step r asks fit (Some e) is = inl (law.Completes r e asks is fit)
+      → completed k.backup.wanted r ≡ x → Step (after_empty Sectors (Sector r) k) (FindEvents x)
+  sector_step r asks fit None is = no_events (law.Misses r is) refl
+  sector_step r asks fit (Some e) is = events_of (law.Completes r e asks is fit) (λ events is. is)
 
   -- what the disk reads agrees with what it read before
   agrees_kept : (b : Mailbox) (q : Payload) → Promised M k b q → AgreesBy b k q
@@ -50,38 +63,44 @@ module _ {S : Type 0} (M : Machine S) (typed0 typed1 : List ℕ) (k : Knowledge)
   agrees_kept Sectors (Sector x) kept = kept.1
   agrees_kept _ _ kept = tt
 
-  empties : (b : Mailbox) (q : Payload) → AsksNot (emptier b) k → Fits b k q → Step (after_empty b q k)
-  empties Outbox (Log p) asks fit = inr (law.Carries p)
+  empties : (b : Mailbox) (q : Payload) → AsksNot (emptier b) k → Fits b k q
+      → Step (after_empty b q k) (EmptyEvents k b q)
+  empties Outbox (Log p) asks fit = no_events (law.Carries p) refl
   empties Inbox (Log p) asks fit = packet_step p asks p.carried refl fit.1.0 fit.1.1 fit.1.2
-  empties Bytes0 (Out o) asks fit = inr (TakesByte0 o)
-  empties Bytes1 (Out o) asks fit = inr (TakesByte1 o)
-  empties Requests (Request r) asks fit = inr (TakesRequest r)
-  empties Answers (Answer a) asks fit = inr (HasAnswer a)
-  empties Lookups (Lookup x) asks fit = inr (TakesLookup x)
+  empties Bytes0 (Out o) asks fit = no_events (TakesByte0 o) refl
+  empties Bytes1 (Out o) asks fit = no_events (TakesByte1 o) refl
+  empties Requests (Request r) asks fit = no_events (TakesRequest r) refl
+  empties Answers (Answer a) asks fit = no_events (HasAnswer a) refl
+  empties Lookups (Lookup x) asks fit = no_events (TakesLookup x) refl
   empties Sectors (Sector x) asks fit = sector_step x asks fit (completed k.backup.wanted x) refl
   empties _ _ asks fit = absurd fit
 
   -- a primary that asks finds no winner, or the backup; a backup finds none, or the primary
-  primary_step : k.primary.winner ≡ 0 → Step (primary_asked (winner_of k.primary.winner k.backup.winner) k)
-  primary_step none = subst (λ n. Step (primary_asked n k)) (ap (λ p. winner_of p k.backup.winner) (sym none))
-      (go k.backup.winner refl)
+  abbrev PrimaryStep : ℕ → Type 0
+  PrimaryStep n = Step (primary_asked n k) (λ events. events ≡ Suspect 0 ∷ [])
+
+  primary_step : k.primary.winner ≡ 0 → PrimaryStep (winner_of k.primary.winner k.backup.winner)
+  primary_step none = subst PrimaryStep (ap (λ p. winner_of p k.backup.winner) (sym none)) (go k.backup.winner refl)
     where
-      go : (n : ℕ) → k.backup.winner ≡ n → Step (primary_asked k.backup.winner k)
-      go zero is = subst (λ n. Step (primary_asked n k)) (sym is) (inl (law.PrimaryWins none is))
+      go : (n : ℕ) → k.backup.winner ≡ n → PrimaryStep k.backup.winner
+      go zero is = subst PrimaryStep (sym is) (events_of (law.PrimaryWins none is) (λ events is. is))
       go (suc zero) is = let d = st.decided.backup_lost is in absurd (omega (arith, d, none))
-      go (suc (suc zero)) is = subst (λ n. Step (primary_asked n k)) (sym is) (inl (law.PrimaryLoses none is))
+      go (suc (suc zero)) is = subst PrimaryStep (sym is) (events_of (law.PrimaryLoses none is) (λ events is. is))
       go (suc (suc (suc n))) is = let f =
           st.decided.few in let e : winner_of k.primary.winner k.backup.winner ≡ suc (suc (suc n)) =
           ap (λ p. winner_of p k.backup.winner) none ∙ is in absurd (omega (arith, f, e))
 
-  backup_step : k.backup.winner ≡ 0 → Step (backup_asked (winner_of k.primary.winner k.backup.winner) k)
+  abbrev BackupStep : ℕ → Type 0
+  BackupStep n = Step (backup_asked n k) (λ events. events ≡ Suspect 1 ∷ [])
+
+  backup_step : k.backup.winner ≡ 0 → BackupStep (winner_of k.primary.winner k.backup.winner)
   backup_step none = go k.primary.winner refl
     where
-      go : (n : ℕ) → k.primary.winner ≡ n → Step (backup_asked (winner_of k.primary.winner k.backup.winner) k)
-      go zero is = subst (λ n. Step (backup_asked n k)) (sym (ap (λ p. winner_of p k.backup.winner) is ∙ none))
-          (inl (law.BackupWins is none))
-      go (suc zero) is = subst (λ n. Step (backup_asked n k)) (ap (λ p. winner_of p k.backup.winner) (sym is))
-          (inl (law.BackupLoses is none))
+      go : (n : ℕ) → k.primary.winner ≡ n → BackupStep (winner_of k.primary.winner k.backup.winner)
+      go zero is = subst BackupStep (sym (ap (λ p. winner_of p k.backup.winner) is ∙ none))
+          (events_of (law.BackupWins is none) (λ events is. is))
+      go (suc zero) is = subst BackupStep (ap (λ p. winner_of p k.backup.winner) (sym is))
+          (events_of (law.BackupLoses is none) (λ events is. is))
       go (suc (suc zero)) is = let d = st.decided.primary_lost is in absurd (omega (arith, d, none))
       go (suc (suc (suc n))) is = let f =
           st.decided.few in let e : winner_of k.primary.winner k.backup.winner ≡ suc (suc (suc n)) =
@@ -89,10 +108,10 @@ module _ {S : Type 0} (M : Machine S) (typed0 typed1 : List ℕ) (k : Knowledge)
 
   -- a terminal counts the byte in its hand, or none
   counts : (port : ℕ) → port < 2 → (hand : Option Operation) → hand_of port k ≡ hand
-      → WhereSome hand (IsByteOf port k.primary.released) → Step (byte_arrived port k)
-  counts port two None is there = inr (CountsNone port is)
+      → WhereSome hand (IsByteOf port k.primary.released) → Step (byte_arrived port k) (CountEvents hand)
+  counts port two None is there = no_events (CountsNone port is) refl
   counts port two (Some (Byte to number byte)) is there =
-      inl (law.Arrives port number byte two (is ∙ ap (λ p. Some (Byte p number byte)) there.0))
+      events_of (law.Arrives port number byte two (is ∙ ap (λ p. Some (Byte p number byte)) there.0)) (λ events is. is)
   counts port two (Some (Write w)) is there = absurd there
 
   hand_there : (port : ℕ) → port < 2 → WhereSome (hand_of port k) (IsByteOf port k.primary.released)
@@ -106,7 +125,7 @@ counted_before k st zero = st.port0.accepted
 counted_before k st (suc port) = st.port1.accepted
 
 pub table_steps : {S : Type 0} → TableStepsAreSteps S
-table_steps M typed0 typed1 k new st Stays = record { stands = st; step = inr Keeps }
+table_steps M typed0 typed1 k new st Stays = record { stands = st; step = no_events M typed0 typed1 k st Keeps refl }
 table_steps M typed0 typed1 k new st (Fills b q asks can kept) = record {
   stands = (fill_keeps k st b q can (agrees_kept M typed0 typed1 k st b q kept)).0.stands;
   step = fills M typed0 typed1 k st b q asks can kept;
@@ -117,10 +136,16 @@ table_steps M typed0 typed1 k new st (Empties b q asks fit) = record {
 }
 table_steps M typed0 typed1 k new st (Appends e run may told) = record {
   stands = (append_stays k st e).0;
-  step = inl (law.Appends e run may told);
+  step = events_of M typed0 typed1 k st (law.Appends e run may told) (λ events is. is);
 }
-table_steps M typed0 typed1 k new st (Sees asks) = record { stands = (see_stays k st).0; step = inl (law.Sees asks) }
-table_steps M typed0 typed1 k new st (Holds asks) = record { stands = (hold_stays k st).0; step = inl (law.Holds asks) }
+table_steps M typed0 typed1 k new st (Sees asks) = record {
+  stands = (see_stays k st).0;
+  step = events_of M typed0 typed1 k st (law.Sees asks) (λ events is. is);
+}
+table_steps M typed0 typed1 k new st (Holds asks) = record {
+  stands = (hold_stays k st).0;
+  step = events_of M typed0 typed1 k st (law.Holds asks) (λ events is. is);
+}
 table_steps M typed0 typed1 k new st (PrimaryAsks asks) = record {
   stands = (primary_asks k st).0.0;
   step = primary_step M typed0 typed1 k st asks;
@@ -135,5 +160,5 @@ table_steps M typed0 typed1 k new st (Counts port two) = record {
 }
 table_steps M typed0 typed1 k new st (SeesCount port two asks) = record {
   stands = (count_stays k st port).0;
-  step = inr (law.SeesCount port _ (counted_before k st port));
+  step = no_events M typed0 typed1 k st (law.SeesCount port _ (counted_before k st port)) refl;
 }

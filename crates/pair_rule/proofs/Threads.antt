@@ -1,7 +1,8 @@
 -- Step after step, what is known is shown by a faithful world.
-use Rattle.std.proofs.Common.{ℕ, zero, suc, ◌<◌, List, ◌++◌, subst, arith, inl, inr}
-use Rattle.pair_rule.proofs.Words.{ChangesReach, Copying, Event, Faithful, Goes, Happens, IsAllBut, IsCopying, IsPrefix, IsShown, IsStep, Knowledge, Logged, Machine, MayHave, Opens, PrimaryIsTold, Promises, Reached, ReachedGrows, ReachedIsFaithful, Reply, RowIsChanges, Runnable, SectorAddress, Shows, Stands, ThreadsAreFaithful, World, accepted_in, bytes_accepted, keys, opening, output, sector_record, terminal_in, typed_at}
+use Rattle.std.proofs.Common.{◌⊎◌, ℕ, zero, suc, ◌<◌, List, [], ◌++◌, refl, subst, arith, inl, inr}
+use Rattle.pair_rule.proofs.Words.{ChangesReach, Copying, Event, Faithful, Goes, Happens, HasEvents, HasNoEvents, IsAllBut, IsCopying, IsPrefix, IsShown, Knowledge, LeadsFaithfully, Logged, Machine, MayHave, Nothing, Opens, PrimaryIsTold, Promises, Reached, ReachedGrows, ReachedIsFaithful, Reply, RowIsChanges, Runnable, SectorAddress, Shows, Stands, TableEvents, TableStep, TableStepsAreFaithful, ThreadsAreFaithful, World, accepted_in, bytes_accepted, keys, opening, output, sector_record, terminal_in, typed_at}
 use Rattle.pair_rule.proofs.Beginning.{happens_more, starts_shown}
+use Rattle.pair_rule.proofs.Growth.{step_grows}
 use Rattle.pair_rule.proofs.Law.{steps_stay_faithful}
 use Rattle.pair_rule.proofs.SilentSteps.{silent_shows}
 use Rattle.pair_rule.proofs.TableSteps.{table_steps}
@@ -49,20 +50,67 @@ shown M C typed0 typed1 k w st told z events replies happened reached f = record
   promises = promises M C typed0 typed1 k w z f;
 }
 
+-- a step leads by the events of its row, or by none
+pub row_leads : {S : Type 0} → RowIsChanges S → ChangesReach S → ReachedIsFaithful S → ReachedGrows S
+    → (M : Machine S) (C : Copying S) → Runnable M → IsCopying M C → (typed0 typed1 : List ℕ) (k new : Knowledge) (w : World S)
+    → Shows M typed0 typed1 k w → Stands k → Reached M C w → (Row : List Event → Type 0)
+    → HasEvents M typed0 typed1 k new Row ⊎ HasNoEvents M k new Row → LeadsFaithfully M C typed0 typed1 new w Row
+row_leads rows changes faithful grow M C may copies typed0 typed1 k new w z st h Row (inl t) =
+    let l = steps_stay_faithful rows changes faithful grow M C may copies typed0 typed1 k new w z st h t.step in record {
+      leads = record {
+        events = l.leads.events;
+        formed = t.row l.leads.events l.leads.formed;
+        replies = l.leads.replies;
+        new = l.leads.new;
+        run = l.leads.run;
+        once = l.leads.once;
+        shows = l.leads.shows;
+      };
+      reached = l.reached;
+      faithful = l.faithful;
+      grows = l.grows;
+    }
+row_leads rows changes faithful grow M C may copies typed0 typed1 k new w z st h Row (inr q) = record {
+  leads = record {
+    events = [];
+    formed = q.row;
+    replies = [];
+    new = w;
+    run = Nothing;
+    once = inl refl;
+    shows = silent_shows M typed0 typed1 k new w z q.step;
+  };
+  reached = h;
+  faithful = faithful M C may.lawful copies w h;
+  grows = step_grows rows changes faithful grow M C may.lawful copies w w [] [] h Nothing (inl refl);
+}
+
+-- so each kind of step leads by its own
+pub kinds_lead : {S : Type 0} → RowIsChanges S → ChangesReach S → ReachedIsFaithful S → ReachedGrows S
+    → TableStepsAreFaithful S
+kinds_lead rows changes faithful grow M C may copies typed0 typed1 k new w z st h kind =
+    row_leads rows changes faithful grow M C may copies typed0 typed1 k new w z st h (TableEvents kind)
+    (table_steps M typed0 typed1 k new st kind).step
+
+-- what the list was told stays so
+step_told : {S : Type 0} (M : Machine S) (typed0 typed1 : List ℕ) (k new : Knowledge) (Row : List Event → Type 0)
+    → PrimaryIsTold typed0 typed1 k.primary → HasEvents M typed0 typed1 k new Row ⊎ HasNoEvents M k new Row
+    → PrimaryIsTold typed0 typed1 new.primary
+step_told M typed0 typed1 k new Row told (inl t) = thread_told M typed0 typed1 k told new t.step
+step_told M typed0 typed1 k new Row told (inr q) = silent_told M typed0 typed1 k told new q.step
+
 -- a step of the table leads from what is shown to what is shown
 pub next_shown : {S : Type 0} → RowIsChanges S → ChangesReach S → ReachedIsFaithful S → ReachedGrows S
     → (M : Machine S) (C : Copying S) → Runnable M → IsCopying M C → (typed0 typed1 : List ℕ) (k new : Knowledge)
-    → IsShown M C typed0 typed1 k → IsStep M typed0 typed1 k new → IsShown M C typed0 typed1 new
-next_shown rows changes faithful grow M C may copies typed0 typed1 k new s is = elim is.step [
-  | inl t ↦ (let l = steps_stay_faithful rows changes faithful grow M C may copies typed0 typed1 k new s.world s.shows s.stands
-      s.reached t in
-      shown M C typed0 typed1 new l.leads.new is.stands
-      (thread_told M typed0 typed1 k s.told new t) l.leads.shows (s.events ++ l.leads.events) (s.replies ++ l.leads.replies)
-      (happens_more M C (opening M Logged) s.world l.leads.new s.events l.leads.events s.replies l.leads.replies s.happened
-      l.leads.run) l.reached l.faithful)
-  | inr q ↦ shown M C typed0 typed1 new s.world is.stands (silent_told M typed0 typed1 k s.told new q)
-      (silent_shows M typed0 typed1 k new s.world s.shows q) s.events s.replies s.happened s.reached s.faithful
-]
+    → IsShown M C typed0 typed1 k → (kind : TableStep M typed0 typed1 k new) → IsShown M C typed0 typed1 new
+next_shown rows changes faithful grow M C may copies typed0 typed1 k new s kind =
+    let is = table_steps M typed0 typed1 k new s.stands kind in
+    let l = row_leads rows changes faithful grow M C may copies typed0 typed1 k new s.world s.shows s.stands s.reached
+    (TableEvents kind) is.step in
+    shown M C typed0 typed1 new l.leads.new is.stands (step_told M typed0 typed1 k new (TableEvents kind) s.told is.step)
+    l.leads.shows (s.events ++ l.leads.events) (s.replies ++ l.leads.replies)
+    (happens_more M C (opening M Logged) s.world l.leads.new s.events l.leads.events s.replies l.leads.replies s.happened
+    l.leads.run) l.reached l.faithful
 
 pub runs_shown : {S : Type 0} → RowIsChanges S → ChangesReach S → ReachedIsFaithful S → ReachedGrows S → ThreadsAreFaithful S
 runs_shown rows changes faithful grow M C may copies typed0 typed1 k (Opens generation) =
@@ -70,4 +118,4 @@ runs_shown rows changes faithful grow M C may copies typed0 typed1 k (Opens gene
     (nothing_told typed0 typed1) b.shows b.events b.replies b.run b.reached (faithful M C may.lawful copies b.world b.reached)
 runs_shown rows changes faithful grow M C may copies typed0 typed1 new (Goes {k = k} run step) =
     let s = runs_shown rows changes faithful grow M C may copies typed0 typed1 k run in
-    next_shown rows changes faithful grow M C may copies typed0 typed1 k new s (table_steps M typed0 typed1 k new s.stands step)
+    next_shown rows changes faithful grow M C may copies typed0 typed1 k new s step

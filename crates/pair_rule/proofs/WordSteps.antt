@@ -40,6 +40,7 @@ module _ (g : ℕ) (s : Table) (r : Rule g s) (id : ℕ) (me : Mine) (at : get_e
   moment : (n : Who) → has me.0 n → Moment n me.0.core.known k
   moment n mine = let o = own g s r id me.0 at n mine in record {
     stands = r.facts.stands;
+    ran = r.facts.ran;
     generation = o.generation;
     same = o.known;
   }

@@ -44,6 +44,7 @@ SamePart s k l = part s k ≡ part s l
 -- what all seats know at one moment, for a seat that knows its own part of it: what must hold of it does
 pub record Moment (s : Who) (own all : Knowledge) : Type 0 where
   pub stands : Stands all
+  pub ran : PlainRun all
   pub generation : own.generation ≡ all.generation
   pub same : SamePart s own all
 

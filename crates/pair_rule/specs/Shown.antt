@@ -121,7 +121,7 @@ pub record Sent (v : Visible) (messages : List Message) : Type 0 where
 abbrev pub IsSentBy : List Entry → List ℕ → Message → Type 0
 IsSentBy list helds (LogEntry generation i e) = (generation ≡ 1) × (slice_get list i ≡ Some e)
 IsSentBy list helds (Acknowledgement generation held replayed) = (generation ≡ 1) × (replayed ≡ 0) × Among held helds
-IsSentBy list helds (ImagePart generation i part) = Unit {0}
+IsSentBy list helds (ImagePart generation i part) = ⊥
 IsSentBy list helds (Released o) = Unit {0}
 IsSentBy list helds (WriteDone n) = Unit {0}
 IsSentBy list helds (SectorRead address n bytes) = Unit {0}

@@ -1,21 +1,31 @@
--- The kinds of step of the table, each with what the table asks of it and what its thread promises beyond that.
-use Rattle.std.specs.Prelude.{◌≡◌, ◌⊎◌, ℕ, ◌<◌, List}
+-- The kinds of step of the table, each with what the table asks of it and what its thread promises beyond that; and the
+-- events that each is.
+use Rattle.std.specs.Prelude.{◌≡◌, ◌⊎◌, ℕ, ◌<◌, List, [], ◌∷◌, length, Option, Some, None}
+use Rattle.event_callbacks.specs.Operations.{id_of}
 use Rattle.event_callbacks.specs.declared.operations.Operation.{Operation}
 use Rattle.event_callbacks.specs.declared.operations.Operation.TheVariants.{Write}
 use Rattle.guest_lockstep.specs.Machine.{Machine}
 use Rattle.log_entry.specs.declared.entry.Entry.{Entry}
+use Rattle.pair_events.specs.declared.event.Event.{Event}
+use Rattle.pair_events.specs.declared.event.Event.TheVariants.{Acknowledge, Arrive, DeliverLog, Put, Release, Suspect}
+use Rattle.pair_protocol.specs.Change.{Reached}
+use Rattle.pair_protocol.specs.Copying.{Copying, IsCopying}
+use Rattle.pair_protocol.specs.World.{World}
 use Rattle.pair_rule.specs.declared.mailbox.Mailbox.{Mailbox}
-use Rattle.pair_rule.specs.declared.mailbox.Mailbox.TheVariants.{Bytes0, Bytes1, Requests, Answers, Sectors}
+use Rattle.pair_rule.specs.declared.mailbox.Mailbox.TheVariants.{Inbox, Bytes0, Bytes1, Requests, Answers, Sectors}
+use Rattle.pair_rule.specs.declared.payload.Carried.{Carried}
+use Rattle.pair_rule.specs.declared.payload.Carried.TheVariants.{Whole, Named}
 use Rattle.pair_rule.specs.declared.payload.DiskAnswer.{DiskAnswer}
 use Rattle.pair_rule.specs.declared.payload.DiskAnswer.TheVariants as answer
 use Rattle.pair_rule.specs.declared.payload.DiskRequest.TheVariants as ask
 use Rattle.pair_rule.specs.declared.payload.Payload.{Payload}
-use Rattle.pair_rule.specs.declared.payload.Payload.TheVariants.{Out, Request, Answer, Sector}
+use Rattle.pair_rule.specs.declared.payload.Payload.TheVariants.{Log, Out, Request, Answer, Sector}
 use Rattle.pair_rule.specs.declared.view.Knowledge.{Knowledge}
 use Rattle.pair_rule.specs.Boxes.{Primary, Backup, filler, emptier}
 use Rattle.shared_disk.specs.Arrivals.{read_address}
-use Rattle.pair_rule.specs.Knowledge.{Agrees, AgreesOf, CanFill, Finds, Fits, Replies, Stands, accepted_at, after_empty, after_fill, appended, backup_asked, byte_arrived, held, last_or, primary_asked, saw, saw_count, winner_of}
-use Rattle.pair_rule.specs.Law.{HasLonger, HasRun, IsCovered, IsTold, MayAppend, SilentStep, ThreadStep}
+use Rattle.pair_rule.specs.Knowledge.{Agrees, AgreesOf, CanFill, Finds, Fits, Replies, Stands, accepted_at, after_empty, after_fill, appended, backup_asked, byte_arrived, completed, held, last_or, primary_asked, saw, saw_count, winner_of}
+use Rattle.pair_rule.specs.Law.{AppendEvents, EventsOf, HasLonger, HasRun, IsCovered, IsTold, LeadsFaithfully, MayAppend, Runnable, SeeEvents, SilentStep, ThreadStep}
+use Rattle.pair_rule.specs.Shown.{Shows, hand_of}
 pub use Rattle.pair_rule.specs.Histories.{AsksNot}
 
 -- an operation is given away only if it is covered
@@ -56,13 +66,80 @@ pub data TableStep {S : Type 0} (M : Machine S) (typed0 typed1 : List ℕ) (k : 
   SeesCount : (port : ℕ) → port < 2 → AsksNot Primary k →
       TableStep M typed0 typed1 k (saw_count port (accepted_at port k) k)
 
--- what held still holds, and the step is events of the world, or none
-pub record IsStep {S : Type 0} (M : Machine S) (typed0 typed1 : List ℕ) (k new : Knowledge) : Type 0 where
+-- ---- the events of each kind of step; the world stays as it is if there are none
+
+-- what fills a box: bytes and writes are released, and an answer to a write says that it was put
+abbrev pub FillEvents : Mailbox → Payload → List Event → Type 0
+FillEvents Bytes0 (Out o) events = events ≡ Release 0 (id_of o) ∷ []
+FillEvents Bytes1 (Out o) events = events ≡ Release 0 (id_of o) ∷ []
+FillEvents Requests (Request (ask.Write w)) events = events ≡ Release 0 (id_of (Write w)) ∷ []
+FillEvents Answers (Answer (answer.Written n)) events = (m : ℕ) × (events ≡ Put m ∷ [])
+FillEvents _ _ events = events ≡ []
+
+-- a packet that carries a whole entry is delivered; one that names a sector is not
+abbrev pub TakeEvents : Carried → List Event → Type 0
+TakeEvents (Whole e) events = (m : ℕ) × (events ≡ DeliverLog m 1 ∷ [])
+TakeEvents (Named t) events = events ≡ []
+
+-- an entry that a sector completes is delivered
+abbrev pub FindEvents : Option Entry → List Event → Type 0
+FindEvents (Some e) events = (m : ℕ) × (events ≡ DeliverLog m 1 ∷ [])
+FindEvents None events = events ≡ []
+
+-- what is taken out of a box
+abbrev pub EmptyEvents : Knowledge → Mailbox → Payload → List Event → Type 0
+EmptyEvents k Inbox (Log p) events = TakeEvents p.carried events
+EmptyEvents k Sectors (Sector r) events = FindEvents (completed k.backup.wanted r) events
+EmptyEvents k _ _ events = events ≡ []
+
+-- a byte in hand arrives
+abbrev pub CountEvents : Option Operation → List Event → Type 0
+CountEvents (Some o) events = (m : ℕ) × (events ≡ Arrive m ∷ [])
+CountEvents None events = events ≡ []
+
+-- the table of all kinds
+abbrev pub TableEvents : {S : Type 0} {M : Machine S} {typed0 typed1 : List ℕ} {k new : Knowledge} →
+    TableStep M typed0 typed1 k new → List Event → Type 0
+TableEvents Stays events = events ≡ []
+TableEvents (Fills b q waits can kept) events = FillEvents b q events
+TableEvents {k = k} (Empties b q waits fits) events = EmptyEvents k b q events
+TableEvents {k = k} (Appends e run may told) events = AppendEvents (length k.primary.list) e events
+TableEvents {k = k} (Sees waits) events = SeeEvents (last_or 0 k.backup.held_values) events
+TableEvents (Holds waits) events = events ≡ Acknowledge 1 ∷ []
+TableEvents (PrimaryAsks waits) events = events ≡ Suspect 0 ∷ []
+TableEvents (BackupAsks waits) events = events ≡ Suspect 1 ∷ []
+TableEvents {k = k} (Counts port two) events = CountEvents (hand_of port k) events
+TableEvents (SeesCount port two waits) events = events ≡ []
+
+-- ---- the laws
+
+-- the step is one that is events, and they are those of its row
+pub record HasEvents {S : Type 0} (M : Machine S) (typed0 typed1 : List ℕ) (k new : Knowledge)
+    (Row : List Event → Type 0) : Type 0 where
+  pub step : ThreadStep M typed0 typed1 k new
+  pub row : (events : List Event) → EventsOf step events → Row events
+
+-- or one that is none, and its row has none
+pub record HasNoEvents {S : Type 0} (M : Machine S) (k new : Knowledge) (Row : List Event → Type 0) : Type 0 where
+  pub step : SilentStep M k new
+  pub row : Row []
+
+-- what held still holds, and the step is the events of its kind, or none
+pub record IsStep {S : Type 0} (M : Machine S) (typed0 typed1 : List ℕ) (k new : Knowledge)
+    (kind : TableStep M typed0 typed1 k new) : Type 0 where
   pub stands : Stands new
-  pub step : ThreadStep M typed0 typed1 k new ⊎ SilentStep M k new
+  pub step : HasEvents M typed0 typed1 k new (TableEvents kind) ⊎ HasNoEvents M k new (TableEvents kind)
 
 -- so it is with each kind of step
 abbrev pub TableStepsAreSteps : Type 0 → Type 0
 TableStepsAreSteps S =
-    (M : Machine S) (typed0 typed1 : List ℕ) (k new : Knowledge) → Stands k → TableStep M typed0 typed1 k new →
-    IsStep M typed0 typed1 k new
+    (M : Machine S) (typed0 typed1 : List ℕ) (k new : Knowledge) → Stands k →
+    (kind : TableStep M typed0 typed1 k new) → IsStep M typed0 typed1 k new kind
+
+-- the events of its kind lead from a world that actions reach, and that shows what was known, to such a world that shows
+-- what is known then; it is faithful, and what was settled grows
+abbrev pub TableStepsAreFaithful : Type 0 → Type 0
+TableStepsAreFaithful S =
+    (M : Machine S) (C : Copying S) → Runnable M → IsCopying M C → (typed0 typed1 : List ℕ) (k new : Knowledge)
+    (w : World S) → Shows M typed0 typed1 k w → Stands k → Reached M C w → (kind : TableStep M typed0 typed1 k new) →
+    LeadsFaithfully M C typed0 typed1 new w (TableEvents kind)

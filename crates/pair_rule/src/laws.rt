@@ -1,13 +1,13 @@
 //! What the threads of a generation are: a pair, one event after another. Nothing here runs.
 ghost use Rattle.pair_rule.specs.Law.{SilentStepsShow, StartsShown, StepsAreEvents, StepsAreFaithful};
 ghost use Rattle.pair_rule.specs.ReadsKept.{SectorsAreKept};
-ghost use Rattle.pair_rule.specs.Steps.{TableStepsAreSteps};
+ghost use Rattle.pair_rule.specs.Steps.{TableStepsAreFaithful, TableStepsAreSteps};
 ghost use Rattle.pair_rule.specs.Threads.{KeptStepsAreThreads, ThreadsAreFaithful};
 
 use pair_protocol::{actions_are_faithful, events_are_actions, events_grow, pairs_without_copies};
 
-/// Each kind of step of the table keeps what holds of all that the seats know, and is a step of the laws below: events of a
-/// pair, or no event.
+/// Each kind of step of the table keeps what holds of all that the seats know, and is a step of the laws below: the events
+/// of a pair that the table of kinds has for it, or none.
 pub fn table_steps_are_steps<S>()
     ensures steps { TableStepsAreSteps S }
 {}
@@ -33,6 +33,16 @@ pub fn silent_steps_are_shown<S>()
 /// So between any two steps of the threads the world that they show is faithful, and what is settled only grows.
 pub fn steps_are_faithful<S>()
     ensures faithful { StepsAreFaithful S }
+{
+    events_are_actions::<S>();
+    actions_are_faithful::<S>();
+    events_grow::<S>();
+}
+
+/// So each kind of step of the table leads by the events of its kind from a shown world to a shown world. The new one is
+/// faithful, and what is settled only grows.
+pub fn table_steps_are_faithful<S>()
+    ensures faithful { TableStepsAreFaithful S }
 {
     events_are_actions::<S>();
     actions_are_faithful::<S>();

@@ -26,7 +26,8 @@ pub use fabric::Fabric;
 pub use known::{Known, Recalls, known_by};
 pub use laws::{
     kept_steps_are_threads, sectors_are_kept, silent_steps_are_shown, starts_are_shown,
-    steps_are_events, steps_are_faithful, table_steps_are_steps, threads_are_faithful,
+    steps_are_events, steps_are_faithful, table_steps_are_faithful, table_steps_are_steps,
+    threads_are_faithful,
 };
 pub use link::LinkSeat;
 pub use open::FiveSeats;

@@ -11,9 +11,10 @@ use event_callbacks::{Callbacks, Completes, plain_completions};
 use guest_board::{Board, Setup};
 use guest_lockstep::{Lockstep, Reads, StopReason, run};
 use i8080_words::{Fault, R};
+use log_entry::Entry;
 use pair_lines::Lines;
 use pair_threads::{Gate, GenerationEnd, Who, Workers, run_generation_over};
-use shared_disk::{FailOnce, MemoryStore, SharedDisk};
+use shared_disk::{FailOnce, MemoryStore, SectorRead, SharedDisk};
 use std::alloc::Global;
 use std::thread::Threads;
 use std::time::Clock;
@@ -49,8 +50,8 @@ pub(super) fn alone(program: &[u8]) -> Case<'_> {
 }
 
 /// How a pair has ended: who goes on alone, the counts of the primary's guest and of the backup's, at which count the latter then
-/// gave an operation, how many entries the primary's list has, whether the backup's is the same, how many are acknowledged, what
-/// port 0 has accepted first, how many bytes each port has, and the number of the last write of sector 0 of track 0.
+/// gave an operation, how many entries the primary's list has, the first two that are kept, whether the backup's list is the same,
+/// how many entries are acknowledged, what port 0 has accepted first, how many bytes each port has, and sector 0 of track 0.
 #[derive(Clone, Copy)]
 pub(super) struct Outcome {
     pub(super) winner: Option<Who>,
@@ -58,11 +59,12 @@ pub(super) struct Outcome {
     pub(super) backup_count: u64,
     pub(super) gave_at: Option<u64>,
     pub(super) entries: usize,
+    pub(super) listed: [Option<Entry>; 2],
     pub(super) is_repeated: bool,
     pub(super) held: u64,
     pub(super) first: Option<u8>,
     pub(super) accepted: [usize; 2],
-    pub(super) write: u64,
+    pub(super) sector: SectorRead,
 }
 
 // At which count a guest gives an operation that makes so many steps by itself at most, if it gives one.
@@ -92,11 +94,12 @@ fn look_at<B: Lockstep + Drop>(
         backup_count: end.backup_board.count(),
         gave_at: gives_at(&mut end.backup_board, later),
         entries: end.primary.len(),
+        listed: [primary.first().copied(), primary.get(1).copied()],
         is_repeated: end.primary.len() == end.backup.len() && primary == backup,
         held: end.held,
         first: first.first().copied(),
         accepted: [first.len(), second.len()],
-        write: sector.number,
+        sector,
     })
 }
 

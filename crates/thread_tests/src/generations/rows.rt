@@ -5,6 +5,7 @@ use super::gates::{Closed, Together, Turnstile};
 use super::pairs::{Outcome, alone, run_case};
 use guest_lockstep::Reads;
 use i8080_words::{Fault, R};
+use log_entry::Entry;
 use pair_threads::Who;
 use std::process::Abort;
 use std::time::Instant;
@@ -31,17 +32,26 @@ fn expect_all(rt: &impl Abort, end: &Outcome, entries: usize) {
     assert!(rt; end.is_repeated && end.entries == entries && end.held == entries as u64);
 }
 
-// The byte goes out once its mark is acknowledged: a mark and an acceptance.
+// The acceptance of a byte of port 0, taken at this count.
+fn accepted_at(count: u64) -> Option<Entry> {
+    Some(Entry::Sent { count, port: 0 })
+}
+
+// The byte goes out once its mark is acknowledged: a mark, and an acceptance before the guest halts or after.
 fn expect_byte(rt: &impl Abort, end: &Outcome) {
     expect_all(rt, end, 2);
+    let [mark, sent] = end.listed;
+    assert!(rt; mark == Some(Entry::Mark { count: 6 }));
+    assert!(rt; sent == accepted_at(6) || sent == accepted_at(7));
     assert!(rt; end.first == Some(0x48) && end.accepted == [1, 0]);
-    assert!(rt; end.count == 7 && end.write == 0);
+    assert!(rt; end.count == 7 && end.sector.number == 0);
 }
 
 // The sector that is read, the mark of the write, its completion, and the sector that comes under the head next.
 fn expect_sector(rt: &impl Abort, end: &Outcome) {
     expect_all(rt, end, 4);
-    assert!(rt; end.accepted == [0, 0] && end.write == 1);
+    assert!(rt; end.accepted == [0, 0]);
+    assert!(rt; end.sector.number == 1 && end.sector.bytes == [0xe5; 137]);
 }
 
 #[test]
@@ -51,6 +61,14 @@ fn each_turn_leaves_the_gate(rt: HostRuntime) -> R<()> {
     expect_byte(&rt, &end);
     assert!(rt; turnstile.entered() > 0);
     assert!(rt; turnstile.left() == turnstile.entered());
+    Ok(())
+}
+
+// Primary and backup wait for each other before their first turns.
+#[test]
+fn two_threads_have_the_same_list(rt: HostRuntime) -> R<()> {
+    let end = run_case(&rt, rt.alloc(), &alone(&FIRST_BYTE), &Together::new())?;
+    expect_byte(&rt, &end);
     Ok(())
 }
 
