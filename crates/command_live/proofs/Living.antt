@@ -1,6 +1,6 @@
 -- What a pair on threads prints is an end of its generation; what is typed at it, line by line.
 use Rattle.std.proofs.Common.{◌≡◌, ℕ, ◌+◌, ◌<◌, zero, suc, Bool, Option, Some, None, List, [], ◌∷◌, ◌++◌, Result, Ok, Err, inl, inr, refl, subst, sym, ap, ◌∙◌, length, replicate, take, get_or, if◌then◌else◌, append-nil, arith}
-use Rattle.std.specs.Prelude.{◌⊎◌, IfErr, IfOk, OnOk}
+use Rattle.std.specs.Prelude.{◌⊎◌, IfErr, IfOk, IsTrue, OnOk}
 use Rattle.std.specs.Global.{Vec}
 use Rattle.std.specs.Result.{IsErrAnd}
 use Rattle.std.specs.Io.KnownBytes.{Appends, Keeps, append_known}
@@ -13,7 +13,7 @@ use Rattle.guest_board.specs.Inputs.{some_altair}
 use Rattle.guest_lockstep.specs.Machine.{Machine, booted_from}
 use Rattle.log_entry.specs.declared.entry.Entry.{Entry}
 use Rattle.command_live.specs.Living.{AreBooted, AreTyped, BeginsAs, EndsOf, HasEnded, PrintsLive, PrintsNone, PrintsScreens, Tells, TellsEnd, TellsScreens, WonIn, end_text, typed_by, typed_in, with_byte}
-use Rattle.command_live.specs.Saving.{images_of}
+use Rattle.command_live.specs.Saving.{AreWhole, are_attached, images_of}
 use Rattle.command_ending.specs.Reports.{AddsLine}
 use Rattle.command_ending.specs.declared.failure.Failure.{Failure}
 use Rattle.command_ending.specs.declared.failure.Failure.TheVariants as failure
@@ -30,10 +30,11 @@ use Rattle.script_language.specs.declared.setup.ScriptSetup.{ScriptSetup}
 -- the screens are printed, and the images are those of the disk
 pub tells_screens : (winner : Option Who) (screens : List (List ℕ)) (records : List Record) (saved images first second : List ℕ)
     (old new : Option (List ℕ)) → screens ≡ first ∷ second ∷ [] → images ≡ images_of records saved
+    → AreWhole images saved
     → AddsLine (Some (end_text first second winner)) old new
     → PrintsScreens winner screens records saved images old new
-tells_screens winner screens records saved images first second old new are images_are one =
-    record { first = first; second = second; screens_are = are; images_are = images_are; printed = one }
+tells_screens winner screens records saved images first second old new are images_are whole one =
+    record { first = first; second = second; screens_are = are; images_are = images_are; whole = whole; printed = one }
 
 -- a line that is not handed in
 tells_none : (e : Failure) (old new : Option (List ℕ)) → (e ≡ failure.OutOfMemory → Keeps old new)
@@ -86,13 +87,19 @@ module _ (setup : ScriptSetup) (given : List SectorWrite) (typed0 typed1 : List 
     settled_none (failure.BadScript line) h = h
 
     -- the images come after it
-    pub settled_live : (d : Option (List ℕ)) (images bytes : List ℕ) (result : Result (Unit {0}) Failure) → bytes ≡ images
+    pub settled_live : (d : Option (List ℕ)) (images bytes : List ℕ) (result : Result (Unit {0}) Failure)
+        → IsTrue (are_attached setup.guest.drives order.saved.items) → bytes ≡ images
         → OnOk result (Appends c d bytes) → IfErr result (λ e. e ≡ failure.InputOrOutput)
         → TellsEnd setup given typed0 typed1 order images (append_known a first) (append_known b rest)
         → PrintsLive setup given typed0 typed1 order result a d
-    settled_live d images bytes (Ok done) are more why h =
-        record { images = images; told = c; tells = settled_end images h; printed = subst (λ l. Appends c d l) are more }
-    settled_live d images bytes (Err e) are more why h = subst (λ f. PrintsNone f a d) (sym why) tt
+    settled_live d images bytes (Ok done) attached are more why h = record {
+      images = images;
+      told = c;
+      tells = settled_end images h;
+      printed = subst (λ l. Appends c d l) are more;
+      attached = attached;
+    }
+    settled_live d images bytes (Err e) attached are more why h = subst (λ f. PrintsNone f a d) (sym why) tt
 
     -- nothing comes after a failure
     pub settled_residual : (result : Result (Unit {0}) Failure) (e : Failure) → IsErrAnd result (λ k. k ≡ e)
@@ -201,9 +208,9 @@ typed_so M exact typed0 typed1 first second winner primary backup held screens r
 -- and the images of its disk
 pub ends_of : (setup : ScriptSetup) (given : List SectorWrite) (lines : List Line) (saved drives : List ℕ) (winner : Option Who)
     (screens : List (List ℕ)) (records : List Record) (images : List ℕ) → HasEnded setup given lines winner screens records
-    → drives ≡ saved → images ≡ images_of records drives
+    → drives ≡ saved → images ≡ images_of records drives → AreWhole images drives
     → EndsOf setup given (typed_in 0 lines) (typed_in 1 lines) saved winner screens images
-ends_of setup given lines saved drives winner screens records images h are all = record {
+ends_of setup given lines saved drives winner screens records images h are all whole = record {
   sectors = h.sectors;
   booted = h.booted;
   primary = h.primary;
@@ -215,6 +222,7 @@ ends_of setup given lines saved drives winner screens records images h are all =
   exact = h.exact;
   ends = h.ends;
   images_are = all ∙ ap (images_of records) are;
+  whole = subst (AreWhole images) are whole;
 }
 
 -- the end of a script's generation is printed as its screens and its disk say
@@ -228,7 +236,7 @@ tells_of setup given lines order saved winner screens records (Ok images) old ne
     tells_end setup given (typed_in 0 lines) (typed_in 1 lines) order old new told.first told.second images.items winner won
     (subst (λ s. EndsOf setup given (typed_in 0 lines) (typed_in 1 lines) order.saved.items winner s images.items)
     told.screens_are
-    (ends_of setup given lines order.saved.items saved winner screens records images.items ended are told.images_are))
+    (ends_of setup given lines order.saved.items saved winner screens records images.items ended are told.images_are told.whole))
     told.printed
 tells_of setup given lines order saved winner screens records (Err failure) old new ended won are told = told
 

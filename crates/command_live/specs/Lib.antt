@@ -3,3 +3,4 @@ pub mod Saving
 pub mod Later
 pub mod Lines
 pub mod Roles
+pub mod Watching

@@ -39,9 +39,10 @@ abbrev begun : ℕ → Roles → Option ℕ → Line
 begun generation r None = Line.Alone r.primary
 begun generation r (Some backup) = Line.Begins generation r.primary backup
 
--- what is told of an event, after which these hosts run the machine; a backup that has won did this before
+-- what is told of an event, after which these hosts run the machine; only a backup that has won did this before
 abbrev pub line_of : PairEvent → Roles → Option Replay → Line
-line_of (Won who) r replay = Line.Won r.primary replay
+line_of (Won Backup) r replay = Line.Won r.primary replay
+line_of (Won who) r replay = Line.Won r.primary None
 line_of Copies r replay = Line.Copies r.next
 line_of (Begins generation) r replay = begun generation r r.backup
 line_of Alone r replay = Line.Alone r.primary

@@ -14,7 +14,7 @@ use Rattle.pair_events.specs.declared.event.Event.TheVariants.{TypeByte}
 use Rattle.command_ending.specs.Reports.{AddsLine}
 use Rattle.command_ending.specs.declared.failure.Failure.{Failure}
 use Rattle.command_ending.specs.declared.failure.Failure.TheVariants.{OutOfMemory, InputOrOutput, Stalled}
-use Rattle.command_live.specs.Saving.{images_of}
+use Rattle.command_live.specs.Saving.{AreWhole, are_attached, images_of}
 use Rattle.command_line.specs.declared.live_order.Asker.{Asker}
 use Rattle.command_line.specs.declared.live_order.Asker.TheVariants as asker
 use Rattle.command_line.specs.declared.live_order.LiveOrder.{LiveOrder}
@@ -63,7 +63,7 @@ AreBooted setup given sectors = (address : SectorAddress) → IsTrue (has_sector
     → sectors address ≡ bytes_with_all given address (replicate SECTOR_BYTES 0)
 
 -- how a generation of the Altair of a setup ends, if its disk had these sectors and these bytes were typed at its ports: who
--- goes on alone, what its terminals have accepted, and the images of the disks that are saved
+-- goes on alone, what its terminals have accepted, and the whole images of the disks that are saved
 pub record EndsOf (setup : ScriptSetup) (given : List SectorWrite) (typed0 typed1 saved : List ℕ) (winner : Option Who)
     (screens : List (List ℕ)) (images : List ℕ) : Type 0 where
   pub sectors : SectorAddress → List ℕ
@@ -77,6 +77,7 @@ pub record EndsOf (setup : ScriptSetup) (given : List SectorWrite) (typed0 typed
   pub exact : Bool
   pub ends : EndsBy (altair setup.guest sectors) exact typed0 typed1 winner primary backup held screens records s t
   pub images_are : images ≡ images_of records saved
+  pub whole : AreWhole images saved
 
 -- these bytes are what lines type at each port
 abbrev pub AreTyped : List Line → List ℕ → List ℕ → Type 0
@@ -130,13 +131,14 @@ PrintsNone Stalled old new = Keeps old new
 PrintsNone InputOrOutput old new = Unit {0}
 PrintsNone failure old new = ⊥
 
--- an end with these screens and this disk is printed, and these are the images of the disks that are saved
+-- an end with these screens and this disk is printed, and these are the whole images of the disks that are saved
 pub record PrintsScreens (winner : Option Who) (screens : List (List ℕ)) (records : List Record) (saved images : List ℕ)
     (old new : Option (List ℕ)) : Type 0 where
   pub first : List ℕ
   pub second : List ℕ
   pub screens_are : screens ≡ first ∷ second ∷ []
   pub images_are : images ≡ images_of records saved
+  pub whole : AreWhole images saved
   pub printed : AddsLine (Some (end_text first second winner)) old new
 
 abbrev pub TellsScreens : Option Who → List (List ℕ) → List Record → List ℕ → Result (Vec ℕ) Failure
@@ -150,13 +152,14 @@ abbrev pub Tells : ScriptSetup → List SectorWrite → List ℕ → List ℕ �
 Tells setup given typed0 typed1 order result old new = MatchResult result
     (λ images. TellsEnd setup given typed0 typed1 order images.items old new) (λ failure. PrintsNone failure old new)
 
--- the end is printed, and then its images
+-- the end is printed, and then its images, which are of drives of the setup
 pub record PrintsEnd (setup : ScriptSetup) (given : List SectorWrite) (typed0 typed1 : List ℕ) (order : LiveOrder)
     (old new : Option (List ℕ)) : Type 0 where
   pub images : List ℕ
   pub told : Option (List ℕ)
   pub tells : TellsEnd setup given typed0 typed1 order images old told
   pub printed : Appends told new images
+  pub attached : IsTrue (are_attached setup.guest.drives order.saved.items)
 
 abbrev pub PrintsLive : ScriptSetup → List SectorWrite → List ℕ → List ℕ → LiveOrder → Result (Unit {0}) Failure
     → Option (List ℕ) → Option (List ℕ) → Type 0

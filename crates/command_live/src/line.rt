@@ -66,13 +66,15 @@ fn peer_of(who: Who, primary: u32, backup: u32) -> u32
     }
 }
 
-/// What is told of an event, after which these hosts run the machine. If a backup has won, this is what it did before it was alone.
+/// What is told of an event, after which these hosts run the machine. If a backup has won, this is what it did before it was alone; a
+/// primary that has won, though a backup asked too, has repeated nothing.
 pub fn line_of(event: PairEvent, roles: Roles, replay: Option<Replay>) -> Line
     ensures { result ≡ line_of event roles replay }
 {
     let host = roles.primary;
     match (event, roles.backup) {
-        (PairEvent::Won(_), _) => Line::Won { host, replay },
+        (PairEvent::Won(Who::Backup), _) => Line::Won { host, replay },
+        (PairEvent::Won(_), _) => Line::Won { host, replay: None },
         (PairEvent::Copies, _) => Line::Copies { host: roles.next },
         (PairEvent::Begins(generation), Some(backup)) => Line::Begins {
             generation,

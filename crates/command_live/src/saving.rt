@@ -1,20 +1,29 @@
 //! The disks of a pair on threads, as images.
-ghost use Rattle.std.specs.Prelude.{◌≡◌, ◌++◌, ◌<◌, IfOk, OnOk};
-ghost use Rattle.command_live.specs.Saving.{address_at, image_of, images_of};
-ghost use Rattle.shared_disk.specs.Records.{bytes_in};
+ghost use Rattle.std.specs.Prelude.{◌≡◌, ◌++◌, ◌+◌, ◌<◌, All, length, IfOk, OnOk};
+ghost use Rattle.command_live.specs.Saving.{AreWhole, HasDrive, address_at, are_attached, image_of, images_of};
+ghost use Rattle.shared_disk.specs.Records.{IsThere, bytes_in};
 
 use disk_dcdd::{DRIVE_SECTORS, SECTORS, SectorAddress};
 use i8080_words::R;
 use shared_disk::{SectorStore, SharedDisk};
 use std::alloc::Global;
 
-/// The images of these drives, one after another. `Unknown` if one of them is not attached.
+/// Whether each of these drives is one of so many.
+pub(crate) fn are_attached(drives: &[u8], attached: u8) -> bool
+    ensures { result ≡ are_attached attached drives.now }
+{
+    drives.iter().all(|drive| *drive < attached)
+}
+
+/// The images of these drives, one after another, each whole. `Unknown` if the disk lacks one of them.
 pub fn images_of<D: SectorStore>(
     alloc: Global,
     disk: &mut SharedDisk<D>,
     drives: &[u8],
 ) -> R<Vec<u8>>
-    ensures { IfOk result (λ images. images.items ≡ images_of (D.records disk.old) drives.now) }
+    ensures are { IfOk result (λ images. images.items ≡ images_of (D.records disk.old) drives.now) }
+    ensures whole { IfOk result (λ images. AreWhole images.items drives.now) }
+    ensures there { IfOk result (λ _. All (HasDrive (D.records disk.old)) drives.now) }
 {
     let mut images = Vec::new(alloc);
     for drive in drives {
@@ -27,6 +36,8 @@ pub fn images_of<D: SectorStore>(
 fn put_image<D: SectorStore>(disk: &mut SharedDisk<D>, drive: u8, images: &mut Vec<u8>) -> R<()>
     ensures added { OnOk result (images.new.items ≡ images.old.items ++ image_of (D.records disk.old) drive) }
     ensures unchanged { OnOk result (D.records disk.new ≡ D.records disk.old) }
+    ensures longer { OnOk result (length images.new.items ≡ length images.old.items + 337568) }
+    ensures there { OnOk result (HasDrive (D.records disk.old) drive) }
 {
     for place in 0..DRIVE_SECTORS {
         put_sector(disk, address_at(drive, place), images)?;
@@ -54,6 +65,8 @@ fn put_sector<D: SectorStore>(
 ) -> R<()>
     ensures added { OnOk result (images.new.items ≡ images.old.items ++ bytes_in (D.records disk.old) address) }
     ensures unchanged { D.records disk.new ≡ D.records disk.old }
+    ensures longer { OnOk result (length images.new.items ≡ length images.old.items + 137) }
+    ensures there { OnOk result (IsThere (D.records disk.old) address) }
 {
     let sector = disk.get(address)?;
     let bytes = sector.bytes;
