@@ -6,7 +6,8 @@ import signal
 import subprocess
 import xml.etree.ElementTree
 
-from console_sitting import ENTER, ESCAPE, PATIENCE, TOP, AtTerminal, BetweenPipes, ended_at_last, expect, folder, set_size
+from cases import expect
+from console_sitting import ENTER, ESCAPE, PATIENCE, TOP, AtTerminal, BetweenPipes, ended_at_last, folder, set_size
 from emulated import Emulated
 
 CASES = []
