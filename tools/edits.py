@@ -86,7 +86,8 @@ class Body:
 
 
 def bodies(folder, name):
-    """The bodies of the functions of a crate's folder whose full names end with this one."""
+    """The bodies of the functions of a crate's folder whose names, with those of their modules, end with this one. Each has the end of the
+    name by which the prover tells of it."""
     found = []
     for place in sorted(glob.glob(f"{folder}/src/**/*.rt", recursive=True)):
         path = os.path.relpath(place, folder)
@@ -95,9 +96,9 @@ def bodies(folder, name):
         for head, line in enumerate(lines):
             function = re.match(r"( {0,4})(?:pub(?:\([\w: ]+\))? )?(?:const )?(?:unsafe )?fn (\w+)", line)
             if function:
-                full = f"{module_of(path)}{impl_at(lines, head) if function[1] else ''}{function[2]}"
-                if f"::{full}".endswith(f"::{name}"):
-                    found += body_at(full, path, lines, head, function[1])
+                own = f"{impl_at(lines, head)}{function[2]}" if function[1] else f"{module_of(path)}{function[2]}"
+                if f"::{module_of(path) if function[1] else ''}{own}".endswith(f"::{name}"):
+                    found += body_at(own, path, lines, head, function[1])
     return found
 
 
