@@ -6,7 +6,8 @@ import signal
 import subprocess
 import xml.etree.ElementTree
 
-from console_sitting import ENTER, ESCAPE, PATIENCE, TOP, AtTerminal, BetweenPipes, ended_at_last, expect, folder, set_size
+from cases import expect
+from console_sitting import ENTER, ESCAPE, PATIENCE, TOP, AtTerminal, BetweenPipes, ended_at_last, folder, set_size
 from emulated import Emulated
 
 CASES = []
@@ -244,15 +245,16 @@ def a_picture_has_what_became_of_the_hosts(command):
 def a_picture_that_cannot_be_written_is_named_with_the_reason(command):
     with folder() as room, ended_at_last(AtTerminal(command())) as console:
         console.await_shown(b"MONITOR\r\n*")
+        (room / "sub").mkdir()
         refusals = [
             (f"picture {room / 'none/a.svg'}", rb"none/a.svg is not written: No such file or directory"),
-            (f"picture {room}", rb"%s is not written: Is a directory" % os.fsencode(room)),
+            (f"picture {room / 'sub'}", rb"/sub is not written: Is a directory"),
             ("picture", rb"picture\r\n`picture` is followed by the name of a file"),
         ]
         for line, why in refusals:
             console.say(line)
             console.await_said(why)
-        expect(os.listdir(room), [], "the files")
+        expect(os.listdir(room), ["sub"], "the files")
         program = os.readlink(f"/proc/{console.program()}/exe")
         expect(console.quit(), 0, "the status")
     alone = subprocess.run([program, "console"], input=b"\x05picture a.svg\r\x05quit\r", capture_output=True, timeout=PATIENCE)

@@ -13,6 +13,8 @@ import tempfile
 import termios
 import time
 
+from cases import Differs
+
 TOP = pathlib.Path(__file__).resolve().parent.parent
 
 # How long anything may take that is waited for, in seconds.
@@ -31,16 +33,6 @@ mem 000D F3 7B BD C2 1D 00 7A BC C2 1D 00 FB 76 C3 0D 00
 mem 001D FB DB 10 E6 02 CA 1E 00 1A 13 D3 11 C3 0D 00
 mem 0038 F5 DB 11 77 23 F1 FB C9
 """
-
-
-class Differs(Exception):
-    """What is not as it must be."""
-
-
-def expect(found, wanted, of):
-    """Whether what was found of something is what it must be."""
-    if found != wanted:
-        raise Differs(f"{of}: {found!r:.300}, and not {wanted!r:.300}")
 
 
 def command_of(program, *words):
@@ -154,13 +146,13 @@ class AtTerminal(Console):
     """A console at a terminal of its own, of so many rows and columns if that is said. What is said beside the guest's output comes through
     a pipe, or to the terminal too."""
 
-    def __init__(self, words, is_apart=True, size=(0, 0), kind="xterm"):
+    def __init__(self, words, is_apart=True, size=(0, 0), kind="xterm", cwd=None):
         self.terminal, self.other = pty.openpty()
         self.mode = termios.tcgetattr(self.other)
         set_size(self.other, size)
         said = subprocess.PIPE if is_apart else self.other
         how = {"stdin": self.other, "stdout": self.other, "stderr": said, "start_new_session": True}
-        how["env"] = {**os.environ, "TERM": kind}
+        how["env"], how["cwd"] = {**os.environ, "TERM": kind}, cwd
         how["preexec_fn"] = lambda: fcntl.ioctl(0, termios.TIOCSCTTY, 0)
         run = subprocess.Popen(words, **how)
         super().__init__(run, self.terminal, {self.terminal: "shown"} | ({run.stderr.fileno(): "said"} if is_apart else {}))

@@ -33,17 +33,12 @@ sys.path.insert(0, os.path.dirname(os.path.realpath(__file__)))
 import disks
 import last_row
 from files import hex_lines, image_in, place_in, read, save
-from options import complain, count_in, drives_in, key_lines, memory_line, numbered, sense_line, spelled, taken
+from options import complain, drives_in, key_lines, memory_line, numbered, sense_line, spelled, taken
 from output import Output
 from screen import Screen
 from story import Story
 
 MONITOR = os.path.join(os.path.dirname(os.path.dirname(os.path.realpath(__file__))), "examples/guests/monitor.hex")
-# How many spare hosts there are at most, and what may become of a packet.
-MOST_SPARES = 97
-FATES = {"pass", "drop", "twice"}
-# What a log may have of a sector that is read.
-READS = {"logged", "shared"}
 # Where lines about the pair may appear; and how one of them begins that a program hands over, and how a wish for a picture.
 WHERE = {"row", "here"}
 LINE, WISH = b"pair: ", b"picture "
@@ -65,27 +60,6 @@ def escape_in(word):
     return str(ord(named[1].upper()) ^ 0x40 if named else int(word, 16))
 
 
-def spares_in(word):
-    """The number of spare hosts."""
-    if count_in("--spares", word, 0) > MOST_SPARES:
-        complain(f"--spares {word}: expected a number from 0 to {MOST_SPARES}")
-    return word
-
-
-def link_in(word):
-    """What becomes of packets of the link."""
-    if not FATES.issuperset(word.split(",")):
-        complain(f"--link {word}: expected `pass`, `drop` and `twice`, with commas between them")
-    return word
-
-
-def reads_in(word):
-    """What the log has of a sector that is read."""
-    if word not in READS:
-        complain(f"--reads {word}: expected `logged` or `shared`")
-    return word
-
-
 def where_in(word):
     """Where lines about the pair appear."""
     if word not in WHERE:
@@ -94,7 +68,7 @@ def where_in(word):
 
 
 # The options that are handed on to the program, each with what becomes of its value.
-HANDED_ON = {"--spares": spares_in, "--link": link_in, "--escape": escape_in, "--reads": reads_in}
+HANDED_ON = {"--spares": str, "--link": str, "--escape": escape_in, "--reads": str}
 
 
 class Asked:
@@ -262,6 +236,14 @@ class Run:
         return 128 + number if number else self.program.returncode
 
 
+def refuse(path, words):
+    """Ends this command as the program ends if it does not take these words. It says so before it gives its help, which is asked for too."""
+    asked = subprocess.run([path, "console", *words, "--help"], stdin=subprocess.DEVNULL, capture_output=True)
+    if asked.stderr.startswith(b"error: "):
+        os.write(2, asked.stderr)
+        sys.exit(asked.returncode)
+
+
 def begin(thread):
     """Starts a thread that does not keep the command from ending."""
     thread.daemon = True
@@ -337,6 +319,7 @@ def main(path, command, *words):
     if not HELP.isdisjoint(words):
         os.execv(path, [path, command, "--help"])
     asked = Asked(words)
+    refuse(path, asked.own)
     # A byte that guests seldom send, FS, and what nobody can guess.
     mark = f"\x1c{secrets.token_hex(16)}"
     run = Run()

@@ -1,5 +1,6 @@
 """Edits of a crate: the texts that one makes, the functions that it is in, and a check of a copy of the crate with those texts."""
 
+import glob
 import os
 import re
 import shutil
@@ -67,6 +68,52 @@ def function_at(text, at):
     return None
 
 
+class Body:
+    """The body of a function, in a file of a crate's folder: its lines after the one that begins it, up to the one that ends it."""
+
+    def __init__(self, name, path, lines, head, first, last):
+        self.name, self.path, self.lines, self.first, self.last = name, path, lines, first, last
+        self.head = "\n".join(lines[head:first])
+
+    def replaced(self, text):
+        """The text of the file with other lines in place of the body's."""
+        return "\n".join([*self.lines[: self.first], *text.split("\n"), *self.lines[self.last :]])
+
+    def answers(self, folder):
+        """The files of proofs/ with answers for this function alone: they are in a folder named for it, in one named for its type or module."""
+        places = glob.glob(f"{folder}/proofs/**/{'/'.join(self.name.split('::')[-2:])}/*.antt", recursive=True)
+        return [os.path.relpath(it, folder) for it in places]
+
+
+def bodies(folder, name):
+    """The bodies of the functions of a crate's folder whose names, with those of their modules, end with this one. Each has the end of the
+    name by which the prover tells of it."""
+    found = []
+    for place in sorted(glob.glob(f"{folder}/src/**/*.rt", recursive=True)):
+        path = os.path.relpath(place, folder)
+        with open(place, encoding="utf-8") as file:
+            lines = file.read().split("\n")
+        for head, line in enumerate(lines):
+            function = re.match(r"( {0,4})(?:pub(?:\([\w: ]+\))? )?(?:const )?(?:unsafe )?fn (\w+)", line)
+            if function:
+                own = f"{impl_at(lines, head)}{function[2]}" if function[1] else f"{module_of(path)}{function[2]}"
+                if f"::{module_of(path) if function[1] else ''}{own}".endswith(f"::{name}"):
+                    found += body_at(own, path, lines, head, function[1])
+    return found
+
+
+def body_at(name, path, lines, head, margin):
+    """The body of the function whose head begins at a line, if it has one; one that is empty ends where it begins."""
+    ends = re.compile(rf"{margin}\{{\}}?|.*[^ ] \{{\}}?|.*;")
+    first = next(it for it in range(head, len(lines)) if ends.fullmatch(lines[it]) and not re.match(r" *(ensures|requires|decreases|#)", lines[it]))
+    if lines[first].endswith(";"):
+        return []
+    if lines[first].endswith("{}"):
+        lines = [*lines[:first], lines[first][:-1], f"{margin}}}", *lines[first + 1 :]]
+    last = lines.index(f"{margin}}}", first)
+    return [Body(name, path, lines, head, first + 1, last)]
+
+
 def impl_at(lines, number):
     """The type, and the trait if there is one, of the impl in which this line is, and the two colons after them."""
     for at in range(number, -1, -1):
@@ -123,13 +170,16 @@ def write_texts(texts, folder):
             file.write(text)
 
 
-def check(crate, texts, kept, *flags):
-    """Checks a copy of a crate with these texts in place of its own, over what kept holds; the status, and what was said."""
+def check(crate, texts, kept, *flags, without=()):
+    """Checks a copy of a crate with these texts in place of its own, and without some of its files, over what kept holds; the status, and
+    what was said."""
     with tempfile.TemporaryDirectory(prefix="edit-") as room:
         for part in PARTS:
             if os.path.isdir(f"{crate.folder}/{part}"):
                 shutil.copytree(f"{crate.folder}/{part}", f"{room}/{part}")
         write_texts(texts, room)
+        for path in without:
+            os.unlink(f"{room}/{path}")
         words = [f"{toolchain()}/bin/rattle", "check", *crate.words(1), "--incremental", kept, *flags]
         how = {"stdin": subprocess.DEVNULL, "stdout": subprocess.PIPE, "stderr": subprocess.STDOUT, "text": True}
         ran = subprocess.run(words, cwd=room, errors="replace", **how)
