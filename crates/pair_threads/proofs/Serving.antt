@@ -7,10 +7,11 @@ use Rattle.std.specs.Option.{option_map, option_map_or}
 use Rattle.pair_threads.proofs.Words.{AllAre, Core, DiskAnswer, DiskView, Empties, Fills, FirstsAgree, FirstsAgreeOf, Has, IsDiskOf, IsFirst, IsStore, LooksAt, Record, SectorAddress, SectorRead, SectorRecord, SectorWrite, Serves, WasRead, address_of, all_more, at_boot, bytes_in, latest, put_by, record_after, same_address, same_some}
 use Rattle.shared_disk.specs.Arrivals.{after_put, read_address, read_at, read_of}
 use Rattle.shared_disk.specs.Records.{IsThere, IsUnwritten, record_at}
+use Rattle.pair_threads.specs.Ending.{KeepsSectors}
 use Rattle.pair_threads.specs.Turns.{Leaves}
 use Rattle.pair_threads.specs.declared.worker.Turn.{Turn}
 use Rattle.pair_threads.specs.declared.worker.Turn.TheVariants.{Moved, Looks, Waits, Ends}
-use Rattle.shared_disk.proofs.Arriving.{known_put}
+use Rattle.shared_disk.proofs.Arriving.{known_put, record_at-put}
 use Rattle.pair_protocol.proofs.Promises.OneMore.{latest-one}
 use Rattle.pair_rule.proofs.Elements.{all_in}
 use Rattle.pair_rule.specs.declared.mailbox.Mailbox.TheVariants.{Answers, Lookups, Requests, Sectors}
@@ -47,6 +48,24 @@ written old new write there is boots view taken disk =
           (subst (λ rs. IsDiskOf boots rs (view.puts ++ write ∷ [])) (sym is)
           (after_write boots old view.puts disk write met.0 met.1)),
     )
+
+-- ---- the sectors stay
+
+one_or_other : (here : Bool) (r : Record) (o : Option Record) → IsSome o → IsSome (cond here (Some r) o)
+one_or_other true r o there = refl
+one_or_other false r o there = there
+
+-- a write takes none away
+pub put_keeps : (old new : List Record) (write : SectorWrite) → IsThere old (address_of write) → new ≡ after_put old write
+    → KeepsSectors old new
+put_keeps old new write there is a at =
+    let met = is_there (record_at old (address_of write)) there in
+    subst (λ rs. IsThere rs a) (sym is)
+    (subst (λ (o : Option Record). IsSome o) (sym (record_at-put old write met.0 a met.1))
+    (one_or_other (same_address (address_of write) a) _ (record_at old a) at))
+
+pub same_keep : (old new : List Record) → new ≡ old → KeepsSectors old new
+same_keep old new same a at = subst (λ rs. IsThere rs a) (sym same) at
 
 -- ---- a sector is read
 

@@ -63,10 +63,11 @@ module _ {B S : Type 0} (state : B → S) (N : Machine S) (exact : Bool) (boot :
       }
 
   pub of_run : (goes : Option Who) → goes ≡ winner_named winner
-      → (goes ≡ None → primary.asked ≤ length primary.answers) → length disk.given ≤ disk.takes
-      → IsOfRun M p.port0.typed.items p.port1.typed.items goes p.list.items b.guest.list.items held screens records
+      → (goes ≡ None → primary.asked ≤ length primary.answers) → length disk.given ≤ disk.takes → (waiting : Option Entry)
+      → waiting ≡ p.guest.waiting
+      → IsOfRun M p.port0.typed.items p.port1.typed.items goes p.list.items b.guest.list.items held waiting screens records
       (state p.guest.board) (state b.guest.board)
-  of_run goes is rests served = record {
+  of_run goes is rests served waiting waits = record {
     known = settled.known;
     run = ran;
     shown = λ C may copies. runs_shown (λ M C w new e r row. row_changes M C w new e r row)
@@ -81,12 +82,11 @@ module _ {B S : Type 0} (state : B → S) (N : Machine S) (exact : Bool) (boot :
     screens_are = ap (λ (t : TerminalView). accepted_after 0 (map arrival_of t.arrivals0)
         ∷ accepted_after 0 (map arrival_of t.arrivals1) ∷ []) (sym settled.terminal_is);
     disk_is = there.kept;
-    waiting = p.guest.waiting;
     primary_at = record {
       moves = leads.0.moves;
       recorded = Recorded-booted N boot (bytes_in first) boot (state p.guest.board) leads.0.moves leads.0.runs;
       entries_are = ap (λ c. entries Logged c leads.0.moves) (sym zero_at) ∙ leads.0.entries_are
-          ∙ ap (λ l. longer_by l p.guest.waiting) (sym p.same);
+          ∙ ap (λ l. longer_by l p.guest.waiting) (sym p.same) ∙ ap (longer_by p.list.items) (sym waits);
     };
     replayed = b.guest.replayed;
     backup_at = record {

@@ -1,5 +1,5 @@
 -- What the turns of a backup are.
-use Rattle.std.specs.Prelude.{◌≡◌, ◌⊎◌, not, ℕ, Bool, true, false, if◌then◌else◌, Option, Some, None, is_none, is_some, option_map}
+use Rattle.std.specs.Prelude.{◌≡◌, ◌⊎◌, ◌<◌, not, ℕ, Bool, true, false, if◌then◌else◌, List, length, Option, Some, None, is_none, is_some, option_map}
 use Rattle.disk_dcdd.specs.declared.address.SectorAddress.{SectorAddress}
 use Rattle.log_entry.specs.declared.entry.Entry.{Entry}
 use Rattle.pair_rule.specs.declared.mailbox.Mailbox.TheVariants.{Inbox, Lookups, Sectors}
@@ -52,6 +52,10 @@ FindsSector asks old new past all turn =
     × (new.known.backup ≡ with_sector old.known.backup found)
     × (new.known.backup.list ≡ longer_by old.known.backup.list entry) × (asks ≡ is_none entry)
     × (turn ≡ turn_of_take (is_some entry) past all)
+
+-- once its list has grown, its guest makes at most 1,000 steps before the next look
+abbrev pub LooksSoon : List Entry → List Entry → ℕ → Type 0
+LooksSoon old new stride = length old < length new → stride ≡ 1000
 
 -- by the sector that it wants, and whether it has asked for it: as long as it wants one, it takes no packet
 abbrev pub Takes : Option NamedSector → Bool → Bool → Core → Core → Bool → Bool → Turn → Type 0

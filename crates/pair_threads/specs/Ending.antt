@@ -15,7 +15,7 @@ use Rattle.pair_protocol.specs.Faithful.{IsAllBut, IsPrefix, MayHave}
 use Rattle.pair_rule.specs.declared.view.Knowledge.{Knowledge}
 use Rattle.pair_threads.specs.declared.gate.Who.{Who}
 use Rattle.pair_threads.specs.declared.gate.Who.TheVariants.{Primary, Backup}
-use Rattle.shared_disk.specs.Records.{record_at}
+use Rattle.shared_disk.specs.Records.{IsThere, record_at}
 use Rattle.shared_disk.specs.declared.store.Record.{Record}
 
 -- who goes on alone, by the word of the table
@@ -60,6 +60,10 @@ EachScreen Fits port (screen ∷ screens) = Fits port screen × EachScreen Fits 
 -- each sector
 abbrev pub EachSector : (SectorAddress → List ℕ → Type 0) → List Record → Type 0
 EachSector Fits records = (address : SectorAddress) (r : Record) → record_at records address ≡ Some r → Fits address r.bytes
+
+-- each sector that was on the disk is still there
+abbrev pub KeepsSectors : List Record → List Record → Type 0
+KeepsSectors old new = (address : SectorAddress) → IsThere old address → IsThere new address
 
 -- the trace of the list up to its last count: the terminals have accepted its output, or all of it but the last bytes of a
 -- window; and each sector has the bytes of its disk, or of an outstanding write

@@ -23,10 +23,10 @@ pub record HasMade {S : Type 0} (M : Machine S) (list : List Entry) (s : S) : Ty
   pub entries_are : entries Logged 0 moves ≡ list
 
 -- what steps of the threads led to: the lists, what is acknowledged, who goes on alone, what the terminals have accepted, and
--- the disk; the primary's guest has made the run of its list, or has one more entry that waits; the backup's has replayed
--- the first of its own; and if nobody goes on alone, nothing is under way between primary and disk
+-- the disk; the primary's guest has made the run of its list and of the entry that waits for it, if one does; the backup's has
+-- replayed the first of its own; and if nobody goes on alone, nothing is under way between primary and disk
 pub record IsOfRun {S : Type 0} (M : Machine S) (typed0 typed1 : List ℕ) (winner : Option Who) (primary backup : List Entry)
-    (held : ℕ) (screens : List (List ℕ)) (records : List Record) (s t : S) : Type 0 where
+    (held : ℕ) (waiting : Option Entry) (screens : List (List ℕ)) (records : List Record) (s t : S) : Type 0 where
   pub known : Knowledge
   pub run : ThreadRun M typed0 typed1 known
   pub shown : (C : Copying S) → Runnable M → IsCopying M C → IsShown M C typed0 typed1 known
@@ -36,7 +36,6 @@ pub record IsOfRun {S : Type 0} (M : Machine S) (typed0 typed1 : List ℕ) (winn
   pub winner_is : winner ≡ winner_named (winner_of known.primary.winner known.backup.winner)
   pub screens_are : screens ≡ bytes_accepted 0 known ∷ bytes_accepted 1 known ∷ []
   pub disk_is : IsDiskOf M.boot_sector records known.disk.puts
-  pub waiting : Option Entry
   pub primary_at : HasMade M (longer_by primary waiting) s
   pub replayed : ℕ
   pub backup_at : HasMade M (take replayed backup) t

@@ -1,8 +1,8 @@
 //! The backup's worker: it takes packets, looks up sectors that they only name, acknowledges its list, repeats its entries, and
 //! may go on alone.
-ghost use Rattle.std.specs.Prelude.{◌≡◌, ◌≢◌, ◌<◌, ◌≤◌, Bool, cond, min, [], false, true, length, is_some, option_map, Option, IfErr, IfOk, IsTrue, OnOk};
+ghost use Rattle.std.specs.Prelude.{◌≡◌, ◌≢◌, ◌<◌, ◌≤◌, ◌*◌, ◌^◌, ◌-◌, Bool, cond, min, [], false, true, length, is_some, option_map, Option, IfErr, IfOk, IsTrue, OnOk};
 ghost use Rattle.pair_rule.specs.Seats.{HasSwapsLeft};
-ghost use Rattle.pair_threads.specs.BackupTurns.{FindsSector, IsTurnOf, LooksUp, Takes, TakesPacket, next_chore, turn_of_asking, turn_of_draining, turn_of_nothing, turn_of_replay, turn_of_take};
+ghost use Rattle.pair_threads.specs.BackupTurns.{FindsSector, IsTurnOf, LooksSoon, LooksUp, Takes, TakesPacket, next_chore, turn_of_asking, turn_of_draining, turn_of_nothing, turn_of_replay, turn_of_take};
 ghost use Rattle.pair_threads.specs.Ending.{IsEnding};
 ghost use Rattle.pair_threads.specs.Repeating.{Advances, FollowsFor, GoesOn, IsAt, Repeats, has_all, has_run_ahead, is_far_behind};
 ghost use Rattle.pair_threads.specs.Turns.{Leaves};
@@ -118,6 +118,7 @@ impl<B: Lockstep> BackupWorker<B> {
         ensures leaves { Leaves result (Unit {0}) ⊥ }
         ensures turn { IfOk result (λ turn. Takes self.old.seat.core.known.backup.wanted self.old.asked self.new.asked
             self.old.seat.core self.new.seat.core self.new.guest.between (has_all self.new.guest) turn) }
+        ensures stride { OnOk result (LooksSoon self.old.guest.list.items self.new.guest.list.items self.new.stride) }
         ensures refused { IfErr result IsEnding }
     {
         if !self.seat.has_swaps_left() {
@@ -144,6 +145,7 @@ impl<B: Lockstep> BackupWorker<B> {
         ensures leaves { Leaves result (Unit {0}) ⊥ }
         ensures turn { IfOk result (λ turn. TakesPacket self.new.asked self.old.seat.core self.new.seat.core
             self.new.guest.between (has_all self.new.guest) turn) }
+        ensures stride { OnOk result (LooksSoon self.old.guest.list.items self.new.guest.list.items self.new.stride) }
         ensures refused { IfErr result IsEnding }
     {
         self.guest.list.reserve()?;
@@ -192,6 +194,7 @@ impl<B: Lockstep> BackupWorker<B> {
         ensures leaves { Leaves result (Unit {0}) ⊥ }
         ensures turn { IfOk result (λ turn. FindsSector self.new.asked self.old.seat.core self.new.seat.core
             self.new.guest.between (has_all self.new.guest) turn) }
+        ensures stride { OnOk result (LooksSoon self.old.guest.list.items self.new.guest.list.items self.new.stride) }
         ensures refused { IfErr result IsEnding }
     {
         self.guest.list.reserve()?;
@@ -348,7 +351,7 @@ impl<B: Lockstep> BackupWorker<B> {
 
 // How many steps its guest makes at most before the next look, after one in which nothing had arrived.
 fn longer(stride: u64) -> u64
-    ensures { stride ≤ result }
+    ensures { result ≡ min (stride * 2) (2 ^ 64 - 1) }
 {
     stride.saturating_mul(2)
 }

@@ -7,7 +7,7 @@ ghost use Rattle.pair_rule.specs.Knowledge.{StartsWith};
 ghost use Rattle.pair_rule.specs.Rules.{IsStart};
 ghost use Rattle.pair_rule.specs.Threads.{bytes_accepted};
 ghost use Rattle.pair_threads.specs.Asking.{MayBeWatched, WonOver};
-ghost use Rattle.pair_threads.specs.Ending.{EndsBy, IsEnding, NoneUnderWay};
+ghost use Rattle.pair_threads.specs.Ending.{EndsBy, IsEnding, KeepsSectors, NoneUnderWay};
 ghost use Rattle.pair_threads.specs.Leading.{by_port};
 ghost use Rattle.pair_threads.specs.Keeping.{HasKept};
 ghost use Rattle.pair_threads.specs.Left.{LeavesBy};
@@ -85,6 +85,7 @@ pub fn run_generation_at<
         → IfOk result (λ e. EndsBy (booted_from B.machine boot (bytes_in first)) false e.typed0.items e.typed1.items
         e.winner e.primary.items e.backup.items e.held (map (λ v. v.items) e.accepted)
         (D.records e.disk) (B.state e.primary_board) (B.state e.backup_board)) }
+    ensures there { IfOk result (λ e. KeepsSectors (D.records resumed.workers.disk) (D.records e.disk)) }
     ensures over { IfOk result (IsOver resumed.workers.typed0.items resumed.workers.typed1.items resumed.lines
         (resumed.accepted.0.items ∷ resumed.accepted.1.items ∷ [])) }
     ensures left { (boot : B.State) (first : List Record) (exact : Bool)
@@ -105,7 +106,7 @@ pub fn run_generation_at<
         (by_port resumed.start.accepted0 resumed.start.accepted1 0) (B.state resumed.workers.primary)
         (B.state resumed.workers.backup) (D.records resumed.workers.disk)
         → IfOk result (λ e. IsOfRun (booted_from B.machine boot (bytes_in first)) e.typed0.items e.typed1.items
-        e.winner e.primary.items e.backup.items e.held (map (λ v. v.items) e.accepted)
+        e.winner e.primary.items e.backup.items e.held e.waiting (map (λ v. v.items) e.accepted)
         (D.records e.disk) (B.state e.primary_board) (B.state e.backup_board)) }
 {
     let Resumed {

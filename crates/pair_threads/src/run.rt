@@ -9,7 +9,7 @@ ghost use Rattle.pair_lines.specs.Lines.{HasShown, IsSameStart};
 ghost use Rattle.pair_lines.specs.declared.lines.Lines.{Lines};
 ghost use Rattle.pair_threads.specs.Asking.{HasAsked, MayBeWatched, IsUnplanned, WonAs, WonOver};
 ghost use Rattle.pair_threads.specs.declared.plan.Asking.{Asking};
-ghost use Rattle.pair_threads.specs.Ending.{EachScreen, EndsBy, IsEnding, WonBy, winner_named};
+ghost use Rattle.pair_threads.specs.Ending.{EachScreen, EndsBy, IsEnding, KeepsSectors, WonBy, winner_named};
 ghost use Rattle.pair_threads.specs.Keeping.{HasKept};
 ghost use Rattle.pair_threads.specs.Left.{LeavesBy};
 ghost use Rattle.pair_threads.specs.Primary.{IsAtRest, WorkerKeeps, WorkerLeads};
@@ -214,6 +214,8 @@ fn conclude<B: Lockstep + Drop, D: SectorStore>(
     ensures boards { IfOk result (λ e. (e.primary_board ≡ primary.guest.board) × (e.backup_board ≡ backup.guest.board)) }
     ensures typed { IfOk result (λ e. (e.typed0.items ≡ primary.port0.typed.items)
         × (e.typed1.items ≡ primary.port1.typed.items)) }
+    ensures there { (first : List Record) → KeepsSectors first (D.records disk.disk)
+        → IfOk result (λ e. KeepsSectors first (D.records e.disk)) }
     ensures over { (typed0 typed1 : List ℕ) (lines : Lines) (screens : List (List ℕ))
         → IsTyped (typed0, lines.keyboard0) (typed_with primary.port0)
         → IsTyped (typed1, lines.keyboard1) (typed_with primary.port1)
@@ -243,7 +245,7 @@ fn conclude<B: Lockstep + Drop, D: SectorStore>(
         → IsAt B.state B.machine exact boot backup.guest
         → IsStore (bytes_in first) (D.records disk.disk) disk.seat.core.known.disk
         → IfOk result (λ e. IsOfRun (booted_from B.machine boot (bytes_in first)) e.typed0.items e.typed1.items e.winner
-        e.primary.items e.backup.items e.held (map (λ v. v.items) e.accepted) (D.records e.disk) (B.state e.primary_board)
+        e.primary.items e.backup.items e.held e.waiting (map (λ v. v.items) e.accepted) (D.records e.disk) (B.state e.primary_board)
         (B.state e.backup_board)) }
 {
     let parts = take_apart(primary, link, backup, terminal, disk);
@@ -337,6 +339,8 @@ pub(crate) fn finish<B: Lockstep + Drop, D: SectorStore>(
         → IfOk result (λ e. EndsBy (booted_from B.machine boot (bytes_in first)) exact e.typed0.items e.typed1.items
         e.winner e.primary.items e.backup.items e.held (map (λ v. v.items) e.accepted) (D.records e.disk)
         (B.state e.primary_board) (B.state e.backup_board)) }
+    ensures there { (first : List Record) → OnOk five.disk.1 (KeepsSectors first (D.records five.disk.0.disk))
+        → IfOk result (λ e. KeepsSectors first (D.records e.disk)) }
     ensures over { (typed0 typed1 : List ℕ) (lines : Lines) (screens : List (List ℕ))
         → OnOk five.primary.1 (IsTyped (typed0, lines.keyboard0) (typed_with five.primary.0.port0)
         × IsTyped (typed1, lines.keyboard1) (typed_with five.primary.0.port1))
@@ -358,7 +362,7 @@ pub(crate) fn finish<B: Lockstep + Drop, D: SectorStore>(
         → OnOk five.backup.1 (IsAt B.state B.machine exact boot five.backup.0.guest)
         → OnOk five.disk.1 (IsStore (bytes_in first) (D.records five.disk.0.disk) five.disk.0.seat.core.known.disk)
         → IfOk result (λ e. IsOfRun (booted_from B.machine boot (bytes_in first)) e.typed0.items e.typed1.items e.winner
-        e.primary.items e.backup.items e.held (map (λ v. v.items) e.accepted) (D.records e.disk) (B.state e.primary_board)
+        e.primary.items e.backup.items e.held e.waiting (map (λ v. v.items) e.accepted) (D.records e.disk) (B.state e.primary_board)
         (B.state e.backup_board)) }
 {
     let Five {
@@ -410,12 +414,13 @@ pub fn run_generation_over<
     ensures ends { IfOk result (λ e. EndsBy (booted_from B.machine (B.state workers.primary) (bytes_in (D.records workers.disk)))
         (not watched) e.typed0.items e.typed1.items e.winner e.primary.items e.backup.items e.held
         (map (λ v. v.items) e.accepted) (D.records e.disk) (B.state e.primary_board) (B.state e.backup_board)) }
+    ensures there { IfOk result (λ e. KeepsSectors (D.records workers.disk) (D.records e.disk)) }
     ensures over { IfOk result (IsOver workers.typed0.items workers.typed1.items lines ([] ∷ [] ∷ [])) }
     ensures left { IfOk result (λ e. LeavesBy (booted_from B.machine (B.state workers.primary) (bytes_in (D.records workers.disk)))
         e.typed0.items e.typed1.items e.winner e.primary.items e.backup.items e.waiting
         (map (λ v. v.items) e.accepted) (D.records e.disk) (B.state e.primary_board) (B.state e.backup_board)) }
     ensures ran { IfOk result (λ e. IsOfRun (booted_from B.machine (B.state workers.primary) (bytes_in (D.records workers.disk)))
-        e.typed0.items e.typed1.items e.winner e.primary.items e.backup.items e.held
+        e.typed0.items e.typed1.items e.winner e.primary.items e.backup.items e.held e.waiting
         (map (λ v. v.items) e.accepted) (D.records e.disk) (B.state e.primary_board) (B.state e.backup_board)) }
 {
     let (fabric, seats) = Fabric::open(alloc, 1)?;
@@ -475,6 +480,7 @@ pub fn run_generation<
     ensures prefix { IfOk result (λ e. StartsWith e.primary.items e.backup.items) }
     ensures whole { IfOk result (λ e. (e.primary.forgotten ≡ 0) × (e.backup.forgotten ≡ 0)) }
     ensures typed { IfOk result (λ e. (e.typed0.items ≡ workers.typed0.items) × (e.typed1.items ≡ workers.typed1.items)) }
+    ensures there { IfOk result (λ e. KeepsSectors (D.records workers.disk) (D.records e.disk)) }
     ensures ends { IfOk result (λ e. EndsBy (booted_from B.machine (B.state workers.primary) (bytes_in (D.records workers.disk)))
         true e.typed0.items e.typed1.items e.winner e.primary.items e.backup.items e.held
         (map (λ v. v.items) e.accepted) (D.records e.disk) (B.state e.primary_board) (B.state e.backup_board)) }
@@ -482,7 +488,7 @@ pub fn run_generation<
         e.typed0.items e.typed1.items e.winner e.primary.items e.backup.items e.waiting
         (map (λ v. v.items) e.accepted) (D.records e.disk) (B.state e.primary_board) (B.state e.backup_board)) }
     ensures ran { IfOk result (λ e. IsOfRun (booted_from B.machine (B.state workers.primary) (bytes_in (D.records workers.disk)))
-        e.typed0.items e.typed1.items e.winner e.primary.items e.backup.items e.held
+        e.typed0.items e.typed1.items e.winner e.primary.items e.backup.items e.held e.waiting
         (map (λ v. v.items) e.accepted) (D.records e.disk) (B.state e.primary_board) (B.state e.backup_board)) }
 {
     run_generation_over(

@@ -107,16 +107,31 @@ impl Signals {
     /// had then. If its guest has made no step, nothing is new.
     pub fn leads(&self, lead: Lead) {
         if self.steps.load(Ordering::SeqCst) != lead.steps {
-            self.entries.store(lead.entries, Ordering::SeqCst);
-            self.steps.store(lead.steps, Ordering::SeqCst);
+            self.steps.store(self.says_entries(lead), Ordering::SeqCst);
         }
+    }
+
+    // Says how many entries the primary has. Returns the steps that may be said once that is said.
+    fn says_entries(&self, lead: Lead) -> u64
+        ensures { result ≡ lead.steps }
+    {
+        self.entries.store(lead.entries, Ordering::SeqCst);
+        lead.steps
     }
 
     /// How far the primary is; its steps are looked at first.
     pub fn lead(&self) -> Lead {
-        let steps = self.steps.load(Ordering::SeqCst);
-        let entries = self.entries.load(Ordering::SeqCst);
-        Lead { entries, steps }
+        self.lead_at(self.steps.load(Ordering::SeqCst))
+    }
+
+    // How far it is that was found to have made so many steps before its entries are looked at.
+    fn lead_at(&self, steps: u64) -> Lead
+        ensures { result.steps ≡ steps }
+    {
+        Lead {
+            entries: self.entries.load(Ordering::SeqCst),
+            steps,
+        }
     }
 
     /// The backup's guest has made so many steps.

@@ -2,6 +2,7 @@
 ghost use Rattle.std.specs.Prelude.{◌≡◌, ◌≤◌, ℕ, List, length, not, is_some, None, Some, IfOk, OnErr};
 ghost use Rattle.disk_dcdd.specs.declared.address.SectorAddress.{SectorAddress};
 ghost use Rattle.pair_rule.specs.Seats.{HasSwapsLeft};
+ghost use Rattle.pair_threads.specs.Ending.{KeepsSectors};
 ghost use Rattle.pair_threads.specs.Serving.{ServesFor};
 ghost use Rattle.pair_threads.specs.Stores.{IsStore, LooksAt, Serves};
 ghost use Rattle.pair_threads.specs.Turns.{disk_turn, is_changed};
@@ -42,6 +43,7 @@ impl<D: SectorStore> DiskWorker<D> {
         ensures store { (boots : SectorAddress → List ℕ)
             → IsStore boots (D.records self.old.disk) self.old.seat.core.known.disk
             → IsStore boots (D.records self.new.disk) self.new.seat.core.known.disk }
+        ensures there { KeepsSectors (D.records self.old.disk) (D.records self.new.disk) }
         ensures served { ServesFor self.old.for_backup (self.old.request, self.old.lookup)
             (self.new.request, self.new.lookup) result }
         ensures same { (self.new.for_backup ≡ self.old.for_backup) × (self.new.quiet ≡ self.old.quiet) }
@@ -63,6 +65,7 @@ impl<D: SectorStore> DiskWorker<D> {
         ensures store { (boots : SectorAddress → List ℕ)
             → IsStore boots (D.records self.old.disk) self.old.seat.core.known.disk
             → IsStore boots (D.records self.new.disk) self.new.seat.core.known.disk }
+        ensures there { KeepsSectors (D.records self.old.disk) (D.records self.new.disk) }
         ensures moved { result ≡ is_changed (is_some self.old.request) (is_some self.new.request) }
         ensures same { (self.new.lookup ≡ self.old.lookup) × (self.new.for_backup ≡ self.old.for_backup)
             × (self.new.quiet ≡ self.old.quiet) }
@@ -82,6 +85,7 @@ impl<D: SectorStore> DiskWorker<D> {
         ensures store { (boots : SectorAddress → List ℕ)
             → IsStore boots (D.records self.old.disk) self.old.seat.core.known.disk
             → IsStore boots (D.records self.new.disk) self.new.seat.core.known.disk }
+        ensures there { KeepsSectors (D.records self.old.disk) (D.records self.new.disk) }
         ensures moved { result ≡ is_some self.new.request }
         ensures same { (self.new.lookup ≡ self.old.lookup) × (self.new.for_backup ≡ self.old.for_backup)
             × (self.new.quiet ≡ self.old.quiet) }
@@ -101,6 +105,7 @@ impl<D: SectorStore> DiskWorker<D> {
         ensures store { (boots : SectorAddress → List ℕ)
             → IsStore boots (D.records self.old.disk) self.old.seat.core.known.disk
             → IsStore boots (D.records self.new.disk) self.new.seat.core.known.disk }
+        ensures there { KeepsSectors (D.records self.old.disk) (D.records self.new.disk) }
         ensures moved { result ≡ not (is_some self.new.request) }
         ensures same { (self.new.lookup ≡ self.old.lookup) × (self.new.for_backup ≡ self.old.for_backup)
             × (self.new.quiet ≡ self.old.quiet) }
@@ -123,6 +128,7 @@ impl<D: SectorStore> DiskWorker<D> {
         ensures store { (boots : SectorAddress → List ℕ)
             → IsStore boots (D.records self.old.disk) self.old.seat.core.known.disk
             → IsStore boots (D.records self.new.disk) self.new.seat.core.known.disk }
+        ensures there { KeepsSectors (D.records self.old.disk) (D.records self.new.disk) }
         ensures moved { result ≡ is_changed (is_some self.old.lookup) (is_some self.new.lookup) }
         ensures same { (self.new.request ≡ self.old.request) × (self.new.for_backup ≡ self.old.for_backup)
             × (self.new.quiet ≡ self.old.quiet) }
@@ -142,6 +148,7 @@ impl<D: SectorStore> DiskWorker<D> {
         ensures store { (boots : SectorAddress → List ℕ)
             → IsStore boots (D.records self.old.disk) self.old.seat.core.known.disk
             → IsStore boots (D.records self.new.disk) self.new.seat.core.known.disk }
+        ensures there { KeepsSectors (D.records self.old.disk) (D.records self.new.disk) }
         ensures moved { result ≡ is_some self.new.lookup }
         ensures same { (self.new.request ≡ self.old.request) × (self.new.for_backup ≡ self.old.for_backup)
             × (self.new.quiet ≡ self.old.quiet) }
@@ -161,6 +168,7 @@ impl<D: SectorStore> DiskWorker<D> {
         ensures store { (boots : SectorAddress → List ℕ)
             → IsStore boots (D.records self.old.disk) self.old.seat.core.known.disk
             → IsStore boots (D.records self.new.disk) self.new.seat.core.known.disk }
+        ensures there { KeepsSectors (D.records self.old.disk) (D.records self.new.disk) }
         ensures moved { result ≡ not (is_some self.new.lookup) }
         ensures same { (self.new.request ≡ self.old.request) × (self.new.for_backup ≡ self.old.for_backup)
             × (self.new.quiet ≡ self.old.quiet) }
@@ -175,9 +183,11 @@ impl<D: SectorStore> DiskWorker<D> {
 }
 
 // What the disk does about a request, and its answer. If it fails, nothing has changed.
+#[tactic(auto, using(crate::proofs::Serving::put_keeps, crate::proofs::Serving::same_keep))]
 fn answer<D: SectorStore>(disk: &mut SharedDisk<D>, request: &DiskRequest) -> R<DiskAnswer>
     ensures serves { IfOk result (λ a. Serves (D.records disk.old) request.now a (D.records disk.new)) }
     ensures unchanged { OnErr result (D.records disk.new ≡ D.records disk.old) }
+    ensures there { KeepsSectors (D.records disk.old) (D.records disk.new) }
 {
     match request {
         DiskRequest::Write(write) => {
@@ -189,9 +199,11 @@ fn answer<D: SectorStore>(disk: &mut SharedDisk<D>, request: &DiskRequest) -> R<
 }
 
 // What the disk has of a sector that is looked up. Nothing changes there.
+#[tactic(auto, using(crate::proofs::Serving::same_keep))]
 fn look_up<D: SectorStore>(disk: &mut SharedDisk<D>, address: SectorAddress) -> R<SectorRead>
     ensures found { IfOk result (λ r. LooksAt (D.records disk.old) address r (D.records disk.new)) }
     ensures unchanged { D.records disk.new ≡ D.records disk.old }
+    ensures there { KeepsSectors (D.records disk.old) (D.records disk.new) }
 {
     disk.get(address)
 }
@@ -209,6 +221,7 @@ fn turn_after(moved: bool, quiet: bool) -> Turn
 impl<D: SectorStore> Worker for DiskWorker<D> {
     ghost use Rattle.std.specs.Prelude.{ℕ, List, ◌&&◌, false};
     ghost use Rattle.disk_dcdd.specs.declared.address.SectorAddress.{SectorAddress};
+    ghost use Rattle.pair_threads.specs.Ending.{KeepsSectors};
     ghost use Rattle.pair_threads.specs.Serving.{HasServed};
     ghost use Rattle.pair_threads.specs.Stores.{IsStore};
 
@@ -216,9 +229,10 @@ impl<D: SectorStore> Worker for DiskWorker<D> {
 
     ghost ready = { λ w. (boots : SectorAddress → List ℕ) × IsStore boots (D.records w.disk) w.seat.core.known.disk };
 
-    ghost came = { λ first w. (boots : SectorAddress → List ℕ)
+    ghost came = { λ first w. ((boots : SectorAddress → List ℕ)
         → IsStore boots (D.records first.disk) first.seat.core.known.disk
-        → IsStore boots (D.records w.disk) w.seat.core.known.disk };
+        → IsStore boots (D.records w.disk) w.seat.core.known.disk)
+        × KeepsSectors (D.records first.disk) (D.records w.disk) };
 
     ghost ended = { λ w. Unit {0} };
 

@@ -9,6 +9,7 @@ use Rattle.pair_threads.specs.Repeating.{Repeats}
 use Rattle.shared_disk.specs.Records.{bytes_in}
 use Rattle.pair_threads.specs.Stores.{IsStore}
 use Rattle.pair_threads.specs.Asking.{asking_of}
+use Rattle.pair_threads.specs.Ending.{KeepsSectors}
 use Rattle.pair_threads.specs.Typing.{IsTyped, typed_with}
 use Rattle.pair_threads.proofs.Repeating.{loosely}
 use Rattle.pair_threads.proofs.Showing.{shows_began}
@@ -108,7 +109,7 @@ returns-clause-ends g c = λ boot first exact lawful begins.
     (on_ok_weaker served.result.primary.1 (λ end. end.0.4 boot (c.resume.ensures.leads boot leads says)) served.ensures.primary.1)
     (on_ok_weaker served.result.backup.1 (λ end. end.0.2 false boot (c.resume-2.ensures.at false boot repeats)) served.ensures.backup.1)
     (on_ok_weaker served.result.backup.1 (λ end stands. absurd (false≢true stands)) served.ensures.backup.1)
-    (on_ok_weaker served.result.disk.1 (λ end. end.0 (bytes_in first) store) served.ensures.disk.1)
+    (on_ok_weaker served.result.disk.1 (λ end. end.0.0 (bytes_in first) store) served.ensures.disk.1)
 
 pub returns-clause-left : goal.returns-clause-left
 returns-clause-left g c = λ boot first exact lawful begins.
@@ -137,7 +138,7 @@ returns-clause-left g c = λ boot first exact lawful begins.
     c.finish.ensures.left boot first exact lawful
     (on_ok_weaker served.result.primary.1 (λ end. end.0.4 boot (c.resume.ensures.leads boot leads says)) served.ensures.primary.1)
     (on_ok_weaker served.result.backup.1 (λ end. end.0.2 exact boot (c.resume-2.ensures.at exact boot repeats)) served.ensures.backup.1)
-    (on_ok_weaker served.result.disk.1 (λ end. end.0 (bytes_in first) store) served.ensures.disk.1)
+    (on_ok_weaker served.result.disk.1 (λ end. end.0.0 (bytes_in first) store) served.ensures.disk.1)
 
 pub returns-clause-over : goal.returns-clause-over
 returns-clause-over g c =
@@ -194,7 +195,7 @@ returns-clause-ran g c = λ boot first exact lawful begins.
     (on_ok_weaker served.result.primary.1 (λ end. end.0.4 boot leads) served.ensures.primary.1)
     (on_ok_weaker served.result.primary.1 (λ end. end.0.5 boot leads kept) served.ensures.primary.1)
     (on_ok_weaker served.result.backup.1 (λ end. end.0.2 exact boot (c.resume-2.ensures.at exact boot repeats)) served.ensures.backup.1)
-    (on_ok_weaker served.result.disk.1 (λ end. end.0 (bytes_in first) store) served.ensures.disk.1)
+    (on_ok_weaker served.result.disk.1 (λ end. end.0.0 (bytes_in first) store) served.ensures.disk.1)
 
 pub returns-clause-kept : goal.returns-clause-kept
 returns-clause-kept g c =
@@ -204,3 +205,11 @@ returns-clause-kept g c =
     ∙ c.plans_of.ensures.keeps.0) served.ensures.primary.1)
     (on_ok_weaker served.result.backup.1 (λ end. ap (λ (p : Plan). p.keeps) (end.0.0 ∙ c.resume-2.ensures.plan.0)
     ∙ c.plans_of.ensures.keeps.1) served.ensures.backup.1)
+
+pub returns-clause-there : goal.returns-clause-there
+returns-clause-there g c =
+    let served = c.work-served in
+    let records = g.D.SectorStore.records in
+    c.finish.ensures.there (records c.args.resumed.workers.disk)
+    (on_ok_weaker served.result.disk.1 (λ end. subst (λ r. KeepsSectors r (records served.result.disk.0.disk))
+    (ap records c.new-2.ensures.disk) end.0.1) served.ensures.disk.1)

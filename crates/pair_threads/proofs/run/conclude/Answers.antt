@@ -7,7 +7,7 @@ use Rattle.pair_rule.specs.Seats.{Seat}
 use Rattle.guest_lockstep.specs.Machine.{booted_from}
 use Rattle.pair_lines.specs.Lines.{HasShown, IsSameStart}
 use Rattle.pair_lines.specs.declared.screen.Screen.{Screen}
-use Rattle.pair_threads.specs.Ending.{EachScreen}
+use Rattle.pair_threads.specs.Ending.{EachScreen, KeepsSectors}
 use Rattle.pair_threads.specs.Left.{LeavesBy}
 use Rattle.pair_threads.specs.Shown.{IsOfRun}
 use Rattle.shared_disk.specs.Records.{bytes_in}
@@ -94,7 +94,8 @@ returns-clause-ran g c = λ boot first exact lawful leads kept at store.
     (ap (λ (x : Seat). x.core.known.terminal) parts.seats.2) (ap (λ (x : Seat). x.core.known.disk) parts.seats.3)
     c.close-closed.ensures in
     let goes = c.winner_of-winner.result in
-    all_so (λ a b l r n k x y. IsOfRun (booted_from g.B.Lockstep.machine boot (bytes_in first)) a b goes l r closed.held n k x y)
+    all_so (λ a b l r n k x y. IsOfRun (booted_from g.B.Lockstep.machine boot (bytes_in first)) a b goes l r closed.held
+    c.take_apart-parts.result.waiting n k x y)
     parts_typed0 parts_typed1 p.port0.typed.items p.port1.typed.items _ _ _ _ _ _ _ _ _ _ _ _
     (sym (ap (λ (v : Vec ℕ Global). v.items) parts.typed.0)) (sym (ap (λ (v : Vec ℕ Global). v.items) parts.typed.1))
     (ap (λ (v : Written). v.items) parts.lists.0) (ap (λ (v : Written). v.items) parts.lists.1)
@@ -108,7 +109,11 @@ returns-clause-ran g c = λ boot first exact lawful leads kept at store.
           absurd (false≢true (sym (ap is_some none) ∙ w.is_none.ensures ∙ ap not w.if-is_none.false))
       | else-undecided-via-else-undecided w ↦ w.if-undecided.false
     ])).asks_nothing)
-    (let few = c.args.disk.requests in omega (arith, few)))
+    (let few = c.args.disk.requests in omega (arith, few)) c.take_apart-parts.result.waiting parts.waiting)
+
+pub returns-clause-there : goal.returns-clause-there
+returns-clause-there g c = λ first there.
+    subst (KeepsSectors first) (sym (ap g.D.SectorStore.records c.take_apart-parts.ensures.disk)) there
 
 pub returns-clause-over : goal.returns-clause-over
 returns-clause-over g c = λ typed0 typed1 lines screens keys0 keys1 same shown.

@@ -49,3 +49,10 @@ returns-clause-ran g c = λ boot first exact lawful leads kept at store.
     let last = came c.failure_of-2.result others.1 c.failure_of-2.ensures.both in
     c.conclude.ensures.ran boot first exact lawful (came c.args.five.primary.1 guests.0 leads)
     (came c.args.five.primary.1 guests.0 kept) (came c.args.five.backup.1 guests.1 at) (came c.args.five.disk.1 last.1 store)
+
+pub returns-clause-there : goal.returns-clause-there
+returns-clause-there g c = λ first there.
+    let all = c.in_ok-failure_of.ensures.both in
+    let others = came c.failure_of-3.result all.1 c.failure_of-3.ensures.both in
+    let last = came c.failure_of-2.result others.1 c.failure_of-2.ensures.both in
+    c.conclude.ensures.there first (came c.args.five.disk.1 last.1 there)

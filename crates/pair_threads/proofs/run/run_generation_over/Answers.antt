@@ -8,6 +8,7 @@ use Rattle.pair_threads.specs.Repeating.{IsAt}
 use Rattle.pair_threads.specs.Stores.{IsStore}
 use Rattle.shared_disk.specs.Records.{IsUnwritten, bytes_in}
 use Rattle.pair_threads.specs.Asking.{asking_of}
+use Rattle.pair_threads.specs.Ending.{KeepsSectors}
 use Rattle.pair_threads.specs.Typing.{IsTyped, typed_with}
 use Rattle.pair_threads.proofs.Showing.{shows_began}
 use Rattle.pair_threads.proofs.Typing.{typed_began}
@@ -25,7 +26,7 @@ work-served-requires-clause-disk g c κs within =
     (subst IsUnwritten (sym (ap g.D.SectorStore.records made.disk)) c.requires.unwritten) in (
       ap (λ (x : Seat). x.table) made.seat ∙ opened.one.4,
       (bytes_in (g.D.SectorStore.records c.new-7.result.disk), store),
-      λ boots same. same,
+      (λ boots same. same, λ address there. there),
     )
 
 pub finish-requires-clause-backup : goal.finish-requires-clause-backup
@@ -64,7 +65,7 @@ returns-clause-ends g c =
     served.ensures.backup.1)
     (on_ok_weaker served.result.disk.1
     (λ end. subst (λ r. IsStore (bytes_in r) (records served.result.disk.0.disk) served.result.disk.0.seat.core.known.disk)
-    (ap records c.new-7.ensures.disk) (end.0 (bytes_in (records c.new-7.result.disk)) store)) served.ensures.disk.1)
+    (ap records c.new-7.ensures.disk) (end.0.0 (bytes_in (records c.new-7.result.disk)) store)) served.ensures.disk.1)
 
 pub returns-clause-left : goal.returns-clause-left
 returns-clause-left g c =
@@ -87,7 +88,7 @@ returns-clause-left g c =
     served.ensures.backup.1)
     (on_ok_weaker served.result.disk.1
     (λ end. subst (λ r. IsStore (bytes_in r) (records served.result.disk.0.disk) served.result.disk.0.seat.core.known.disk)
-    (ap records c.new-7.ensures.disk) (end.0 (bytes_in (records c.new-7.result.disk)) store)) served.ensures.disk.1)
+    (ap records c.new-7.ensures.disk) (end.0.0 (bytes_in (records c.new-7.result.disk)) store)) served.ensures.disk.1)
 
 pub returns-clause-over : goal.returns-clause-over
 returns-clause-over g c =
@@ -139,7 +140,7 @@ returns-clause-ran g c =
     served.ensures.backup.1)
     (on_ok_weaker served.result.disk.1
     (λ end. subst (λ r. IsStore (bytes_in r) (records served.result.disk.0.disk) served.result.disk.0.seat.core.known.disk)
-    (ap records c.new-7.ensures.disk) (end.0 (bytes_in (records c.new-7.result.disk)) store)) served.ensures.disk.1)
+    (ap records c.new-7.ensures.disk) (end.0.0 (bytes_in (records c.new-7.result.disk)) store)) served.ensures.disk.1)
 
 pub returns-clause-kept : goal.returns-clause-kept
 returns-clause-kept g c =
@@ -149,3 +150,11 @@ returns-clause-kept g c =
     ∙ c.plans_of.ensures.keeps.0) served.ensures.primary.1)
     (on_ok_weaker served.result.backup.1 (λ end. ap (λ (p : Plan). p.keeps) (end.0.0 ∙ c.new-5.ensures.plan.0)
     ∙ c.plans_of.ensures.keeps.1) served.ensures.backup.1)
+
+pub returns-clause-there : goal.returns-clause-there
+returns-clause-there g c =
+    let served = c.work-served in
+    let records = g.D.SectorStore.records in
+    c.finish.ensures.there (records c.args.workers.disk)
+    (on_ok_weaker served.result.disk.1 (λ end. subst (λ r. KeepsSectors r (records served.result.disk.0.disk))
+    (ap records c.new-7.ensures.disk) end.0.1) served.ensures.disk.1)
