@@ -1,5 +1,5 @@
-//! Tests of the seats of a table, of a generation on threads, and of what is told of a takeover, over public items: a crate of their own,
-//! so that `pair_rule`, `pair_threads` and `command_live` are proved once.
+//! Tests of the seats of a table and of a generation on threads, over public items: a crate of their own, so that both
+//! `pair_rule` and `pair_threads` are proved once.
 #![tactic(auto)]
 
 #[cfg(test)]
@@ -8,5 +8,3 @@ mod console;
 mod generations;
 #[cfg(test)]
 mod seats;
-#[cfg(test)]
-mod takeovers;
