@@ -125,6 +125,7 @@ pub(crate) fn plans_of(
     ensures contested { result.1.contested ≡ result.0.contested }
     ensures keeps { (result.0.keeps ≡ keeps) × (result.1.keeps ≡ keeps) }
     ensures reads { (result.0.reads ≡ reads) × (result.1.reads ≡ reads) }
+    ensures steps { (result.0.steps ≡ max steps 1) × (result.1.steps ≡ max steps 1) }
 {
     let contested = is_contested(primary, backup, watched);
     let lead = Plan::new(

@@ -1,5 +1,5 @@
 //! The chores of a primary's worker at the disk.
-ghost use Rattle.std.specs.Prelude.{◌≡◌, ◌≢◌, ◌<◌, ◌↔◌, true, Some, IfSome, IsTrue};
+ghost use Rattle.std.specs.Prelude.{◌≡◌, ◌≢◌, ◌<◌, ◌↔◌, false, true, None, Some, IfSome, IsTrue};
 ghost use Rattle.disk_dcdd.specs.declared.controller.TheConstants.{DRIVES};
 ghost use Rattle.disk_dcdd.specs.declared.sector.TheConstants.{SECTORS};
 ghost use Rattle.event_callbacks.specs.declared.operations.OpId.TheVariants as id;
@@ -7,6 +7,7 @@ ghost use Rattle.event_callbacks.specs.declared.operations.Operation.TheVariants
 ghost use Rattle.pair_rule.specs.Seats.{HasSwapsLeft};
 ghost use Rattle.pair_threads.specs.Choosing.{due_sector, due_write, is_write, next_sector};
 ghost use Rattle.pair_threads.specs.Ending.{NoSectorIsDue};
+ghost use Rattle.pair_threads.specs.Naming.{no_sector_waits};
 ghost use Rattle.pair_threads.specs.Primary.{MayAsk, Works};
 ghost use Rattle.std.specs.List.{find};
 
@@ -165,6 +166,8 @@ impl<B: Lockstep> PrimaryWorker<B> {
     pub(super) fn complete(&mut self) -> bool
         ensures works { Works B.state B.machine self.old self.new }
         ensures taken { result ≡ true → self.new.answer ≢ self.old.answer }
+        ensures passed { self.old.guest.waiting ≡ None → no_sector_waits self.new.guest.waiting ≡ false
+            → self.new.sector ≡ next_sector self.old.sector }
     {
         if self.guest.waiting.is_some() {
             return false;
