@@ -1,5 +1,5 @@
 -- Lines that are answered, one after another, and then written.
-use Rattle.std.proofs.Common.{◌≡◌, ℕ, Option, Some, List, [], ◌∷◌, ◌++◌, append-nil, append_assoc, Result, Ok, Err, refl, sym, ap, ◌∙◌, subst, inl, inr}
+use Rattle.std.proofs.Common.{◌≡◌, ℕ, ◌+◌, arith, Option, Some, List, [], ◌∷◌, ◌++◌, append-nil, append_assoc, Result, Ok, Err, refl, sym, ap, ◌∙◌, subst, inl, inr}
 use Rattle.std.specs.Prelude.{◌⊎◌, IfErr, take}
 use Rattle.std.specs.Result.{IsErrAnd}
 use Rattle.std.specs.Io.KnownBytes.{Appends, Keeps, append_known}
@@ -7,11 +7,12 @@ use Rattle.std.proofs.KnownBytes.{Appends-trans}
 use Rattle.altair_copies.specs.Copies.{image_copy}
 use Rattle.disk_dcdd.specs.declared.sector.SectorWrite.{SectorWrite}
 use Rattle.guest_board.specs.Guest.{altair}
+use Rattle.ft_world.specs.Applies.{failures_told}
 use Rattle.guest_lockstep.specs.Machine.{Machine}
 use Rattle.pair_protocol.specs.Copying.{Copying}
 use Rattle.pair_protocol.specs.World.{World}
 use Rattle.command_ending.proofs.Handing.{keeps-appends, settled, settled_kept, settled_line}
-use Rattle.command_script.specs.Answering.{AddsAnswers, Answered, Asks, Booted, ByRow, Happen, NoLine, Nothing, Replies, Tells, text_of}
+use Rattle.command_script.specs.Answering.{AddsAnswers, Answered, AnswersAll, Asks, Booted, ByRow, Happen, NoLine, Nothing, Replies, Tells, text_of}
 use Rattle.command_script.specs.Printing.{AnswersBut, AnswersLines, HandsNone, IsSameAfter, Prints, PrintsBut, PrintsVerdict}
 use Rattle.command_ending.specs.Reports.{AddsLine}
 use Rattle.command_ending.specs.declared.failure.Failure.{Failure}
@@ -31,68 +32,87 @@ text_of-append (text ∷ first) others =
     ∙ sym (append_assoc (text ++ (10 ∷ [])) (text_of first) (text_of others))
 
 module _ {S : Type 0} (M : Machine S) (C : Copying S) where
-  -- the first lines, and the others
-  answered-append : (w mid new : World S) (lines others : List Line) (texts more : List (List ℕ))
-      → Answered M C w lines texts mid → Answered M C mid others more new
-      → Answered M C w (lines ++ others) (texts ++ more) new
-  answered-append w mid new lines others texts more NoLine next = next
-  answered-append w mid new lines others texts more (Replies {mid = v} {lines = ls} {texts = ts} answer row rest) next =
-      Replies answer row (answered-append v mid new ls others ts more rest next)
-  answered-append w mid new lines others texts more (Tells {lines = ls} {texts = ts} finds rest) next =
-      Tells finds (answered-append w mid new ls others ts more rest next)
+  -- the same number of failures in other words
+  recounted : (w new : World S) (lines : List Line) (texts : List (List ℕ)) (n m : ℕ) → n ≡ m
+      → Answered M C w lines texts n new → Answered M C w lines texts m new
+  recounted w new lines texts n m is h = subst (λ k. Answered M C w lines texts k new) is h
 
-  pub happen-append : (w mid new : World S) (lines others : List Line) → Happen M C w lines mid → Happen M C mid others new
-      → Happen M C w (lines ++ others) new
-  happen-append w mid new lines others Nothing next = next
-  happen-append w mid new lines others (ByRow {mid = v} {lines = ls} row rest) next =
-      ByRow row (happen-append v mid new ls others rest next)
-  happen-append w mid new lines others (Asks {lines = ls} rest) next = Asks (happen-append w mid new ls others rest next)
+  -- the first lines, and the others
+  answered-append : (w mid new : World S) (lines others : List Line) (texts more : List (List ℕ)) (n m : ℕ)
+      → Answered M C w lines texts n mid → Answered M C mid others more m new
+      → Answered M C w (lines ++ others) (texts ++ more) (n + m) new
+  answered-append w mid new lines others texts more n m NoLine next = recounted w new others more m (0 + m) (omega arith) next
+  answered-append w mid new lines others texts more n m
+      (Replies {mid = v} {e = e} {lines = ls} {texts = ts} {failures = k} answer row rest) next =
+      recounted w new (lines ++ others) (texts ++ more) (failures_told e answer + (k + m)) ((failures_told e answer + k) + m)
+      (omega arith) (Replies answer row (answered-append v mid new ls others ts more k m rest next))
+  answered-append w mid new lines others texts more n m (Tells {lines = ls} {texts = ts} finds rest) next =
+      Tells finds (answered-append w mid new ls others ts more n m rest next)
+
+  happened-so_often : (w new : World S) (lines : List Line) (n m : ℕ) → n ≡ m → Happen M C w lines n new → Happen M C w lines m new
+  happened-so_often w new lines n m is h = subst (λ k. Happen M C w lines k new) is h
+
+  pub happen-append : (w mid new : World S) (lines others : List Line) (n m : ℕ) → Happen M C w lines n mid
+      → Happen M C mid others m new → Happen M C w (lines ++ others) (n + m) new
+  happen-append w mid new lines others n m Nothing next = happened-so_often w new others m (0 + m) (omega arith) next
+  happen-append w mid new lines others n m (ByRow {mid = v} {e = e} {lines = ls} {failures = k} answer row rest) next =
+      happened-so_often w new (lines ++ others) (failures_told e answer + (k + m)) ((failures_told e answer + k) + m)
+      (omega arith) (ByRow answer row (happen-append v mid new ls others k m rest next))
+  happen-append w mid new lines others n m (Asks {lines = ls} rest) next = Asks (happen-append w mid new ls others n m rest next)
 
   -- no line, and more lines
-  pub adds_none : (w : World S) (old new : Option (List ℕ)) → Keeps old new → AddsAnswers M C w [] old new w
+  pub adds_none : (w : World S) (old new : Option (List ℕ)) → Keeps old new → AddsAnswers M C w [] 0 old new w
   adds_none w old new k = record { texts = []; answered = NoLine; added = keeps-appends old new k }
 
-  pub adds_kept : (w after : World S) (lines : List Line) (old mid new : Option (List ℕ))
-      → AddsAnswers M C w lines old mid after → Keeps mid new → AddsAnswers M C w lines old new after
-  adds_kept w after lines old mid new all k = record {
+  pub adds_kept : (w after : World S) (lines : List Line) (n : ℕ) (old mid new : Option (List ℕ))
+      → AddsAnswers M C w lines n old mid after → Keeps mid new → AddsAnswers M C w lines n old new after
+  adds_kept w after lines n old mid new all k = record {
     texts = all.texts;
     answered = all.answered;
     added = subst (λ bytes. Appends old new bytes) (append-nil (text_of all.texts))
         (Appends-trans old mid new (text_of all.texts) [] all.added (keeps-appends mid new k));
   }
 
-  pub adds_more : (w v after : World S) (lines others : List Line) (old mid next new : Option (List ℕ))
-      → AddsAnswers M C w lines old mid v → Keeps mid next → AddsAnswers M C v others next new after
-      → AddsAnswers M C w (lines ++ others) old new after
-  adds_more w v after lines others old mid next new all k more =
-      let first = adds_kept w v lines old mid next all k in record {
+  pub adds_more : (w v after : World S) (lines others : List Line) (n m : ℕ) (old mid next new : Option (List ℕ))
+      → AddsAnswers M C w lines n old mid v → Keeps mid next → AddsAnswers M C v others m next new after
+      → AddsAnswers M C w (lines ++ others) (n + m) old new after
+  adds_more w v after lines others n m old mid next new all k more =
+      let first = adds_kept w v lines n old mid next all k in record {
         texts = first.texts ++ more.texts;
-        answered = answered-append w v after lines others first.texts more.texts first.answered more.answered;
+        answered = answered-append w v after lines others first.texts more.texts n m first.answered more.answered;
         added = subst (λ bytes. Appends old new bytes) (sym (text_of-append first.texts more.texts))
             (Appends-trans old next new (text_of first.texts) (text_of more.texts) first.added more.added);
       }
 
   -- a line with one answer
-  pub adds_one : (w after : World S) (line : Line) (text : List ℕ) (old new : Option (List ℕ))
-      → Answered M C w (line ∷ []) (text ∷ []) after → AddsLine (Some text) old new
-      → AddsAnswers M C w (line ∷ []) old new after
-  adds_one w after line text old new answers one = record {
+  pub adds_one : (w after : World S) (line : Line) (text : List ℕ) (n : ℕ) (old new : Option (List ℕ))
+      → Answered M C w (line ∷ []) (text ∷ []) n after → AddsLine (Some text) old new
+      → AddsAnswers M C w (line ∷ []) n old new after
+  adds_one w after line text n old new answers one = record {
     texts = text ∷ [];
     answered = answers;
     added = subst (λ bytes. Appends old new bytes) (one.is_shown ∙ sym (append-nil (text ++ (10 ∷ [])))) one.added;
   }
 
+  all_kept : (w : World S) (lines : List Line) (old mid new : Option (List ℕ)) → AnswersAll M C w lines old mid → Keeps mid new
+      → AnswersAll M C w lines old new
+  all_kept w lines old mid new all k = record {
+    after = all.after;
+    failures = all.failures;
+    once = all.once;
+    adds = adds_kept w all.after lines all.failures old mid new all.adds k;
+  }
+
   -- a failure after the first answers
-  pub fails_after : (w after : World S) (lines : List Line) (n : ℕ) (e : Failure) (old mid next new : Option (List ℕ))
-      → AddsAnswers M C w (take n lines) old mid after → Keeps mid next → HandsNone e next new
-      → AnswersBut M C w lines e old new
-  fails_after w after lines n failure.OutOfMemory old mid next new all k h =
-      (n, after, adds_kept w after (take n lines) old next new (adds_kept w after (take n lines) old mid next all k) h)
-  fails_after w after lines n failure.InputOrOutput old mid next new all k h = tt
-  fails_after w after lines n (failure.CommandLine text) old mid next new all k h = h
-  fails_after w after lines n (failure.BadScript line) old mid next new all k h = h
-  fails_after w after lines n failure.Stalled old mid next new all k h = h
-  fails_after w after lines n failure.Differs old mid next new all k h = h
+  pub fails_after : (w : World S) (lines : List Line) (n : ℕ) (e : Failure) (old mid next new : Option (List ℕ))
+      → AnswersAll M C w (take n lines) old mid → Keeps mid next → HandsNone e next new → AnswersBut M C w lines e old new
+  fails_after w lines n failure.OutOfMemory old mid next new all k h =
+      (n, all_kept w (take n lines) old next new (all_kept w (take n lines) old mid next all k) h)
+  fails_after w lines n failure.InputOrOutput old mid next new all k h = tt
+  fails_after w lines n (failure.CommandLine text) old mid next new all k h = h
+  fails_after w lines n (failure.BadScript line) old mid next new all k h = h
+  fails_after w lines n failure.Stalled old mid next new all k h = h
+  fails_after w lines n failure.Differs old mid next new all k h = h
 
   -- if input or output fails, nothing is claimed
   pub fails_broken : (w : World S) (lines : List Line) (e : Failure) (old new : Option (List ℕ)) → e ≡ failure.InputOrOutput
@@ -109,18 +129,23 @@ hands_none (Err e) old new kept (inl is) =
 hands_none (Err e) old new kept (inr is) = subst (λ f. HandsNone f old new) (sym is) tt
 
 module _ (a b c : Option (List ℕ)) (first rest : List ℕ) (none : first ≡ []) (q : Appends b c rest) where
-  settled_lines : {S : Type 0} (M : Machine S) (C : Copying S) (w after : World S) (lines : List Line)
-      → AddsAnswers M C w lines (append_known a first) (append_known b rest) after → AddsAnswers M C w lines a c after
-  settled_lines M C w after lines all = record {
-    texts = all.texts;
-    answered = all.answered;
-    added = settled a b c first rest (text_of all.texts) none all.added q;
+  settled_lines : {S : Type 0} (M : Machine S) (C : Copying S) (w : World S) (lines : List Line)
+      → AnswersAll M C w lines (append_known a first) (append_known b rest) → AnswersAll M C w lines a c
+  settled_lines M C w lines all = record {
+    after = all.after;
+    failures = all.failures;
+    once = all.once;
+    adds = record {
+      texts = all.adds.texts;
+      answered = all.adds.answered;
+      added = settled a b c first rest (text_of all.adds.texts) none all.adds.added q;
+    };
   }
 
   settled_answers_but : {S : Type 0} (M : Machine S) (C : Copying S) (w : World S) (lines : List Line) (e : Failure)
       → AnswersBut M C w lines e (append_known a first) (append_known b rest) → AnswersBut M C w lines e a c
   settled_answers_but M C w lines failure.OutOfMemory h =
-      (h.0, h.1, settled_lines M C w h.1 (take h.0 lines) h.2)
+      (h.0, settled_lines M C w (take h.0 lines) h.1)
   settled_answers_but M C w lines failure.InputOrOutput h = tt
   settled_answers_but M C w lines (failure.CommandLine text) h = h
   settled_answers_but M C w lines (failure.BadScript line) h = h
@@ -139,13 +164,8 @@ module _ (a b c : Option (List ℕ)) (first rest : List ℕ) (none : first ≡ [
   pub settled_prints : (order : Order) (setup : ScriptSetup) (sectors : List SectorWrite) (lines : List Line) (result : Result (Unit {0}) Failure)
       → Prints order setup sectors lines result (append_known a first) (append_known b rest)
       → Prints order setup sectors lines result a c
-  settled_prints Script setup sectors lines (Ok done) h = (
-    h.0,
-    (
-      h.1.0,
-      settled_lines (altair setup.guest h.0.start) (image_copy setup.guest.drives) h.0.world h.1.0 lines h.1.1,
-    ),
-  )
+  settled_prints Script setup sectors lines (Ok done) h =
+      (h.0, settled_lines (altair setup.guest h.0.start) (image_copy setup.guest.drives) h.0.world lines h.1)
   settled_prints Script setup sectors lines (Err e) h =
       (h.0, settled_answers_but (altair setup.guest h.0.start) (image_copy setup.guest.drives) h.0.world lines e h.1)
   settled_prints Check setup sectors lines (Ok done) h = (h.0, (h.1.0, h.1.1, settled_line a b c first rest none q _ h.1.2))
@@ -167,7 +187,15 @@ prints_nothing order setup sectors lines booted (Ok done) old new is k = absurd 
 prints_nothing Script setup sectors lines booted (Err e) old new is k = (
   booted,
   subst (λ f. AnswersBut (altair setup.guest booted.start) (image_copy setup.guest.drives) booted.world lines f old new)
-      (sym is) (0, booted.world, adds_none (altair setup.guest booted.start) (image_copy setup.guest.drives) booted.world old new k),
+      (sym is) (
+        0,
+        record {
+          after = booted.world;
+          failures = 0;
+          once = omega arith;
+          adds = adds_none (altair setup.guest booted.start) (image_copy setup.guest.drives) booted.world old new k;
+        },
+      ),
 )
 prints_nothing Check setup sectors lines booted (Err e) old new is k =
     (booted, subst (λ f. PrintsBut (IsSameAfter setup sectors booted lines) f old new) (sym is) k)

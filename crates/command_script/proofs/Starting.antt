@@ -16,10 +16,11 @@ use Rattle.shared_disk.specs.Failing.{records_in}
 use Rattle.command_script.specs.Answering.{Happen}
 use Rattle.command_script.specs.Printing.{AnswersLines, IsSameAfter, Prints, PrintsVerdict}
 use Rattle.command_script.specs.Running.{HaveHappened}
-use Rattle.command_script.specs.Telling.{HaveTold, IsToldOf, Told}
+use Rattle.command_script.specs.Telling.{HaveTold, IsToldOf, Told, failures_in_all}
 use Rattle.command_ending.specs.declared.failure.Failure.{Failure}
 use Rattle.command_script.specs.declared.order.Order.TheVariants.{Script, Check}
 use Rattle.command_script.proofs.Answering.{says_more}
+use Rattle.command_script.proofs.Lines.{fails_once}
 use Rattle.script_language.specs.declared.line.Line.{Line}
 use Rattle.ft_world.specs.Running.{Running}
 use Rattle.guest_parts.specs.Guest.{Guest}
@@ -110,7 +111,7 @@ module _ {B H : Type 0} (state : B → Guest) (setup : ScriptSetup) (lines given
   pub prints_verdict : ShownIsSame B H → (checked : List SectorWrite) → checked ≡ wanted
       → (after : Running B H Disk) (result : Result (Unit {0}) Failure) (old new : Option (List ℕ))
       → ((c : Course Guest) → Shows state state some_altair records_in v c
-      → HaveHappened state state some_altair c given after)
+      → HaveHappened state state some_altair c given v after)
       → ((c : Course Guest) → Shows state state some_altair records_in after c
       → PrintsVerdict (IsVerdictOn (altair setup.guest (boot_sectors checked)) setup.guest.drives (machine_of some_altair c)
       c.world after.disk.store) result old new)
@@ -125,7 +126,9 @@ module _ {B H : Type 0} (state : B → Guest) (setup : ScriptSetup) (lines given
             (IsSameAfter setup wanted booted lines)
             (λ found on. record {
               after = h.after;
-              happen = subst (λ l. Happen (altair setup.guest (bytes_in b.store)) (image_copy setup.guest.drives) b.world l h.after)
+              failures = h.failures;
+              once = fails_once v after h.failures h.counted;
+              happen = subst (λ l. Happen (altair setup.guest (bytes_in b.store)) (image_copy setup.guest.drives) b.world l h.failures h.after)
                   same h.happen;
               same = law state state setup.guest checked (bytes_in b.store) h.after after found
                   (subst (λ l. BeginAlike setup.guest.drives (bytes_in b.store) (boot_sectors l)) (sym checked_are) booted.has_sectors)
@@ -137,7 +140,7 @@ module _ {B H : Type 0} (state : B → Guest) (setup : ScriptSetup) (lines given
   -- by a picture
   pub told_of : (moments : List Moment) (after : Running B H Disk)
       → ((c : Course Guest) → Shows state state some_altair records_in v c
-      → HaveTold state state some_altair c given moments after)
+      → HaveTold state state some_altair c given moments v after)
       → IsToldOf setup wanted lines moments
   unfolding first booted booted_as
   told_of moments after told =
@@ -146,4 +149,5 @@ module _ {B H : Type 0} (state : B → Guest) (setup : ScriptSetup) (lines given
         after = t.after;
         told = subst (λ l. Told (altair setup.guest (bytes_in b.store)) (image_copy setup.guest.drives) b.world l moments t.after)
             same t.told;
+        once = fails_once v after (failures_in_all moments) t.counted;
       }

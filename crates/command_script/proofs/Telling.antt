@@ -1,9 +1,11 @@
 -- A run that is told event after event, in whatever world it shows.
-use Rattle.std.proofs.Common.{◌≡◌, ℕ, ◌+◌, ◌<◌, List, [], ◌∷◌, ◌++◌, append-nil, Result, get_or, length, subst, sym}
+use Rattle.std.proofs.Common.{◌≡◌, ℕ, ◌+◌, ◌<◌, List, [], ◌∷◌, ◌++◌, ◌∙◌, ap, append-nil, arith, Result, get_or, length, subst, sym}
 use Rattle.std.specs.Prelude.{take}
 use Rattle.std.proofs.lemmas.List.{take_more}
-use Rattle.command_script.specs.Telling.{EventTold, HaveTold, NoneTold, QueryPassed, TellsAfter, Told}
-use Rattle.ft_world.specs.Applies.{Happens, Shows}
+use Rattle.command_script.specs.Running.{failed_at}
+use Rattle.command_script.specs.Telling.{EventTold, HaveTold, NoneTold, QueryPassed, TellsAfter, Told, failures_in_all}
+use Rattle.command_script.proofs.Lines.{counts_more, counts_none}
+use Rattle.ft_world.specs.Applies.{Happens, Shows, failures_told}
 use Rattle.ft_world.specs.Running.{Running}
 use Rattle.ft_world.specs.Standing.{Course, machine_of}
 use Rattle.ft_world.specs.Words.{answer_of}
@@ -31,19 +33,29 @@ told-append M C w mid new lines others moments more (EventTold {mid = v} {lines 
 told-append M C w mid new lines others moments more (QueryPassed {lines = ls} rest) next =
     QueryPassed (told-append M C w mid new ls others moments more rest next)
 
+-- their failures are added up
+failures-append : (moments more : List Moment) → failures_in_all (moments ++ more) ≡ failures_in_all moments + failures_in_all more
+failures-append [] more = omega arith
+failures-append (moment ∷ moments) more = omega (arith, failures-append moments more)
+
 module _ {B H S : Type 0} (state : B → S) (copied : B → Guest) (M : Machine S) where
   pub tells_event : (old new : Running B H Disk) (moment : Moment) (happened : Event) (answer : Result Reply Fault)
       (before now : List Moment)
       → moment.event ≡ happened → moment.answer ≡ answer → now ≡ before ++ (moment ∷ [])
       → Happens state copied M records_in old happened answer new
+      → failed_at new ≡ failed_at old + failures_told happened answer
       → TellsAfter state copied M old (line.Event happened ∷ []) before now new
-  tells_event old new moment happened answer before now event is are happens = record {
+  tells_event old new moment happened answer before now event is are happens counted = record {
     moments = moment ∷ [];
     are = are;
     told = λ c shows.
         let a = happens c shows in
         record {
           after = a.after;
+          counted = counts_more (failed_at old) (failed_at new) (failed_at new) (failures_told moment.event moment.answer) 0
+              (subst (λ r. failed_at new ≡ failed_at old + failures_told moment.event r) (sym is)
+              (subst (λ e. failed_at new ≡ failed_at old + failures_told e answer) (sym event) counted))
+              (counts_none (failed_at new));
           told = subst (λ e. Told (machine_of M c) c.copying c.world (line.Event e ∷ []) (moment ∷ []) a.after) event
               (EventTold
               (subst (λ r. Row (machine_of M c) c.copying c.world moment.event (answer_of r) a.after) (sym is)
@@ -58,29 +70,34 @@ module _ {B H S : Type 0} (state : B → S) (copied : B → Guest) (M : Machine 
   tells_no_query v q moments = record {
     moments = [];
     are = sym (append-nil moments);
-    told = λ c shows. record { after = c.world; told = QueryPassed NoneTold; shows = shows };
+    told = λ c shows.
+        record { after = c.world; counted = counts_none (failed_at v); told = QueryPassed NoneTold; shows = shows };
   }
 
   -- ---- line after line
 
   pub told_none : (v : Running B H Disk) (moments : List Moment) → moments ≡ [] → (c : Course S)
-      → Shows state copied M records_in v c → HaveTold state copied M c [] moments v
+      → Shows state copied M records_in v c → HaveTold state copied M c [] moments v v
   told_none v moments none c shows = record {
     after = c.world;
+    counted = subst (λ ms. failed_at v ≡ failed_at v + failures_in_all ms) (sym none) (counts_none (failed_at v));
     told = subst (λ ms. Told (machine_of M c) c.copying c.world [] ms c.world) (sym none) NoneTold;
     shows = shows;
   }
 
   pub told_on : (start mid new : Running B H Disk) (lines : List Line) (k : ℕ) (d : Line) (before now : List Moment)
       → k < length lines
-      → ((c : Course S) → Shows state copied M records_in start c → HaveTold state copied M c (take k lines) before mid)
+      → ((c : Course S) → Shows state copied M records_in start c → HaveTold state copied M c (take k lines) before start mid)
       → TellsAfter state copied M mid (get_or lines k d ∷ []) before now new
-      → (c : Course S) → Shows state copied M records_in start c → HaveTold state copied M c (take (k + 1) lines) now new
+      → (c : Course S) → Shows state copied M records_in start c → HaveTold state copied M c (take (k + 1) lines) now start new
   told_on start mid new lines k d before now low so_far one c shows =
       let f = so_far c shows in
       let o = one.told (record c { world = f.after }) f.shows in
       record {
         after = o.after;
+        counted = counts_more (failed_at start) (failed_at mid) (failed_at new) (failures_in_all before)
+            (failures_in_all one.moments) f.counted o.counted
+            ∙ ap (λ n. failed_at start + n) (sym (ap failures_in_all one.are ∙ failures-append before one.moments));
         told = subst (λ l. Told (machine_of M c) c.copying c.world l now o.after) (sym (take_more lines k d low))
             (subst (λ ms. Told (machine_of M c) c.copying c.world (take k lines ++ (get_or lines k d ∷ [])) ms o.after) (sym one.are)
             (told-append (machine_of M c) c.copying c.world f.after o.after (take k lines) (get_or lines k d ∷ []) before

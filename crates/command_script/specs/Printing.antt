@@ -1,5 +1,5 @@
 -- What a run of a script prints, by how it ends.
-use Rattle.std.specs.Prelude.{ℕ, Option, Some, List, Result, MatchResult, take}
+use Rattle.std.specs.Prelude.{ℕ, ◌≤◌, Option, Some, List, Result, MatchResult, take}
 use Rattle.std.specs.Io.KnownBytes.{Keeps}
 use Rattle.altair_copies.specs.Copies.{image_copy}
 use Rattle.disk_dcdd.specs.declared.sector.SectorWrite.{SectorWrite}
@@ -8,7 +8,7 @@ use Rattle.guest_board.specs.Guest.{altair}
 use Rattle.guest_lockstep.specs.Machine.{Machine}
 use Rattle.pair_protocol.specs.Copying.{Copying}
 use Rattle.pair_protocol.specs.World.{World}
-use Rattle.command_script.specs.Answering.{AddsAnswers, Booted, Happen}
+use Rattle.command_script.specs.Answering.{AnswersAll, Booted, Happen}
 use Rattle.command_ending.specs.Reports.{AddsLine}
 use Rattle.pair_check.specs.Alike.{IsSameAtSettled}
 use Rattle.pair_check.specs.Verdicts.{words_of}
@@ -36,13 +36,13 @@ PrintsVerdict holds result old new = MatchResult result
 -- each line is answered, in order; or only the first ones are, if memory is refused for the next
 abbrev pub AnswersBut : {S : Type 0} → Machine S → Copying S → World S → List Line → Failure → Option (List ℕ)
     → Option (List ℕ) → Type 0
-AnswersBut {S} M C w lines OutOfMemory old new = (some : ℕ) × (after : World S) × AddsAnswers M C w (take some lines) old new after
+AnswersBut M C w lines OutOfMemory old new = (some : ℕ) × AnswersAll M C w (take some lines) old new
 AnswersBut M C w lines InputOrOutput old new = Unit {0}
 AnswersBut M C w lines _ old new = ⊥
 
 abbrev pub AnswersLines : {S : Type 0} → Machine S → Copying S → World S → List Line → Result (Unit {0}) Failure
     → Option (List ℕ) → Option (List ℕ) → Type 0
-AnswersLines {S} M C w lines result old new = MatchResult result (λ _. (after : World S) × AddsAnswers M C w lines old new after)
+AnswersLines M C w lines result old new = MatchResult result (λ _. AnswersAll M C w lines old new)
     (λ failure. AnswersBut M C w lines failure old new)
 
 -- a line that is not answered hands nothing in
@@ -51,11 +51,14 @@ HandsNone OutOfMemory old new = Keeps old new
 HandsNone InputOrOutput old new = Unit {0}
 HandsNone _ old new = ⊥
 
--- a verdict on a world that all events of the lines have led to: the pair has done the same, up to what is settled there
+-- a verdict on a world that all events of the lines have led to, over a device that failed once at most: the pair has done the
+-- same, up to what is settled there
 pub record IsSameAfter (setup : ScriptSetup) (sectors : List SectorWrite) (booted : Booted setup sectors) (lines : List Line)
     (verdict : Verdict) : Type 0 where
   pub after : World Guest
-  pub happen : Happen (altair setup.guest booted.start) (image_copy setup.guest.drives) booted.world lines after
+  pub failures : ℕ
+  pub once : failures ≤ 1
+  pub happen : Happen (altair setup.guest booted.start) (image_copy setup.guest.drives) booted.world lines failures after
   pub same : IsSameAtSettled (altair setup.guest booted.start) after verdict
 
 -- a run of a script with this setup, these sectors at boot and these lines

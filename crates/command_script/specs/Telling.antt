@@ -1,9 +1,10 @@
 -- What is told of a run of a script: its events with their answers, one after another.
-use Rattle.std.specs.Prelude.{◌≡◌, List, [], ◌∷◌, ◌++◌}
+use Rattle.std.specs.Prelude.{◌≡◌, ℕ, ◌+◌, ◌≤◌, List, [], ◌∷◌, ◌++◌}
 use Rattle.altair_copies.specs.Copies.{image_copy}
 use Rattle.command_script.specs.Answering.{Booted}
+use Rattle.command_script.specs.Running.{failed_at}
 use Rattle.disk_dcdd.specs.declared.sector.SectorWrite.{SectorWrite}
-use Rattle.ft_world.specs.Applies.{Shows}
+use Rattle.ft_world.specs.Applies.{Shows, failures_told}
 use Rattle.ft_world.specs.Running.{Running}
 use Rattle.ft_world.specs.Standing.{Course, machine_of}
 use Rattle.ft_world.specs.Words.{answer_of}
@@ -20,6 +21,11 @@ use Rattle.script_language.specs.declared.setup.ScriptSetup.{ScriptSetup}
 use Rattle.sequence_diagram.specs.declared.moment.Moment.{Moment}
 use Rattle.shared_disk.specs.Failing.{Disk, records_in}
 
+-- how many of the answers that are told say that the device failed
+abbrev pub failures_in_all : List Moment → ℕ
+failures_in_all [] = 0
+failures_in_all (moment ∷ moments) = failures_told moment.event moment.answer + failures_in_all moments
+
 -- each event of the lines is told with its answer, by its row, in the world that those before it have left; a query is not told
 pub data Told {S : Type 0} (M : Machine S) (C : Copying S) : World S → List Line → List Moment → World S → Type 0 where
   NoneTold : {w : World S} → Told M C w [] [] w
@@ -29,16 +35,19 @@ pub data Told {S : Type 0} (M : Machine S) (C : Copying S) : World S → List Li
   QueryPassed : {w new : World S} {q : Query} {lines : List Line} {moments : List Moment}
       → Told M C w lines moments new → Told M C w (line.Query q ∷ lines) moments new
 
--- these moments are what is told of a run of a script with this setup, these sectors at boot and these lines
+-- these moments are what is told of a run of a script with this setup, these sectors at boot and these lines, over a device
+-- that fails once at most
 pub record IsToldOf (setup : ScriptSetup) (sectors : List SectorWrite) (lines : List Line) (moments : List Moment) : Type 0 where
   pub booted : Booted setup sectors
   pub after : World Guest
   pub told : Told (altair setup.guest booted.start) (image_copy setup.guest.drives) booted.world lines moments after
+  pub once : failures_in_all moments ≤ 1
 
--- the events of the lines have happened in a running pair, and were told
+-- the events of the lines have happened in a running pair, and were told; their answers tell each failure of the device
 pub record HaveTold {B H S : Type 0} (state : B → S) (copied : B → Guest) (M : Machine S) (c : Course S)
-    (lines : List Line) (moments : List Moment) (v : Running B H Disk) : Type 0 where
+    (lines : List Line) (moments : List Moment) (before v : Running B H Disk) : Type 0 where
   pub after : World S
+  pub counted : failed_at v ≡ failed_at before + failures_in_all moments
   pub told : Told (machine_of M c) c.copying c.world lines moments after
   pub shows : Shows state copied M records_in v (record c { world = after })
 
@@ -47,4 +56,4 @@ pub record TellsAfter {B H S : Type 0} (state : B → S) (copied : B → Guest) 
     (lines : List Line) (before now : List Moment) (v : Running B H Disk) : Type 0 where
   pub moments : List Moment
   pub are : now ≡ before ++ moments
-  pub told : (c : Course S) → Shows state copied M records_in old c → HaveTold state copied M c lines moments v
+  pub told : (c : Course S) → Shows state copied M records_in old c → HaveTold state copied M c lines moments old v

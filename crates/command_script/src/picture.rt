@@ -71,7 +71,7 @@ fn tell_each<B: Copies<H> + Drop, H: Drop>(
     lines: &[Line],
 ) -> Result<Vec<Moment>, AllocError>
     ensures { IfOk result (λ moments. (c : Course B.State) → Shows B.state B.copied B.machine records_in world.old c
-        → HaveTold B.state B.copied B.machine c lines.now moments.items world.new) }
+        → HaveTold B.state B.copied B.machine c lines.now moments.items world.old world.new) }
 {
     let mut moments = Vec::new(alloc);
     for line in lines {

@@ -97,7 +97,7 @@ fn run_silently<B: Copies<H> + Drop, H: Drop>(
     lines: &[Line],
 )
     ensures { (c : Course B.State) → Shows B.state B.copied B.machine records_in world.old c
-        → HaveHappened B.state B.copied B.machine c lines.now world.new }
+        → HaveHappened B.state B.copied B.machine c lines.now world.old world.new }
 {
     for line in lines {
         pass(alloc, world, *line);
@@ -108,7 +108,7 @@ fn run_silently<B: Copies<H> + Drop, H: Drop>(
 #[tactic(auto, using(crate::proofs::Lines::passes_event, crate::proofs::Lines::passes_query))]
 fn pass<B: Copies<H> + Drop, H: Drop>(alloc: Global, world: &mut World<B, Disk, H>, line: Line)
     ensures { (c : Course B.State) → Shows B.state B.copied B.machine records_in world.old c
-        → HaveHappened B.state B.copied B.machine c (line ∷ []) world.new }
+        → HaveHappened B.state B.copied B.machine c (line ∷ []) world.old world.new }
 {
     if let Line::Event(event) = line {
         let _ = world.apply(alloc, event);
@@ -154,7 +154,7 @@ fn answer<B: Copies<H> + Drop, H: Drop, O: Write + Drop>(
     writer: &mut O,
 ) -> Result<(), Failure>
     ensures answered { OnOk result ((c : Course B.State) → Shows B.state B.copied B.machine records_in world.old c
-        → HaveAnswers B.state B.copied B.machine c (line ∷ []) world.new
+        → HaveAnswers B.state B.copied B.machine c (line ∷ []) world.old world.new
         (handed (O.contents writer.old) report.old) (handed (O.contents writer.new) report.new)) }
     ensures failed { IfErr result (λ e. HandsNone e
         (handed (O.contents writer.old) report.old) (handed (O.contents writer.new) report.new)) }
@@ -175,7 +175,7 @@ fn happen<B: Copies<H> + Drop, H: Drop>(
     event: Event,
 ) -> Answer<'static>
     ensures { (c : Course B.State) → Shows B.state B.copied B.machine records_in world.old c
-        → HasHappened B.state B.copied B.machine c event (answer_text result) world.new }
+        → HasHappened B.state B.copied B.machine c event (answer_text result) world.old world.new }
 {
     match world.apply(alloc, event) {
         Ok(reply) => Answer::Reply(reply),

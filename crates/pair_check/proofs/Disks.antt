@@ -88,6 +88,16 @@ pub not_there : (records : List Record) (address : SectorAddress) (fault : Fault
     → (fault ≡ DeviceFault → ⊥) → IsThere records address → ⊥
 not_there records address fault is other there = not_there-at (record_at records address) fault is other there
 
+is_unknown-at : (found : Option Record) (fault : Fault) → fault ≡ (if is_some found then DeviceFault else Unknown)
+    → (fault ≡ DeviceFault → ⊥) → fault ≡ Unknown
+is_unknown-at None fault is other = is
+is_unknown-at (Some r) fault is other = absurd (other is)
+
+-- and that it is not there is the reason
+pub is_unknown : (records : List Record) (address : SectorAddress) (fault : Fault) → fault ≡ refusal_at records address
+    → (fault ≡ DeviceFault → ⊥) → fault ≡ Unknown
+is_unknown records address fault is other = is_unknown-at (record_at records address) fault is other
+
 once : (first second third : Bool) → 0 + (if second then 1 else 0) ≡ 0 + (if first then 1 else 0) + 1
     → 0 + (if third then 1 else 0) ≡ 0 + (if second then 1 else 0) + 1 → ⊥
 once true true third a b = absurd (omega arith)

@@ -57,6 +57,12 @@ SetsUp (shell.SetSector place words) old new = HasSector place words old new
 SetsUp (shell.Load loaded) old new = IsSet (Some (memory_from loaded.address loaded.bytes 1 (boot_of old.setup))) old new
 SetsUp _ old new = IsSame old new
 
+-- a line of the setup that it does not take: its words are none of those that may come there
+abbrev pub CannotSet : ShellLine → Opening → Type 0
+CannotSet (shell.Setup word words) old = boot_after word 1 words (boot_of old.setup) ≡ None
+CannotSet (shell.SetSector place words) old = bytes_of words ≡ None
+CannotSet _ old = ⊥
+
 -- the same of a text that says some line
 abbrev pub SetsUpSaid : Option ShellLine → Opening → Opening → Type 0
 SetsUpSaid (Some line) old new = SetsUp line old new

@@ -23,7 +23,7 @@ impl Opening {
     ghost use Rattle.script_language.specs.Booting.{boot_of, memory_from};
     ghost use Rattle.std.specs.Prelude.{false};
     ghost use Rattle.shell_book.specs.Outcomes.{is_ended};
-    ghost use Rattle.shell_opening.specs.Openings.{IsDefault, IsSame, SetsUp};
+    ghost use Rattle.shell_opening.specs.Openings.{CannotSet, IsDefault, IsSame, SetsUp};
 
     /// The setup if no line says otherwise.
     pub fn new(alloc: Global) -> Result<Opening, AllocError>
@@ -44,6 +44,7 @@ impl Opening {
         printed: &mut Printed,
     ) -> Result<Outcome, AllocError>
         ensures refused { IfOk result (λ told. told ≡ outcome.Refused → IsSame self.old self.new) }
+        ensures cannot { IfOk result (λ told. told ≡ outcome.Refused → CannotSet line.entry self.old) }
         ensures done { IfOk result (λ told. told ≡ outcome.Done → SetsUp line.entry self.old self.new) }
         ensures goes_on { IfOk result (λ told. is_ended told ≡ false) }
     {
@@ -68,6 +69,7 @@ impl Opening {
         printed: &mut Printed,
     ) -> Result<Outcome, AllocError>
         ensures refused { IfOk result (λ told. told ≡ outcome.Refused → IsSame self.old self.new) }
+        ensures cannot { IfOk result (λ told. told ≡ outcome.Refused → CannotSet (shell.Setup keyword words.old) self.old) }
         ensures done { IfOk result (λ told. told ≡ outcome.Done
             → SetsUp (shell.Setup keyword words.old) self.old self.new) }
         ensures goes_on { IfOk result (λ told. is_ended told ≡ false) }
@@ -88,6 +90,8 @@ impl Opening {
         printed: &mut Printed,
     ) -> Result<Outcome, AllocError>
         ensures refused { IfOk result (λ told. told ≡ outcome.Refused → IsSame self.old self.new) }
+        ensures cannot { IfOk result (λ told. told ≡ outcome.Refused
+            → CannotSet (shell.SetSector address words.old) self.old) }
         ensures done { IfOk result (λ told. told ≡ outcome.Done
             → SetsUp (shell.SetSector address words.old) self.old self.new) }
         ensures goes_on { IfOk result (λ told. is_ended told ≡ false) }
@@ -104,6 +108,7 @@ impl Opening {
     // Puts a record's bytes into memory.
     fn load(&mut self, loaded: &Record, printed: &mut Printed) -> Result<Outcome, AllocError>
         ensures refused { IfOk result (λ told. told ≡ outcome.Refused → IsSame self.old self.new) }
+        ensures cannot { IfOk result (λ told. told ≡ outcome.Refused → ⊥) }
         ensures done { IfOk result (λ told. told ≡ outcome.Done
             → SetsUp (shell.Load loaded.now) self.old self.new) }
         ensures goes_on { IfOk result (λ told. is_ended told ≡ false) }

@@ -12,4 +12,5 @@ returns-in_ok-push g c =
     (sym c.in-Event.is)
     (tells_event g.B.Lockstep.state g.B.Copies.copied g.B.Lockstep.machine c.args.world.now c.apply-answer.new.self
     c.moment_of.result c.in-Event.event c.apply-answer.result c.args.moments.now.items c.push.new.self.items
-    c.moment_of.ensures.event c.moment_of.ensures.answer c.in_ok-push.ensures.items c.apply-answer.ensures.row)
+    c.moment_of.ensures.event c.moment_of.ensures.answer c.in_ok-push.ensures.items c.apply-answer.ensures.row
+    c.apply-answer.ensures.counted)

@@ -20,5 +20,5 @@ pub returns : goal.returns
 returns g c = λ course shows.
     subst
     (λ l. HaveTold g.B.Lockstep.state g.B.Copies.copied g.B.Lockstep.machine course l c.loop-line.moments.items
-    c.loop-line.world)
+    c.args.world.now c.loop-line.world)
     (take_all c.loop-line.line-index c.args.lines.now c.loop-line-test.false) (c.loop-line.invariant course shows)

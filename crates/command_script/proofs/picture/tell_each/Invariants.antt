@@ -9,4 +9,4 @@ use Rattle.command_script.proofs.picture.tell_each.Given as goal
 abbrev pub invariant-loop-line : goal.invariant-loop-line
 invariant-loop-line g l = (c : Course g.B.Lockstep.State)
     → Shows g.B.Lockstep.state g.B.Copies.copied g.B.Lockstep.machine records_in l.fn.world c
-    → HaveTold g.B.Lockstep.state g.B.Copies.copied g.B.Lockstep.machine c (take l.line-index l.fn.lines) l.moments.items l.world
+    → HaveTold g.B.Lockstep.state g.B.Copies.copied g.B.Lockstep.machine c (take l.line-index l.fn.lines) l.moments.items l.fn.world l.world

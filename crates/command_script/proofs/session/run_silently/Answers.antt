@@ -16,5 +16,5 @@ loop-line-preserved g c =
 pub returns : goal.returns
 returns g c = λ course shows.
     subst
-    (λ l. HaveHappened g.B.Lockstep.state g.B.Copies.copied g.B.Lockstep.machine course l c.loop-line.world)
+    (λ l. HaveHappened g.B.Lockstep.state g.B.Copies.copied g.B.Lockstep.machine course l c.args.world.now c.loop-line.world)
     (take_all c.loop-line.line-index c.args.lines.now c.loop-line-test.false) (c.loop-line.invariant course shows)

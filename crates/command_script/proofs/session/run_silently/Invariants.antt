@@ -9,4 +9,4 @@ use Rattle.command_script.proofs.session.run_silently.Given as goal
 abbrev pub invariant-loop-line : goal.invariant-loop-line
 invariant-loop-line g l = (c : Course g.B.Lockstep.State)
     → Shows g.B.Lockstep.state g.B.Copies.copied g.B.Lockstep.machine records_in l.fn.world c
-    → HaveHappened g.B.Lockstep.state g.B.Copies.copied g.B.Lockstep.machine c (take l.line-index l.fn.lines) l.world
+    → HaveHappened g.B.Lockstep.state g.B.Copies.copied g.B.Lockstep.machine c (take l.line-index l.fn.lines) l.fn.world l.world
