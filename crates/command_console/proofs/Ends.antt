@@ -49,6 +49,7 @@ last_none : (ending : Ending) → keys_in (last_strokes ending) ≡ []
 last_none Ending.Stopped = refl
 last_none Ending.Quit = refl
 last_none Ending.EndOfInput = refl
+last_none Ending.Failed = refl
 
 -- the keys that came from a keyboard are the first of those among the strokes that were sent to it
 pub came : (to to' : Producer Stroke Global AnyItems) (k k' : Keyboard) (more : List ℕ) (strokes : List Stroke) (ending : Ending)

@@ -83,7 +83,7 @@ fn hear<C: Clock, S: KeySource + Drop, I: Interpreter + Drop>(
 {
     begin(clock, hosts, signs);
     let (listener, ending) = listen(clock, listener, signs);
-    if ending == Ending::EndOfInput {
+    if matches!(ending, Ending::EndOfInput | Ending::Failed) {
         rest(clock, signs);
     }
     hosts.end();

@@ -7,7 +7,7 @@ use Rattle.std.proofs.KnownBytes.{Consumes-nil, Consumes-trans}
 use Rattle.pair_lines.proofs.Same.{same_start_on}
 use Rattle.rtrb.specs.Ring.{SameProducer, sent}
 use Rattle.console_terminal.specs.Commands.{Grows}
-use Rattle.console_terminal.specs.Listening.{Listens, ending_of, is_quit, notes_after, place_after, strokes_after, was_quit}
+use Rattle.console_terminal.specs.Listening.{EndsWith, Listens, ending_of, is_quit, notes_after, place_after, strokes_after, was_quit}
 use Rattle.console_terminal.specs.Telling.{Says, Tells, closing, notes_by}
 use Rattle.console_terminal.specs.Typing.{Place, act_of, after, after_all, command_in, commands_at, done_by, line_after, line_of, order_at, order_by, place_of, strokes_at, strokes_by}
 use Rattle.console_terminal.specs.declared.command.Command.{Command}
@@ -63,6 +63,15 @@ grows_both (Some a) (Some b) None xs ys p q = absurd q
 grows_both (Some a) (Some b) (Some c) xs ys p q = q ∙ ap (λ l. l ++ ys) p ∙ append_assoc a xs ys
 
 -- ---- the end
+
+-- no byte ends the input
+no_order_ends : (order : Order) (left : Option (List ℕ)) → EndsWith (ending_of Act.HandsOn order) left
+no_order_ends (Order.Command Command.Quit) left = tt
+no_order_ends other left = tt
+
+no_byte_ends : (act : Act) (line left : Option (List ℕ)) → EndsWith (ending_of act (order_by act line)) left
+no_byte_ends Act.HandsOn line left = no_order_ends (order_by Act.HandsOn line) left
+no_byte_ends other line left = tt
 
 if_any : (ending : Option Ending) (P : Type 0) → P → IfSome ending (λ _. P)
 if_any None P p = tt
@@ -146,6 +155,7 @@ module _ {S I : Type 0} (left : S → Option (List ℕ)) (given : I → Option (
             ∙ ap (λ l. (sent a.notes ++ (p.said ++ q.said)) ++ notes_after ending l) all;
         tells = tells_both e at p.bytes q.bytes p.said q.said p.tells
             (subst (λ l. Tells e l q.bytes q.said) p.place (subst (λ l. Tells l (place_of b.desk) q.bytes q.said) p.escape q.tells));
+        over = q.over;
         same_first = same_start_on (Some a.first) (Some b.first) (Some c.first) p.same_first q.same_first;
         same_second = same_start_on (Some a.second) (Some b.second) (Some c.second) p.same_second q.same_second;
         same_notes = same_start_on (Some a.notes) (Some b.notes) (Some c.notes) p.same_notes q.same_notes;
@@ -156,8 +166,9 @@ module _ {S I : Type 0} (left : S → Option (List ℕ)) (given : I → Option (
       → place_of b.desk ≡ place_after ending (place_of a.desk)
       → sent b.first ≡ sent a.first ++ strokes_after ending → sent b.second ≡ sent a.second ++ strokes_after ending
       → Grows (given a.interpreter) (given b.interpreter) [] → sent b.notes ≡ sent a.notes ++ notes_after ending (place_of a.desk)
+      → EndsWith ending (left b.source)
       → SameProducer a.first b.first → SameProducer a.second b.second → SameProducer a.notes b.notes → Listens left given ending a b
-  of_none ending a b quit taken escape place first second commands notes one two three = record {
+  of_none ending a b quit taken escape place first second commands notes over one two three = record {
     bytes = [];
     said = [];
     taken = taken;
@@ -169,6 +180,7 @@ module _ {S I : Type 0} (left : S → Option (List ℕ)) (given : I → Option (
     quit = quit;
     notes = notes ∙ ap (λ l. l ++ notes_after ending (place_of a.desk)) (sym (append-nil (sent a.notes)));
     tells = refl;
+    over = over;
     same_first = one;
     same_second = two;
     same_notes = three;
@@ -199,6 +211,7 @@ module _ {S I : Type 0} (left : S → Option (List ℕ)) (given : I → Option (
         quit = ap was_quit ended ∙ quit_by (act_of a.desk byte) (line_of a.desk);
         notes = notes.1 ∙ sym (append-nil (sent a.notes ++ said)) ∙ ap (λ l. (sent a.notes ++ said) ++ l) (sym (none_closing ending p no_line));
         tells = (notes.0, [], sym (append-nil said), refl);
+        over = subst (λ e. EndsWith e (left b.source)) (sym ended) (no_byte_ends (act_of a.desk byte) (line_of a.desk) (left b.source));
         same_first = rings.0;
         same_second = rings.1;
         same_notes = rings.2;
@@ -212,4 +225,4 @@ module _ {S I : Type 0} (left : S → Option (List ℕ)) (given : I → Option (
       of_none None a b refl (subst (λ s. Consumes (left a.source) (left s) []) (sym source) (Consumes-nil (left a.source)))
       (ap (λ d. d.escape) desk) (ap place_of desk)
       (first ∙ sym (append-nil (sent a.first))) (second ∙ sym (append-nil (sent a.second))) (subst (λ i. Grows (given a.interpreter) (given i) []) (sym commands) (grows_none (given a.interpreter)))
-      (notes ∙ sym (append-nil (sent a.notes))) one two three
+      (notes ∙ sym (append-nil (sent a.notes))) tt one two three

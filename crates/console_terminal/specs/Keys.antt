@@ -7,3 +7,4 @@ abbrev pub heard_bytes : Heard → List ℕ
 heard_bytes (Heard.Key key) = key ∷ []
 heard_bytes Heard.Quiet = []
 heard_bytes Heard.End = []
+heard_bytes Heard.Failed = []

@@ -1,6 +1,6 @@
 -- What the thread that hears has taken from its source, and handed on.
 use Rattle.std.specs.Prelude.{◌≡◌, ℕ, ◌<◌, Bool, true, false, List, [], ◌∷◌, ◌++◌, Option, None, Some}
-use Rattle.std.specs.Io.KnownBytes.{Consumes}
+use Rattle.std.specs.Io.KnownBytes.{Consumes, IsAtEnd}
 use Rattle.std.specs.List.{list_any}
 use Rattle.pair_lines.specs.declared.keyboard.Stroke.{Stroke}
 use Rattle.rtrb.specs.Ring.{SameProducer, known_free, sent}
@@ -22,6 +22,7 @@ abbrev pub last_strokes : Ending → List Stroke
 last_strokes Ending.Stopped = []
 last_strokes Ending.Quit = Stroke.End ∷ []
 last_strokes Ending.EndOfInput = Stroke.End ∷ []
+last_strokes Ending.Failed = Stroke.End ∷ []
 
 abbrev pub strokes_after : Option Ending → List Stroke
 strokes_after None = []
@@ -53,6 +54,11 @@ abbrev pub was_quit : Option Ending → Bool
 was_quit (Some Ending.Quit) = true
 was_quit _ = false
 
+-- at the end of the input no key is left, if it is known which there were
+abbrev pub EndsWith : Option Ending → Option (List ℕ) → Type 0
+EndsWith (Some Ending.EndOfInput) left = IsAtEnd left
+EndsWith _ left = Unit {0}
+
 -- ---- a listener
 
 module _ {S I : Type 0} where
@@ -62,7 +68,7 @@ module _ {S I : Type 0} where
 
   -- Some bytes were taken: the keys among them went to the terminals, each once and in order, the commands to the interpreter, and to
   -- the display what becomes of the command line. If it has ended so, both keyboards were told after that, and a command line that was
-  -- open is closed; it has ended by a command to quit if there is one.
+  -- open is closed; it has ended by a command to quit if there is one, and at the end of the input only if no key is left.
   pub record Listens (left : S → Option (List ℕ)) (given : I → Option (List Command)) (ending : Option Ending) (old new : Listener S I) : Type 0 where
     pub bytes : List ℕ
     pub said : List Note
@@ -75,6 +81,7 @@ module _ {S I : Type 0} where
     pub quit : was_quit ending ≡ list_any is_quit (commands_at old.desk.escape (place_of old.desk) bytes)
     pub notes : sent new.notes ≡ (sent old.notes ++ said) ++ notes_after ending (after_all old.desk.escape (place_of old.desk) bytes)
     pub tells : Tells old.desk.escape (place_of old.desk) bytes said
+    pub over : EndsWith ending (left new.source)
     pub same_first : SameProducer old.first new.first
     pub same_second : SameProducer old.second new.second
     pub same_notes : SameProducer old.notes new.notes

@@ -134,6 +134,10 @@ module _ {W N : Type 0} where
   abbrev pub IsEmpty : Display W N → Type 0
   IsEmpty d = (known_items d.said ≡ []) × (known_items d.told ≡ []) × (known_items d.shown ≡ [])
 
+  -- nor is anything that could be written now: a line about the pair waits while a command line is open
+  abbrev pub HasNoMore : Display W N → Type 0
+  HasNoMore d = (known_items d.said ≡ []) × (is_looking d.look ≡ true → known_items d.told ≡ []) × (known_items d.shown ≡ [])
+
   -- What a display has written: what it was given, in order and once, but for what it keeps; contents are the bytes of its two writers.
   pub record Wrote (screen : W → Option (List ℕ)) (notes : N → Option (List ℕ)) (old new : Display W N) : Type 0 where
     pub pieces : List Piece

@@ -1,8 +1,9 @@
 //! The display, on which one looks at one terminal at a time.
-ghost use Rattle.std.specs.Prelude.{◌≡◌, ◌∷◌, [], OnOk, Some, false};
+ghost use Rattle.std.specs.Prelude.{◌≡◌, ◌∷◌, [], OnOk, Some, false, true};
 ghost use Rattle.std.specs.Io.KnownBytes.{Appends};
 ghost use Rattle.pair_lines.specs.Lines.{shown_at};
-ghost use Rattle.console_terminal.specs.Screen.{IsClear, IsEmpty, Wrote, but_at, byte_seen, bytes_seen, is_looked_at, is_looking, kept_with, look_after, unseen};
+ghost use Rattle.rtrb.specs.Ring.{known_items};
+ghost use Rattle.console_terminal.specs.Screen.{HasNoMore, IsClear, IsEmpty, Wrote, but_at, byte_seen, bytes_seen, is_looked_at, is_looking, kept_with, look_after, unseen};
 
 use crate::note::{Note, write_note};
 use crate::port::Port;
@@ -88,7 +89,8 @@ impl<W: Write, N: Write> Display<W, N> {
     #[tactic(auto, using(crate::proofs::Pieces::and_then))]
     pub(crate) fn turn(&mut self) -> io::Result<bool>
         requires { IsClear self.old }
-        ensures { OnOk result (Wrote W.contents N.contents self.old self.new) }
+        ensures wrote { OnOk result (Wrote W.contents N.contents self.old self.new) }
+        ensures rest { result ≡ Ok false → HasNoMore self.new }
     {
         if self.say()? {
             return Ok(true);
@@ -103,7 +105,8 @@ impl<W: Write, N: Write> Display<W, N> {
     #[tactic(auto, using(crate::proofs::Pieces::of_nothing, crate::proofs::Pieces::of_a_note))]
     fn say(&mut self) -> io::Result<bool>
         requires { IsClear self.old }
-        ensures { OnOk result (Wrote W.contents N.contents self.old self.new) }
+        ensures wrote { OnOk result (Wrote W.contents N.contents self.old self.new) }
+        ensures rest { result ≡ Ok false → known_items self.new.said ≡ [] }
     {
         let Ok(note) = self.said.pop() else {
             return Ok(false);
@@ -118,7 +121,9 @@ impl<W: Write, N: Write> Display<W, N> {
     #[tactic(auto, using(crate::proofs::Pieces::of_nothing, crate::proofs::Pieces::of_a_line))]
     fn tell(&mut self) -> io::Result<bool>
         requires { IsClear self.old }
-        ensures { OnOk result (Wrote W.contents N.contents self.old self.new) }
+        ensures wrote { OnOk result (Wrote W.contents N.contents self.old self.new) }
+        ensures rest { result ≡ Ok false → is_looking self.new.look ≡ true → known_items self.new.told ≡ [] }
+        ensures said { self.new.said ≡ self.old.said }
     {
         if !is_looking(self.look) {
             return Ok(false);
@@ -134,7 +139,9 @@ impl<W: Write, N: Write> Display<W, N> {
     #[tactic(auto, using(crate::proofs::Pieces::of_nothing, crate::proofs::Pieces::of_a_byte))]
     fn show(&mut self) -> io::Result<bool>
         requires { IsClear self.old }
-        ensures { OnOk result (Wrote W.contents N.contents self.old self.new) }
+        ensures wrote { OnOk result (Wrote W.contents N.contents self.old self.new) }
+        ensures rest { result ≡ Ok false → known_items self.new.shown ≡ [] }
+        ensures beside { (self.new.said ≡ self.old.said) × (self.new.told ≡ self.old.told) × (self.new.look ≡ self.old.look) }
     {
         let Ok(shown) = self.shown.pop() else {
             return Ok(false);

@@ -9,14 +9,16 @@ pub enum Heard {
     Key(u8),
     /// No key came for a while.
     Quiet,
-    /// No key can come any more.
+    /// No key can come any more: the source is at its end.
     End,
+    /// No key can come any more, since the source fails.
+    Failed,
 }
 
 /// A source of keys, which are bytes.
 pub trait KeySource {
-    ghost use Rattle.std.specs.Prelude.{ℕ, List};
-    ghost use Rattle.std.specs.Io.KnownBytes.{Consumes};
+    ghost use Rattle.std.specs.Prelude.{◌≡◌, ℕ, List};
+    ghost use Rattle.std.specs.Io.KnownBytes.{Consumes, IsAtEnd};
     ghost use Rattle.std.specs.declared.option.Option.{Option};
     ghost use Rattle.console_terminal.specs.Keys.{heard_bytes};
 
@@ -25,7 +27,8 @@ pub trait KeySource {
 
     /// The next key, or that none came for a while: a call must come back soon.
     fn hear(&mut self) -> Heard
-        ensures { Consumes (left self.old) (left self.new) (heard_bytes result) };
+        ensures heard { Consumes (left self.old) (left self.new) (heard_bytes result) }
+        ensures ended { result ≡ Heard.End → IsAtEnd (left self.new) };
 }
 
 /// The keys of a terminal that is set to `min 0 time 1`, or the bytes of another reader.
@@ -54,7 +57,7 @@ impl<R: Read + IsTerminal> KeySource for TerminalKeys<R> {
     ghost left = { λ keys. R.remaining keys.reader };
 
     // A read that gives nothing says of a terminal that no key came for a while, and of anything else that it has ended;
-    // a terminal that was closed is none any more.
+    // a terminal that was closed is none any more. One that was interrupted is made again.
     fn hear(&mut self) -> Heard {
         let mut key = [0u8];
         match self.reader.read(&mut key) {
@@ -62,7 +65,7 @@ impl<R: Read + IsTerminal> KeySource for TerminalKeys<R> {
             Ok(0) => Heard::End,
             Ok(_) => Heard::Key(key[0]),
             Err(error) if error.kind() == ErrorKind::Interrupted => Heard::Quiet,
-            Err(_) => Heard::End,
+            Err(_) => Heard::Failed,
         }
     }
 }

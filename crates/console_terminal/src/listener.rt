@@ -38,6 +38,8 @@ pub enum Ending {
     Quit,
     Stopped,
     EndOfInput,
+    /// Reading fails.
+    Failed,
 }
 
 /// What hears: where keys come from and where they go, with what becomes of commands.
@@ -55,8 +57,8 @@ pub struct Listener<S, I> {
     pub interpreter: I,
 }
 
-/// Hears keys, and hands them on through the rings until the console is to end. At the end of the source, and when it is told to quit,
-/// both keyboards are told that no key comes any more. A command line that is open at the end is closed, so the display catches up.
+/// Hears keys, and hands them on through the rings until the console is to end. At the end of the source, if it fails, and when it is
+/// told to quit, both keyboards are told that no key comes any more. A command line that is open at the end is closed, so the display catches up.
 pub fn listen<C: Clock, S: KeySource + Drop, I: Interpreter + Drop>(
     clock: &C,
     mut listener: Listener<S, I>,
@@ -123,9 +125,12 @@ impl<S: KeySource, I: Interpreter> Listener<S, I> {
             Heard::Quiet => None,
             Heard::Key(byte) => self.take(byte),
             Heard::End => {
-                end(&mut self.first, &mut self.second);
-                self.leave();
+                self.end();
                 Some(Ending::EndOfInput)
+            }
+            Heard::Failed => {
+                self.end();
+                Some(Ending::Failed)
             }
         }
     }
@@ -156,6 +161,22 @@ impl<S: KeySource, I: Interpreter> Listener<S, I> {
         );
         tell(&mut self.notes, act, was_open, self.desk.port);
         ending
+    }
+
+    // Says to both keyboards that no key comes any more, and leaves.
+    fn end(&mut self)
+        requires { HasRoom self.old }
+        ensures source { self.new.source ≡ self.old.source }
+        ensures escape { self.new.desk.escape ≡ self.old.desk.escape }
+        ensures place { place_of self.new.desk ≡ closed (place_of self.old.desk) }
+        ensures first { sent self.new.first ≡ sent self.old.first ++ Stroke.End ∷ [] }
+        ensures second { sent self.new.second ≡ sent self.old.second ++ Stroke.End ∷ [] }
+        ensures interpreter { self.new.interpreter ≡ self.old.interpreter }
+        ensures notes { sent self.new.notes ≡ sent self.old.notes ++ closing (place_of self.old.desk) }
+        ensures rings { SameProducer self.old.first self.new.first × SameProducer self.old.second self.new.second × SameProducer self.old.notes self.new.notes }
+    {
+        end(&mut self.first, &mut self.second);
+        self.leave();
     }
 
     // Closes the command line, if one is open, and says so.

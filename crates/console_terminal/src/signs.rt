@@ -2,6 +2,12 @@
 
 use std::sync::atomic::{AtomicBool, AtomicU64, Ordering};
 
+/// What is seen of the signs once nothing more can come to the screen. Whatever was sent to it is in its rings by then.
+#[derive(Drop)]
+pub(crate) struct Over {
+    is_seen: bool,
+}
+
 /// Signs that are given once, and seen by all threads from then on; and how often the display moved.
 #[derive(Drop)]
 pub struct Signs {
@@ -55,5 +61,14 @@ impl Signs {
     /// Whether nothing more can come to the screen.
     pub fn is_over(&self) -> bool {
         self.heard_all.load(Ordering::SeqCst) && self.shown_all.load(Ordering::SeqCst)
+    }
+
+    /// That nothing more can come to the screen, once it is so.
+    pub(crate) fn over(&self) -> Option<Over> {
+        if self.is_over() {
+            Some(Over { is_seen: true })
+        } else {
+            None
+        }
     }
 }

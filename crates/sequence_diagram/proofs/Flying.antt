@@ -1,5 +1,5 @@
 -- A message that arrived has its event, the event that sent it, and the message that this one sent.
-use Rattle.std.proofs.Common.{◌≡◌, ℕ, List, Option, Some, None, ap, sym, ◌∙◌}
+use Rattle.std.proofs.Common.{◌≡◌, ℕ, List, Option, Some, None, ap}
 use Rattle.std.specs.Prelude.{slice_get}
 use Rattle.sequence_diagram.specs.Arrows.{HasArrow, IsArrowTo}
 use Rattle.sequence_diagram.specs.Messages.{brought_of, sent_at, sent_of}

@@ -1,6 +1,6 @@
 -- The arrows of a run: no arrow without its message, and no message without its arrow.
-use Rattle.std.specs.Prelude.{◌≡◌, ℕ, ◌+◌, ◌<◌, ◌≤◌, List, length, Option, Some, None, MatchOption}
-use Rattle.sequence_diagram.specs.Messages.{brought_at, sent_at}
+use Rattle.std.specs.Prelude.{◌≡◌, ℕ, ◌+◌, ◌<◌, ◌≤◌, List, length, Option, Some, None, MatchOption, Bool, true, false}
+use Rattle.sequence_diagram.specs.Messages.{brought_at, sent_at, unknown_at}
 use Rattle.sequence_diagram.specs.declared.arrows.Arrow.{Arrow}
 use Rattle.sequence_diagram.specs.declared.arrows.Departure.{Departure}
 use Rattle.sequence_diagram.specs.declared.moment.Moment.{Moment}
@@ -37,3 +37,9 @@ module _ (moments : List Moment) where
   -- an event without a departure has sent no message
   abbrev pub HasDeparture : ℕ → Option Departure → Type 0
   HasDeparture place found = MatchOption found (sent_at moments place ≡ None) (λ departure. IsDepartureFrom place departure)
+
+  -- an event is stray if it was to bring a message that nobody takes, though it was sent before
+  abbrev pub IsStray : ℕ → Bool → Type 0
+  IsStray place found = MatchOption (unknown_at moments place) (found ≡ false)
+      (λ message. (found ≡ true → (k : ℕ) × ((k < place) × (sent_at moments k ≡ Some message)))
+      × (found ≡ false → SentNowhere 0 place message))

@@ -1,8 +1,13 @@
+pub mod Aims
 pub mod Arrows
 pub mod Columns
+pub mod Escapes
 pub mod Geometry
 pub mod Keys
+pub mod Lines
+pub mod Marks
 pub mod Messages
 pub mod Places
+pub mod Runs
 pub mod Waits
 pub mod Words

@@ -36,7 +36,19 @@ sent_by moment = message_of moment.answer
 abbrev pub brought_by : Moment → Option ℕ
 brought_by moment = unless_unknown moment.answer (delivered_by moment.event)
 
--- the same at a place of a run
+-- the message that an event was to bring, if it is unknown
+abbrev unknown_by : Event → Result Reply Fault → Option ℕ
+unknown_by happened (Err Unknown) = delivered_by happened
+unknown_by happened answer = None
+
+abbrev unknown_of : Option Moment → Option ℕ
+unknown_of (Some moment) = unknown_by moment.event moment.answer
+unknown_of None = None
+
+abbrev pub unknown_at : List Moment → ℕ → Option ℕ
+unknown_at moments place = unknown_of (slice_get moments place)
+
+-- which was sent, or brought, at a place of a run
 abbrev pub sent_of : Option Moment → Option ℕ
 sent_of (Some moment) = sent_by moment
 sent_of None = None

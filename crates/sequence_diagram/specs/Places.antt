@@ -6,7 +6,6 @@ use Rattle.i8080_words.specs.declared.refusal.Fault.TheVariants.{Lost}
 use Rattle.pair_events.specs.declared.event.Event.{Event}
 use Rattle.pair_events.specs.declared.event.Event.TheVariants as event
 use Rattle.pair_events.specs.declared.reply.Reply.{Reply}
-use Rattle.pair_events.specs.declared.reply.Reply.TheVariants as reply
 use Rattle.pair_events.specs.declared.reply.Role.{Role}
 use Rattle.pair_events.specs.declared.reply.Role.TheVariants.{Primary, Backup, Joining}
 use Rattle.sequence_diagram.specs.Arrows.{HasArrow, IsArrowTo, IsDepartureFrom}

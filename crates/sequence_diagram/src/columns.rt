@@ -143,7 +143,8 @@ fn takes_part(place: Place, moment: &Moment) -> bool
     }
 }
 
-fn is_port(port: u8, found: Option<u8>) -> bool
+/// Whether what was found is this port.
+pub fn is_port(port: u8, found: Option<u8>) -> bool
     ensures { result ≡ is_port port found }
 {
     match found {

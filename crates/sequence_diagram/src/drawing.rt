@@ -1,4 +1,6 @@
 //! The elements of an SVG picture, one after another.
+ghost use Rattle.std.specs.Prelude.{◌≡◌, ◌++◌, OnOk, string_bytes};
+ghost use Rattle.sequence_diagram.specs.Escapes.{escaped, escaped_all};
 
 use crate::geometry::Point;
 use std::alloc::{AllocError, Global};
@@ -137,7 +139,10 @@ impl Drawing {
 }
 
 // Appends letters as they are written between two tags.
-fn escape_all(text: &mut String, words: &str) -> Result<(), AllocError> {
+#[tactic(auto, using(std::proofs::lemmas::List::flat_map_more))]
+fn escape_all(text: &mut String, words: &str) -> Result<(), AllocError>
+    ensures { OnOk result (string_bytes text.new ≡ string_bytes text.old ++ escaped_all words.now) }
+{
     for letter in words.chars() {
         escape(text, letter)?;
     }
@@ -145,7 +150,9 @@ fn escape_all(text: &mut String, words: &str) -> Result<(), AllocError> {
 }
 
 // Appends a letter as it is written between two tags.
-fn escape(text: &mut String, letter: char) -> Result<(), AllocError> {
+fn escape(text: &mut String, letter: char) -> Result<(), AllocError>
+    ensures { OnOk result (string_bytes text.new ≡ string_bytes text.old ++ escaped letter) }
+{
     match letter {
         '&' => text.push_str("&amp;"),
         '<' => text.push_str("&lt;"),

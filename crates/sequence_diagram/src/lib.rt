@@ -1,6 +1,7 @@
 //! A run of a pair as a sequence diagram: what is told of it, which message made which arrow, and a drawing of that as SVG.
 #![tactic(auto)]
 
+mod aims;
 mod arrows;
 mod cargo;
 mod columns;
@@ -27,6 +28,7 @@ mod told;
 mod waits;
 mod ways;
 
+pub use aims::aim_of;
 pub use arrows::{Arrow, Departure, arrow_to, departure_from};
 pub use cargo::Carried;
 pub use columns::Columns;
@@ -38,5 +40,5 @@ pub use moment::{Cargo, Look, Moment};
 pub use notes::Note;
 pub use outcomes::Outcome;
 pub use picture::draw;
-pub use place::{Place, aim_of, node_of, place_of, receiver_of, sender_of};
+pub use place::{Place, node_of, place_of, receiver_of, sender_of};
 pub use waits::{Wait, waits_of};

@@ -1,5 +1,6 @@
 //! The columns as they are drawn: their heads, and each node's line in the style of its role.
 ghost use Rattle.std.specs.Prelude.{◌≡◌};
+ghost use Rattle.sequence_diagram.specs.Marks.{class_of};
 ghost use Rattle.sequence_diagram.specs.Places.{first_role};
 
 use crate::drawing::{Drawing, Side};
@@ -95,7 +96,9 @@ pub fn draw_band(
 }
 
 // The class of a bar, by the role of its node.
-fn class_of(role: Role) -> &'static str {
+fn class_of(role: Role) -> &'static str
+    ensures { result.now ≡ class_of role }
+{
     match role {
         Role::Primary => "primary",
         Role::Backup => "backup",

@@ -1,10 +1,13 @@
 //! The count of a machine on the line of its node, and how much of its output waits beside it.
+ghost use Rattle.std.specs.Prelude.{◌≡◌};
+ghost use Rattle.sequence_diagram.specs.Marks.{is_news, look_after, operations_before, told_wait};
 
 use crate::drawing::{Drawing, Side};
 use crate::geometry::Point;
 use crate::moment::{Look, Moment};
 use crate::place::Place;
 use crate::plan::Plan;
+use crate::waits::Wait;
 use pair_events::Reply;
 use std::alloc::AllocError;
 
@@ -23,7 +26,9 @@ pub fn count_width(moment: &Moment) -> Option<u64> {
 }
 
 // What a node shows whose machine has run.
-fn look_after(moment: &Moment) -> Option<Look> {
+fn look_after(moment: &Moment) -> Option<Look>
+    ensures { result ≡ look_after moment.now }
+{
     match moment.answer {
         Ok(Reply::Ran { .. } | Reply::Moved { .. } | Reply::MovedAlone { .. }) => moment.look,
         _ => None,
@@ -75,12 +80,9 @@ pub fn draw_waiting(
     let Some(moment) = moments.get(place) else {
         return Ok(());
     };
-    let Some(wait) = plan.waits.get(place) else {
+    let Some(wait) = told_wait(plan.waits.as_slice(), moment, place) else {
         return Ok(());
     };
-    if !is_news(moment) || operations_before(plan, place) == wait.operations {
-        return Ok(());
-    }
     let aside = count_width(moment).unwrap_or(BESIDE);
     let at = Point {
         x: plan.x(Place::Node(wait.node)).saturating_sub(aside),
@@ -95,15 +97,34 @@ pub fn draw_waiting(
     )
 }
 
+// What waits after an event, if that is told.
+fn told_wait(waits: &[Wait], moment: &Moment, place: usize) -> Option<Wait>
+    ensures { result ≡ told_wait waits.now moment.now place }
+{
+    let wait = waits.get(place)?;
+    if is_news(moment) && operations_before(waits, place) != wait.operations {
+        Some(*wait)
+    } else {
+        None
+    }
+}
+
 // Whether an event may give an operation, or may cover some. At the others all is given up that waits.
-fn is_news(moment: &Moment) -> bool {
+fn is_news(moment: &Moment) -> bool
+    ensures { result ≡ is_news moment.now.answer }
+{
     matches!(moment.answer, Ok(Reply::Ran { .. } | Reply::Held { .. }))
 }
 
 // How many operations wait before an event.
-fn operations_before(plan: &Plan, place: usize) -> usize {
-    match place.checked_sub(1) {
-        Some(before) => plan.waits.get(before).map_or(0, |wait| wait.operations),
+fn operations_before(waits: &[Wait], place: usize) -> usize
+    ensures { result ≡ operations_before waits.now place }
+{
+    if place == 0 {
+        return 0;
+    }
+    match waits.get(place - 1) {
+        Some(wait) => wait.operations,
         None => 0,
     }
 }

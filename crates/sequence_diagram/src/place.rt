@@ -2,10 +2,8 @@
 ghost use Rattle.std.specs.Prelude.{◌≡◌, Some};
 ghost use Rattle.sequence_diagram.specs.Places.{change_node_of, later_node_of, node_of, node_or_terminal, place_of, place_text, receiver_by, sender_of};
 
-use crate::arrows::arrow_to;
 use crate::moment::{Cargo, Moment};
-use event_callbacks::OpId;
-use pair_events::{Event, Reply};
+use pair_events::Event;
 use std::fmt;
 
 /// A column of the diagram.
@@ -120,47 +118,4 @@ pub fn place_of(event: Event) -> Place
         Event::Put { .. } => Place::Disk,
         other => node_or_terminal(node_of(other)),
     }
-}
-
-/// Where the message that the event at a place of the run sent should arrive.
-pub fn aim_of(moments: &[Moment], place: usize) -> Option<Place> {
-    let moment = moments.get(place)?;
-    match moment.event {
-        Event::Send { node, .. } | Event::Acknowledge { node } | Event::SendPart { node, .. } => {
-            Some(Place::Node(peer_of(moments, place, node)))
-        }
-        Event::Release {
-            id: OpId::Byte(port, _),
-            ..
-        } => Some(Place::Terminal(port)),
-        Event::Release {
-            id: OpId::Write(_),
-            ..
-        } => Some(Place::Disk),
-        Event::Put { .. } => {
-            let arrow = arrow_to(moments, place)?;
-            let sent = moments.get(arrow.sent)?;
-            Some(sender_of(sent.event))
-        }
-        other => Some(Place::Node(node_of(other)?)),
-    }
-}
-
-// The other node of a node's pair before a place of the run.
-fn peer_of(moments: &[Moment], place: usize, node: u64) -> u64 {
-    let before = moments.get(..place).unwrap_or(moments);
-    for moment in before.iter().rev() {
-        if let (Event::BeginPair { node: first, host }, Ok(Reply::Generation { .. })) = (
-            moment.event,
-            moment.answer,
-        ) {
-            if first == node {
-                return host;
-            }
-            if host == node {
-                return first;
-            }
-        }
-    }
-    u64::from(node == 0)
 }

@@ -1,5 +1,8 @@
 //! The arrows of a picture, and what marks that output waits.
+ghost use Rattle.std.specs.Prelude.{◌≡◌};
+ghost use Rattle.sequence_diagram.specs.Geometry.{beside};
 
+use crate::aims::aim_of;
 use crate::arrows::departure_from;
 use crate::drawing::Drawing;
 use crate::exchanges::{Exchange, exchange_of};
@@ -7,7 +10,7 @@ use crate::flights::{Flight, flight_to};
 use crate::folds::{keys_from, parts_from};
 use crate::geometry::Point;
 use crate::moment::Moment;
-use crate::place::{Place, aim_of, sender_of};
+use crate::place::{Place, sender_of};
 use crate::plan::Plan;
 use crate::runs::is_part;
 use crate::ways::{Way, end_of_loss};
@@ -127,7 +130,9 @@ fn draw_arrow(
 }
 
 /// A place beside a column, on the side of another column.
-pub fn beside(x: u64, other: u64, distance: u64) -> u64 {
+pub fn beside(x: u64, other: u64, distance: u64) -> u64
+    ensures { result ≡ beside x other distance }
+{
     if x < other {
         x.saturating_add(distance)
     } else {

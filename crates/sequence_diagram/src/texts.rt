@@ -1,5 +1,6 @@
 //! What is said beside the arrows and lines of a picture.
 
+use crate::aims::aim_of;
 use crate::arrows::departure_from;
 use crate::cargo::Carried;
 use crate::drawing::{Drawing, Side};
@@ -10,7 +11,7 @@ use crate::geometry::Point;
 use crate::marks::{count_width, draw_count, draw_waiting};
 use crate::moment::Moment;
 use crate::outcomes::Outcome;
-use crate::place::{Place, aim_of, place_of, sender_of};
+use crate::place::{Place, place_of, sender_of};
 use crate::plan::Plan;
 use crate::runs::is_part;
 use crate::strokes::beside;

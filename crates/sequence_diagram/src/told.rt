@@ -1,7 +1,9 @@
 //! What is said of an event that takes what happened before it into account: which byte a key is, whether a message was sent, and what the
 //! disk had already.
 ghost use Rattle.std.specs.Prelude.{◌≡◌};
+ghost use Rattle.sequence_diagram.specs.Arrows.{IsStray};
 ghost use Rattle.sequence_diagram.specs.Keys.{HasByte, typed_at};
+ghost use Rattle.sequence_diagram.specs.Messages.{unknown_at};
 
 use crate::arrows::sent_before;
 use crate::cargo::{write_key, write_number, write_number_and};
@@ -123,15 +125,23 @@ fn typed_at(moments: &[Moment], place: usize, port: u8, index: u64) -> Option<u8
 }
 
 // Whether an event was to bring a message that was sent before, but that nobody takes: it is of another kind, or its node is not there.
-fn is_stray(moments: &[Moment], place: usize) -> bool {
+#[tactic(auto, using(crate::proofs::Straying::was_sent, crate::proofs::Straying::was_not_sent, crate::proofs::Straying::is_known))]
+fn is_stray(moments: &[Moment], place: usize) -> bool
+    ensures { IsStray moments.now place result }
+{
     match unknown_at(moments, place) {
-        Some(message) => sent_before(moments, place, message).is_some(),
+        Some(message) => match sent_before(moments, place, message) {
+            Some(_) => true,
+            None => false,
+        },
         None => false,
     }
 }
 
 // The message that an event was to bring, if it is unknown.
-fn unknown_at(moments: &[Moment], place: usize) -> Option<u64> {
+fn unknown_at(moments: &[Moment], place: usize) -> Option<u64>
+    ensures { result ≡ unknown_at moments.now place }
+{
     let moment = moments.get(place)?;
     match moment.answer {
         Err(Fault::Unknown) => delivered(moment.event),

@@ -42,7 +42,7 @@ static READS: [(Given, bool, Heard); 6] = [
     (Given::Nothing, true, Heard::Quiet),
     (Given::Nothing, false, Heard::End),
     (Given::Fails(ErrorKind::Interrupted), true, Heard::Quiet),
-    (Given::Fails(ErrorKind::Other), true, Heard::End),
+    (Given::Fails(ErrorKind::Other), true, Heard::Failed),
 ];
 
 #[test]

@@ -158,7 +158,7 @@ fn expect_heard<R: Abort + Clock + Copy>(
     let (second, mut second_out) = RingBuffer::new(alloc, 8)?;
     let stops = match case.ending {
         Ending::Stopped => Some(signs),
-        Ending::Quit | Ending::EndOfInput => None,
+        Ending::Quit | Ending::EndOfInput | Ending::Failed => None,
     };
     let listener = Listener {
         source: Typed {
