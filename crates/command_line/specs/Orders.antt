@@ -1,10 +1,14 @@
--- What a command line asks for: the command that its second word names, with the options that clap has found after it.
+-- What a command line asks for: the command that its words name, with the options that clap finds after that name.
 use Rattle.std.specs.Prelude.{◌≡◌, ◌≢◌, ◌⊎◌, ℕ, ◌^◌, ◌<◌, if◌then◌else◌, List, [], ◌∷◌, Bool, true, false, Option, Some, None, bytes_eq, codes, map, string_bytes, unwrap_or}
-use Rattle.std.specs.Option.{option_map, option_map_or}
+use Rattle.std.specs.Option.{option_map_or}
 use Rattle.std.specs.Str.Parse.{IsNumeral, digits_value, without_leading_plus}
-use Rattle.clap.specs.Words.{first_value, found_of, matched_of, one_text, raw_values, rows_of, subcommand_name_of, subcommand_rows_of}
-use Rattle.clap.specs.declared.parser.matches.ArgMatches.{ArgMatches}
-use Rattle.clap.specs.declared.parser.matches.Found.{Found}
+use Rattle.clap.specs.Words.{IsAmong, Row, Text, fault_of, first_of, one_of, subcommand_of}
+use Rattle.clap.specs.declared.error.kind.ErrorKind.TheVariants as kind
+use Rattle.command_ending.specs.Statuses.{is_of_command_line}
+use Rattle.command_ending.specs.declared.failure.Failure.{Failure}
+use Rattle.command_ending.specs.declared.failure.Failure.TheVariants as failure
+use Rattle.command_line.specs.Commands.{pair_app}
+use Rattle.command_line.specs.Lists.{lists_hold, pieces_in}
 use Rattle.command_line.specs.declared.console_order.ConsoleOrder.{ConsoleOrder}
 use Rattle.command_line.specs.declared.live_order.Asker.{Asker}
 use Rattle.command_line.specs.declared.live_order.Asker.TheVariants.{Nobody, Primary, Backup}
@@ -29,10 +33,6 @@ reads_of word = if bytes_eq word (codes "shared") then Shared else Logged
 abbrev pub asker_of : List ℕ → Asker
 asker_of word =
     if bytes_eq word (codes "primary") then Primary else (if bytes_eq word (codes "backup") then Backup else Nobody)
-
--- the values that an option was given, in their order
-abbrev pub values_of : Found → List ℕ → List (List ℕ)
-values_of found option = option_map_or raw_values (matched_of found option) []
 
 -- the number of this many bits that a text is, or none
 abbrev pub IsNumber : ℕ → List ℕ → Option ℕ → Type 0
@@ -65,89 +65,96 @@ drive_of word =
     if bytes_eq word (codes "1") then 1 else (if bytes_eq word (codes "2") then 2 else (if bytes_eq word (codes "3") then 3 else 0))
 
 -- the drives that an option names, in their order
-abbrev pub drives_in : Found → List ℕ → List ℕ
-drives_in found option = map drive_of (values_of found option)
+abbrev pub drives_in : List Row → Text → List ℕ
+drives_in rows option = map drive_of (pieces_in rows option)
 
 -- each option of `live` sets what it says: how many turns, when somebody asks, these fates in this order, who asks in further
 -- generations and when, the drives whose disks are saved, and whether the pair is told of; the drives with images are given
-pub record IsOrdered (found : Found) (images : List ℕ) (order : LiveOrder) : Type 0 where
-  pub turns : IsGivenOr 64 1000000 (one_text found (codes "turns")) order.turns
-  pub primary_asks : IsGiven 64 (one_text found (codes "primary-asks")) order.primary_asks
-  pub backup_asks : IsGiven 64 (one_text found (codes "backup-asks")) order.backup_asks
-  pub link : order.link.items ≡ map fate_of (values_of found (codes "link"))
-  pub next : order.next.items ≡ map asker_of (values_of found (codes "next"))
-  pub next_at : AreTurns (values_of found (codes "next-at")) order.next_at.items
+pub record IsOrdered (rows : List Row) (images : List ℕ) (order : LiveOrder) : Type 0 where
+  pub turns : IsGivenOr 64 1000000 (one_of (codes "turns") rows) order.turns
+  pub primary_asks : IsGiven 64 (one_of (codes "primary-asks") rows) order.primary_asks
+  pub backup_asks : IsGiven 64 (one_of (codes "backup-asks") rows) order.backup_asks
+  pub link : order.link.items ≡ map fate_of (pieces_in rows (codes "link"))
+  pub next : order.next.items ≡ map asker_of (pieces_in rows (codes "next"))
+  pub next_at : AreTurns (pieces_in rows (codes "next-at")) order.next_at.items
   pub images_are : order.images.items ≡ images
-  pub saved : order.saved.items ≡ drives_in found (codes "saved")
-  pub told : IsFlag (one_text found (codes "told")) order.told
+  pub saved : order.saved.items ≡ drives_in rows (codes "saved")
+  pub told : IsFlag (one_of (codes "told") rows) order.told
 
 -- the text that an option was given; [] if it was not
-abbrev pub text_given : Found → List ℕ → List ℕ
-text_given found option = unwrap_or (first_value found option) []
+abbrev pub text_given : List Row → Text → List ℕ
+text_given rows option = unwrap_or (first_of option rows) []
 
 -- each option of `console` sets what it says: how many spare hosts there are, the escape key, how much comes before the first key, these
 -- fates in this order, what the log has of a sector, the drives whose disks are saved, the mark before these, and whether lines are
 -- handed over; the drives with images
 -- are given
-pub record IsConsoleOrdered (found : Found) (images : List ℕ) (order : ConsoleOrder) : Type 0 where
-  pub spares : IsGivenOr 64 2 (one_text found (codes "spares")) order.spares
-  pub escape : IsGivenOr 8 5 (one_text found (codes "escape")) order.escape
-  pub before : IsGivenOr 64 0 (one_text found (codes "before")) order.before
-  pub link : order.link.items ≡ map fate_of (values_of found (codes "link"))
-  pub reads : order.reads ≡ reads_of (text_given found (codes "reads"))
+pub record IsConsoleOrdered (rows : List Row) (images : List ℕ) (order : ConsoleOrder) : Type 0 where
+  pub spares : IsGivenOr 64 2 (one_of (codes "spares") rows) order.spares
+  pub escape : IsGivenOr 8 5 (one_of (codes "escape") rows) order.escape
+  pub before : IsGivenOr 64 0 (one_of (codes "before") rows) order.before
+  pub link : order.link.items ≡ map fate_of (pieces_in rows (codes "link"))
+  pub reads : order.reads ≡ reads_of (text_given rows (codes "reads"))
   pub images_are : order.images.items ≡ images
-  pub saved : order.saved.items ≡ drives_in found (codes "saved")
-  pub mark : string_bytes order.mark ≡ text_given found (codes "mark")
-  pub apart : IsFlag (one_text found (codes "apart")) order.apart
+  pub saved : order.saved.items ≡ drives_in rows (codes "saved")
+  pub mark : string_bytes order.mark ≡ text_given rows (codes "mark")
+  pub apart : IsFlag (one_of (codes "apart") rows) order.apart
 
 -- the word that names the command: the one after the program's name; [] if there is none
-abbrev pub command_word : List (List ℕ) → List ℕ
+abbrev pub command_word : List Text → Text
 command_word (program ∷ (word ∷ words)) = word
 command_word words = []
 
 -- the images come first of the drives that this option names
-abbrev pub HasImages : Found → List ℕ → Type 0
-HasImages found images = images ≡ drives_in found (codes "images")
+abbrev pub HasImages : List Row → List ℕ → Type 0
+HasImages rows images = images ≡ drives_in rows (codes "images")
 
--- it is `script`, which is the command of every word that is no other's
-pub record IsOfScript (word : List ℕ) : Type 0 where
-  pub check : word ≢ codes "check"
-  pub picture : word ≢ codes "picture"
-  pub lint : word ≢ codes "lint"
-  pub shell : word ≢ codes "shell"
-  pub live : word ≢ codes "live"
-  pub console : word ≢ codes "console"
+-- it is `script`, which is the command of every name that is no other's
+pub record IsOfScript (name : Text) : Type 0 where
+  pub check : name ≢ codes "check"
+  pub picture : name ≢ codes "picture"
+  pub lint : name ≢ codes "lint"
+  pub shell : name ≢ codes "shell"
+  pub live : name ≢ codes "live"
+  pub console : name ≢ codes "console"
 
--- the command of this word is asked for, with the options that clap has found after it
-abbrev pub Asks : List ℕ → Found → Request → Type 0
-Asks word found (request.Script images) = IsOfScript word × HasImages found images.items
-Asks word found (request.Check images) = (word ≡ codes "check") × HasImages found images.items
-Asks word found (request.Picture images) = (word ≡ codes "picture") × HasImages found images.items
-Asks word found request.Lint = word ≡ codes "lint"
-Asks word found (request.Live order) = (word ≡ codes "live") × IsOrdered found (drives_in found (codes "images")) order
-Asks word found (request.Console order) = (word ≡ codes "console") × IsConsoleOrdered found (drives_in found (codes "images")) order
-Asks word found request.Shell = word ≡ codes "shell"
-Asks word found (request.Help text) = ⊥
+-- the command of this name is asked for, with the options that clap has found after it
+abbrev pub Asks : Text → List Row → Request → Type 0
+Asks name rows (request.Script images) = IsOfScript name × HasImages rows images.items
+Asks name rows (request.Check images) = (name ≡ codes "check") × HasImages rows images.items
+Asks name rows (request.Picture images) = (name ≡ codes "picture") × HasImages rows images.items
+Asks name rows request.Lint = name ≡ codes "lint"
+Asks name rows (request.Live order) = (name ≡ codes "live") × IsOrdered rows (drives_in rows (codes "images")) order
+Asks name rows (request.Console order) = (name ≡ codes "console") × IsConsoleOrdered rows (drives_in rows (codes "images")) order
+Asks name rows request.Shell = name ≡ codes "shell"
+Asks name rows (request.Help text) = ⊥
 
--- what clap has found after the name of a command; all that it has found, if that is no command
-abbrev pub IsAfter : ArgMatches → Found → Type 0
-IsAfter matches found = (option_map (λ p. p.1) (subcommand_rows_of matches) ≡ Some (rows_of found))
-    ⊎ ((subcommand_name_of matches ≡ None) × (rows_of found ≡ rows_of (found_of matches)))
+-- clap finds a command in the words, and the lists of its options hold what they may
+abbrev pub is_well_formed : List Text → Bool
+is_well_formed words = option_map_or (λ found. lists_hold found.1) (subcommand_of pair_app words) false
 
--- the same of all that clap has found in the words
-pub record AsksIn (word : List ℕ) (matches : ArgMatches) (asked : Request) : Type 0 where
-  pub found : Found
-  pub after : IsAfter matches found
-  pub asks : Asks word found asked
-
-abbrev pub HasFound : List ℕ → Request → Type 0
-HasFound word asked = (matches : ArgMatches) × AsksIn word matches asked
+-- clap finds no fault with the words, and the command that they name is asked for, with the options after it
+pub record HasFound (words : List Text) (asked : Request) : Type 0 where
+  pub faultless : fault_of pair_app words ≡ []
+  pub lists : is_well_formed words ≡ true
+  pub name : Text
+  pub rows : List Row
+  pub found : subcommand_of pair_app words ≡ Some (name, rows)
+  pub asks : Asks name rows asked
 
 -- help is asked for, by a command of its own
-abbrev pub AsksHelp : List ℕ → Request → Type 0
-AsksHelp word (request.Help text) = word ≡ codes "help"
-AsksHelp word asked = ⊥
+abbrev pub AsksHelp : List Text → Request → Type 0
+AsksHelp words (request.Help text) = (command_word words ≡ codes "help") × IsAmong kind.DisplayHelp (fault_of pair_app words)
+AsksHelp words asked = ⊥
 
 -- what the words of a command line ask for
-abbrev pub IsAsked : List (List ℕ) → Request → Type 0
-IsAsked words asked = HasFound (command_word words) asked ⊎ AsksHelp (command_word words) asked
+abbrev pub IsAsked : List Text → Request → Type 0
+IsAsked words asked = HasFound words asked ⊎ AsksHelp words asked
+
+-- the words ask for nothing: clap finds a fault with them, or no command, or a list does not hold what it may
+abbrev pub AskForNothing : List Text → Type 0
+AskForNothing words = (fault_of pair_app words ≢ []) ⊎ (is_well_formed words ≡ false)
+
+-- such words are refused, and others only if memory is
+abbrev pub IsRefused : List Text → Failure → Type 0
+IsRefused words refusal = (refusal ≡ failure.OutOfMemory) ⊎ ((is_of_command_line refusal ≡ true) × AskForNothing words)

@@ -1,4 +1,6 @@
 //! The program's commands and their options, as clap takes them.
+ghost use Rattle.std.specs.Prelude.{◌≡◌, [], IfOk, codes};
+ghost use Rattle.command_line.specs.Commands.{Adds, AddsScriptCommands, IsCommand, IsOption, alone, by_default, command, console_numbers, console_options, flag_option, link_and_disks, live_options, number_option, pair_app, program_shape, script_options, text_option, turn_options};
 
 use clap::builder::ValueParser;
 use clap::{Arg, ArgAction, Command};
@@ -25,22 +27,16 @@ Exit status: 0 the run ended; 2 this text, or a command line that is none; 3 a b
 script; 4 out of memory; 5 input or output failed; 6 a pair on threads stalled; 7
 `check` found a difference.";
 
-const LIVE_USAGE: &str =
-    "pair live [OPTIONS] < FILE (setup and `type` lines come from standard input)";
-
-const CONSOLE_USAGE: &str =
-    "pair console [OPTIONS] (keys come from standard input, after what --before says)";
-
 // The names of the fates of a packet: it is brought, it is lost, it is brought twice.
-static FATES: &[&str] = &["pass", "drop", "twice"];
+pub(crate) static FATES: &[&str] = &["pass", "drop", "twice"];
 
 // Who asks to go on alone in a further generation.
-static ASKERS: &[&str] = &["nobody", "primary", "backup"];
+pub(crate) static ASKERS: &[&str] = &["nobody", "primary", "backup"];
 
 // What a packet of the log has of a sector.
-static READS: &[&str] = &["logged", "shared"];
+pub(crate) static READS: &[&str] = &["logged", "shared"];
 
-static DRIVES: &[&str] = &["0", "1", "2", "3"];
+pub(crate) static DRIVES: &[&str] = &["0", "1", "2", "3"];
 
 const IMAGES: &str =
     "The drives whose disks come before the script, each as an image of 337568 bytes; ./pair sends them for --disk";
@@ -52,33 +48,22 @@ const TOLD: &str =
     "Tells of each failure, takeover, copy and generation in a line on standard error";
 
 // How many turns there are at most.
-const MOST_TURNS: u64 = 1_000_000_000;
+pub(crate) const MOST_TURNS: u64 = 1_000_000_000;
 
 const TURNS_HELP: &str =
     "In how many turns the primary, and the backup, may make progress; one that finds nothing to do is none of them";
 
-// The options of `console` whose values are numbers from 0 on: their names, the greatest numbers, those that count without the option, and
-// what they say.
-static CONSOLE_NUMBERS: [(&str, u64, &str, &str); 3] = [
-    (
-        "spares",
-        97,
-        "2",
-        "How many spare hosts there are; when a host has failed, the guest is copied to the next one",
-    ),
-    (
-        "escape",
-        255,
-        "5",
-        "The key that opens a command line, as the number of its byte; 5 is Ctrl-E",
-    ),
-    (
-        "before",
-        1_099_511_627_776,
-        "0",
-        "How many bytes come before the first key: images, then setup and `type` lines",
-    ),
-];
+const SPARES_HELP: &str =
+    "How many spare hosts there are; when a host has failed, the guest is copied to the next one";
+
+const ESCAPE_HELP: &str =
+    "The key that opens a command line, as the number of its byte; 5 is Ctrl-E";
+
+const BEFORE_HELP: &str =
+    "How many bytes come before the first key: images, then setup and `type` lines";
+
+// How many bytes come before the first key at most.
+const MOST_BEFORE: u64 = 1_099_511_627_776;
 
 const READS_HELP: &str =
     "Whether the log carries each sector that the primary reads, or names it, so that the backup reads it from the shared disk";
@@ -89,59 +74,66 @@ const MARK: &str =
 const APART: &str =
     "Hands each line about the pair over between marks, apart from what else is said; ./pair shows it";
 
-// The commands that run a script: their names, what they do, and how they are called.
-static SCRIPT_COMMANDS: [(&str, &str, &str); 3] = [
-    (
-        "script",
-        "Runs a script, and prints a line for each event and query",
-        "pair script [OPTIONS] < FILE (the script comes from standard input)",
-    ),
-    (
-        "check",
-        "Runs a script silently, and compares the pair with a single machine",
-        "pair check [OPTIONS] < FILE (the script comes from standard input)",
-    ),
-    (
-        "picture",
-        "Runs a script silently, and draws what happened in it as an SVG picture",
-        "pair picture [OPTIONS] < FILE > PICTURE.svg (the script comes from standard input)",
-    ),
-];
+// The commands that run a script: what they do, and how they are called.
+const SCRIPT: (&str, &str) = (
+    "Runs a script, and prints a line for each event and query",
+    "pair script [OPTIONS] < FILE (the script comes from standard input)",
+);
+
+const CHECK: (&str, &str) = (
+    "Runs a script silently, and compares the pair with a single machine",
+    "pair check [OPTIONS] < FILE (the script comes from standard input)",
+);
+
+const PICTURE: (&str, &str) = (
+    "Runs a script silently, and draws what happened in it as an SVG picture",
+    "pair picture [OPTIONS] < FILE > PICTURE.svg (the script comes from standard input)",
+);
 
 // The commands without options.
-static PLAIN_COMMANDS: [(&str, &str, &str); 2] = [
-    (
-        "lint",
-        "Names every bad line of a script, and what was expected there; it runs nothing",
-        "pair lint < FILE (the script comes from standard input)",
-    ),
-    (
-        "shell",
-        "Answers lines as they come; the line `help` lists them all",
-        "pair shell (lines come from standard input)",
-    ),
-];
+const LINT: (&str, &str) = (
+    "Names every bad line of a script, and what was expected there; it runs nothing",
+    "pair lint < FILE (the script comes from standard input)",
+);
 
-// The options of `live` that say when somebody asks.
-static ASKS: [(&str, &str); 2] = [
-    (
-        "primary-asks",
-        "The turn at which the primary asks to go on alone",
-    ),
-    (
-        "backup-asks",
-        "The turn at which the backup asks to go on alone",
-    ),
-];
+const SHELL: (&str, &str) = (
+    "Answers lines as they come; the line `help` lists them all",
+    "pair shell (lines come from standard input)",
+);
+
+const LIVE: (&str, &str) = (
+    "Runs a pair on threads, and prints what its terminals have accepted",
+    "pair live [OPTIONS] < FILE (setup and `type` lines come from standard input)",
+);
+
+const CONSOLE: (&str, &str) = (
+    "Runs a pair that one sits at: keys from standard input, the guest's output as it is accepted",
+    "pair console [OPTIONS] (keys come from standard input, after what --before says)",
+);
+
+/// How clap takes the list of an option. Its contract says what it finds in words only if it leaves lists whole; what it tells of a
+/// refused list is of the piece that is wrong only if it has cut them.
+#[derive(Clone, Copy)]
+pub(crate) enum Lists {
+    Whole,
+    Cut,
+}
 
 /// The program with all its commands.
-pub(crate) fn pair_command<'a>(alloc: Global) -> Result<Command<'a>, AllocError> {
-    let pair = with_script_commands(alloc, program(alloc)?)?;
-    with_thread_commands(alloc, with_plain_commands(alloc, pair)?)
+pub(crate) fn pair_command<'a>(alloc: Global, lists: Lists) -> Result<Command<'a>, AllocError>
+    ensures { IfOk result (λ c. lists ≡ Lists.Whole → IsCommand pair_app c) }
+{
+    let pair = with_script_commands(alloc, lists, program(alloc)?)?;
+    let pair = pair.subcommand(plain_command(alloc, "lint", LINT))?;
+    let pair = pair.subcommand(plain_command(alloc, "shell", SHELL))?;
+    let pair = pair.subcommand(live_command(alloc, lists)?)?;
+    pair.subcommand(console_command(alloc, lists)?)
 }
 
 // The program without its commands.
-fn program<'a>(alloc: Global) -> Result<Command<'a>, AllocError> {
+fn program<'a>(alloc: Global) -> Result<Command<'a>, AllocError>
+    ensures { IfOk result (IsCommand (alone program_shape)) }
+{
     let pair = Command::new(alloc, "pair").bin_name("pair")?;
     Ok(
         pair.version("0.1.0")
@@ -151,182 +143,222 @@ fn program<'a>(alloc: Global) -> Result<Command<'a>, AllocError> {
     )
 }
 
-// The program with its commands that run a pair on threads.
-fn with_thread_commands<'a>(
-    alloc: Global,
-    program: Command<'a>,
-) -> Result<Command<'a>, AllocError> {
-    let pair = program.subcommand(live_command(alloc)?)?;
-    pair.subcommand(console_command(alloc)?)
-}
-
 // The program with its commands that run a script.
 fn with_script_commands<'a>(
     alloc: Global,
+    lists: Lists,
     program: Command<'a>,
-) -> Result<Command<'a>, AllocError> {
-    let mut pair = program;
-    for (name, about, usage) in SCRIPT_COMMANDS {
-        let command = Command::new(alloc, name).about(about).override_usage(usage);
-        pair = pair.subcommand(command.arg(images(alloc))?)?;
-    }
-    Ok(pair)
+) -> Result<Command<'a>, AllocError>
+    ensures { IfOk result (λ c. lists ≡ Lists.Whole → AddsScriptCommands program.entry c) }
+{
+    let pair = program.subcommand(script_command(alloc, lists, "script", SCRIPT)?)?;
+    let pair = pair.subcommand(script_command(alloc, lists, "check", CHECK)?)?;
+    pair.subcommand(script_command(alloc, lists, "picture", PICTURE)?)
 }
 
-// The program with its commands without options.
-fn with_plain_commands<'a>(alloc: Global, program: Command<'a>) -> Result<Command<'a>, AllocError> {
-    let mut pair = program;
-    for (name, about, usage) in PLAIN_COMMANDS {
-        let command = Command::new(alloc, name).about(about).override_usage(usage);
-        pair = pair.subcommand(command)?;
-    }
-    Ok(pair)
+// A command without options.
+fn plain_command<'a>(alloc: Global, name: &'a str, told: (&'a str, &'a str)) -> Command<'a>
+    ensures { IsCommand (alone (command name.now [])) result }
+{
+    Command::new(alloc, name)
+        .about(told.0)
+        .override_usage(told.1)
+}
+
+// A command that runs a script.
+fn script_command<'a>(
+    alloc: Global,
+    lists: Lists,
+    name: &'a str,
+    told: (&'a str, &'a str),
+) -> Result<Command<'a>, AllocError>
+    ensures { IfOk result (λ c. lists ≡ Lists.Whole → IsCommand (alone (command name.now script_options)) c) }
+{
+    plain_command(alloc, name, told).arg(images(alloc, lists))
 }
 
 // The command that runs a pair on threads.
-fn live_command<'a>(alloc: Global) -> Result<Command<'a>, AllocError> {
-    let live = Command::new(alloc, "live")
-        .about("Runs a pair on threads, and prints what its terminals have accepted")
-        .override_usage(LIVE_USAGE);
-    with_words(alloc, with_turns(alloc, live)?)
+fn live_command<'a>(alloc: Global, lists: Lists) -> Result<Command<'a>, AllocError>
+    ensures { IfOk result (λ c. lists ≡ Lists.Whole → IsCommand (alone (command (codes "live") live_options)) c) }
+{
+    let live = with_turns(alloc, plain_command(alloc, "live", LIVE))?;
+    let live = with_link_and_disks(alloc, lists, live)?;
+    live.arg(next(alloc, lists))?
+        .arg(next_at(alloc, lists))?
+        .arg(told(alloc))
 }
 
 // The command that runs a pair that one sits at.
-fn console_command<'a>(alloc: Global) -> Result<Command<'a>, AllocError> {
-    let console = Command::new(alloc, "console")
-        .about(
-            "Runs a pair that one sits at: keys from standard input, the guest's output as it is accepted",
-        )
-        .override_usage(CONSOLE_USAGE);
-    let command = with_link_and_disks(alloc, with_console_numbers(alloc, console)?)?;
-    command
-        .arg(reads(alloc))?
+fn console_command<'a>(alloc: Global, lists: Lists) -> Result<Command<'a>, AllocError>
+    ensures { IfOk result (λ c. lists ≡ Lists.Whole → IsCommand (alone (command (codes "console") console_options)) c) }
+{
+    let console = with_console_numbers(alloc, plain_command(alloc, "console", CONSOLE))?;
+    let console = with_link_and_disks(alloc, lists, console)?;
+    console
+        .arg(reads(alloc, lists))?
         .arg(mark(alloc))?
         .arg(apart(alloc))
 }
 
-// The command with its options whose values are numbers from 0 on.
-fn with_console_numbers<'a>(
-    alloc: Global,
-    console: Command<'a>,
-) -> Result<Command<'a>, AllocError> {
-    let mut command = console;
-    for (name, most, default, help) in CONSOLE_NUMBERS {
-        let number = number(alloc, name, 0, most)
-            .help(help)
-            .default_value(default);
-        command = command.arg(number)?;
-    }
-    Ok(command)
-}
-
-fn reads<'a>(alloc: Global) -> Arg<'a> {
-    Arg::new(alloc, "reads")
-        .long("reads")
-        .value_name("HOW")
-        .value_parser(ValueParser::Names(READS))
-        .default_value("logged")
-        .help(READS_HELP)
-}
-
-fn mark<'a>(alloc: Global) -> Arg<'a> {
-    Arg::new(alloc, "mark")
-        .long("mark")
-        .value_name("TEXT")
-        .help(MARK)
-}
-
-fn apart<'a>(alloc: Global) -> Arg<'a> {
-    Arg::new(alloc, "apart")
-        .long("apart")
-        .action(ArgAction::SetTrue)
-        .help(APART)
-}
-
 // The command with its options that say for how many turns, and when somebody asks.
-fn with_turns<'a>(alloc: Global, live: Command<'a>) -> Result<Command<'a>, AllocError> {
+fn with_turns<'a>(alloc: Global, live: Command<'a>) -> Result<Command<'a>, AllocError>
+    ensures { IfOk result (Adds turn_options live.entry) }
+{
     let turns = turn(alloc, "turns", 1)
         .help(TURNS_HELP)
         .default_value("1000000");
-    let mut command = live.arg(turns)?;
-    for (name, help) in ASKS {
-        command = command.arg(turn(alloc, name, 0).help(help))?;
-    }
-    Ok(command)
+    let primary_asks = turn(alloc, "primary-asks", 0).help(
+        "The turn at which the primary asks to go on alone",
+    );
+    let backup_asks = turn(alloc, "backup-asks", 0).help(
+        "The turn at which the backup asks to go on alone",
+    );
+    live.arg(turns)?.arg(primary_asks)?.arg(backup_asks)
 }
 
-// The command with its options whose values are words, and the one without a value.
-fn with_words<'a>(alloc: Global, live: Command<'a>) -> Result<Command<'a>, AllocError> {
-    with_next(alloc, with_link_and_disks(alloc, live)?)?.arg(told(alloc))
-}
-
-fn told<'a>(alloc: Global) -> Arg<'a> {
-    Arg::new(alloc, "told")
-        .long("told")
-        .action(ArgAction::SetTrue)
-        .help(TOLD)
+// The command with its options whose values are numbers from 0 on.
+fn with_console_numbers<'a>(alloc: Global, console: Command<'a>) -> Result<Command<'a>, AllocError>
+    ensures { IfOk result (Adds console_numbers console.entry) }
+{
+    let spares = number(alloc, "spares", 0, 97)
+        .default_value("2")
+        .help(SPARES_HELP);
+    let escape = number(alloc, "escape", 0, 255)
+        .default_value("5")
+        .help(ESCAPE_HELP);
+    let before = number(alloc, "before", 0, MOST_BEFORE)
+        .default_value("0")
+        .help(BEFORE_HELP);
+    console.arg(spares)?.arg(escape)?.arg(before)
 }
 
 // The command with its options for the link and the disks.
-fn with_link_and_disks<'a>(alloc: Global, command: Command<'a>) -> Result<Command<'a>, AllocError> {
-    let command = command.arg(link(alloc))?;
-    command.arg(images(alloc))?.arg(saved(alloc))
+fn with_link_and_disks<'a>(
+    alloc: Global,
+    lists: Lists,
+    command: Command<'a>,
+) -> Result<Command<'a>, AllocError>
+    ensures { IfOk result (λ c. lists ≡ Lists.Whole → Adds link_and_disks command.entry c) }
+{
+    command
+        .arg(link(alloc, lists))?
+        .arg(images(alloc, lists))?
+        .arg(saved(alloc, lists))
 }
 
-// The command with its options that say what happens in further generations.
-fn with_next<'a>(alloc: Global, live: Command<'a>) -> Result<Command<'a>, AllocError> {
-    live.arg(next(alloc))?.arg(next_at(alloc))
+fn reads<'a>(alloc: Global, lists: Lists) -> Arg<'a>
+    ensures { lists ≡ Lists.Whole → IsOption (by_default (codes "logged") (text_option (codes "reads"))) result }
+{
+    let reads = text(alloc, "reads", "HOW")
+        .default_value("logged")
+        .help(READS_HELP);
+    match lists {
+        Lists::Whole => reads,
+        Lists::Cut => reads.value_parser(ValueParser::Names(READS)),
+    }
 }
 
-fn next<'a>(alloc: Global) -> Arg<'a> {
-    words(alloc, "next", "WHO", ASKERS).help(
+fn mark<'a>(alloc: Global) -> Arg<'a>
+    ensures { IsOption (text_option (codes "mark")) result }
+{
+    text(alloc, "mark", "TEXT").help(MARK)
+}
+
+fn apart<'a>(alloc: Global) -> Arg<'a>
+    ensures { IsOption (flag_option (codes "apart")) result }
+{
+    flag(alloc, "apart").help(APART)
+}
+
+fn told<'a>(alloc: Global) -> Arg<'a>
+    ensures { IsOption (flag_option (codes "told")) result }
+{
+    flag(alloc, "told").help(TOLD)
+}
+
+fn next<'a>(alloc: Global, lists: Lists) -> Arg<'a>
+    ensures { lists ≡ Lists.Whole → IsOption (text_option (codes "next")) result }
+{
+    list(alloc, lists, "next", "WHO", ASKERS).help(
         "Who asks to go on alone in each further generation; ./pair sends them for --stop",
     )
 }
 
-fn next_at<'a>(alloc: Global) -> Arg<'a> {
-    turn(alloc, "next-at", 0)
-        .value_delimiter(',')
-        .help("At which turn, in the same order")
+fn next_at<'a>(alloc: Global, lists: Lists) -> Arg<'a>
+    ensures { lists ≡ Lists.Whole → IsOption (text_option (codes "next-at")) result }
+{
+    let next_at = text(alloc, "next-at", "N").help("At which turn, in the same order");
+    match lists {
+        Lists::Whole => next_at,
+        Lists::Cut => next_at
+            .value_delimiter(',')
+            .value_parser(ValueParser::unsigned(0, MOST_TURNS)),
+    }
 }
 
-fn link<'a>(alloc: Global) -> Arg<'a> {
-    words(alloc, "link", "FATES", FATES).help(
+fn link<'a>(alloc: Global, lists: Lists) -> Arg<'a>
+    ensures { lists ≡ Lists.Whole → IsOption (text_option (codes "link")) result }
+{
+    list(alloc, lists, "link", "FATES", FATES).help(
         "The fates of the packets, in order; the last is that of all others",
     )
 }
 
-fn images<'a>(alloc: Global) -> Arg<'a> {
-    words(alloc, "images", "DRIVES", DRIVES).help(IMAGES)
+fn images<'a>(alloc: Global, lists: Lists) -> Arg<'a>
+    ensures { lists ≡ Lists.Whole → IsOption (text_option (codes "images")) result }
+{
+    list(alloc, lists, "images", "DRIVES", DRIVES).help(IMAGES)
 }
 
-fn saved<'a>(alloc: Global) -> Arg<'a> {
-    words(alloc, "saved", "DRIVES", DRIVES).help(SAVED)
+fn saved<'a>(alloc: Global, lists: Lists) -> Arg<'a>
+    ensures { lists ≡ Lists.Whole → IsOption (text_option (codes "saved")) result }
+{
+    list(alloc, lists, "saved", "DRIVES", DRIVES).help(SAVED)
 }
 
-// An option whose values are words of a list, with commas between them.
-fn words<'a>(
+// An option whose value is a list of these names, with commas between them.
+fn list<'a>(
     alloc: Global,
+    lists: Lists,
     name: &'a str,
-    values: &'a str,
-    list: &'static [&'static str],
-) -> Arg<'a> {
-    Arg::new(alloc, name)
-        .long(name)
-        .value_name(values)
-        .value_delimiter(',')
-        .value_parser(ValueParser::Names(list))
+    value: &'a str,
+    names: &'static [&'static str],
+) -> Arg<'a>
+    ensures { lists ≡ Lists.Whole → IsOption (text_option name.now) result }
+{
+    let list = text(alloc, name, value);
+    match lists {
+        Lists::Whole => list,
+        Lists::Cut => list
+            .value_delimiter(',')
+            .value_parser(ValueParser::Names(names)),
+    }
+}
+
+// An option whose value is any text.
+fn text<'a>(alloc: Global, name: &'a str, value: &'a str) -> Arg<'a>
+    ensures { IsOption (text_option name.now) result }
+{
+    Arg::new(alloc, name).long(name).value_name(value)
+}
+
+// An option without a value.
+fn flag<'a>(alloc: Global, name: &'a str) -> Arg<'a>
+    ensures { IsOption (flag_option name.now) result }
+{
+    Arg::new(alloc, name).long(name).action(ArgAction::SetTrue)
 }
 
 // An option whose value is a number of turns, at least this many.
-fn turn<'a>(alloc: Global, name: &'a str, least: u64) -> Arg<'a> {
+fn turn<'a>(alloc: Global, name: &'a str, least: u64) -> Arg<'a>
+    ensures { IsOption (number_option name.now least 1000000000) result }
+{
     number(alloc, name, least, MOST_TURNS)
 }
 
 // An option whose value is a number from the first of these to the second.
-fn number<'a>(alloc: Global, name: &'a str, least: u64, most: u64) -> Arg<'a> {
-    Arg::new(alloc, name)
-        .long(name)
-        .value_name("N")
-        .value_parser(ValueParser::unsigned(least, most))
+fn number<'a>(alloc: Global, name: &'a str, least: u64, most: u64) -> Arg<'a>
+    ensures { IsOption (number_option name.now least most) result }
+{
+    text(alloc, name, "N").value_parser(ValueParser::unsigned(least, most))
 }

@@ -3,6 +3,7 @@
 
 mod commands;
 mod console_order;
+mod lists;
 mod live_order;
 mod options;
 

@@ -1,11 +1,14 @@
 //! The command line.
-ghost use Rattle.std.specs.Prelude.{◌≡◌, IfErr, IfOk, Some, codes, map, string_bytes, true};
-ghost use Rattle.clap.specs.Words.{found_of, one_text};
+ghost use Rattle.std.specs.Prelude.{◌≡◌, ◌≢◌, [], IfErr, IfOk, Some, codes, map, string_bytes, true, false};
+ghost use Rattle.clap.specs.Words.{HasKind, fault_of, found_of, kind_of, one_of, rows_of, subcommand_of, subcommand_rows_of};
 ghost use Rattle.command_ending.specs.Statuses.{is_of_command_line};
-ghost use Rattle.command_line.specs.Orders.{AreTurns, Asks, AsksHelp, AsksIn, HasFound, IsAsked, IsConsoleOrdered, IsFlag, IsGiven, IsGivenOr, IsOrdered, command_word, asker_of, drive_of, drives_in, fate_of, reads_of, text_given, values_of};
+ghost use Rattle.command_line.specs.Commands.{pair_app};
+ghost use Rattle.command_line.specs.Lists.{pieces_in};
+ghost use Rattle.command_line.specs.Orders.{AreTurns, Asks, AsksHelp, HasFound, IsAsked, IsConsoleOrdered, IsFlag, IsGiven, IsGivenOr, IsOrdered, IsRefused, command_word, asker_of, drive_of, drives_in, fate_of, reads_of, text_given};
 
-use crate::commands::pair_command;
+use crate::commands::{Lists, pair_command};
 use crate::console_order::ConsoleOrder;
+use crate::lists::{given_in, lists_hold, pieces_in};
 use crate::live_order::{Asker, LiveOrder};
 use clap::error::ErrorKind;
 use clap::{ArgMatches, Error};
@@ -35,6 +38,9 @@ pub enum Request {
     Help(String),
 }
 
+// What is told of a command line in which clap finds no mistake once it has cut the lists.
+const UNTOLD: &str = "error: a command line that asks for nothing\n";
+
 // How many turns there are if the command line does not say.
 const TURNS: u64 = 1_000_000;
 
@@ -45,16 +51,50 @@ const SPARES: u64 = 2;
 const ESCAPE: u8 = 5;
 
 /// What the words of a command line ask for; the first word is the program's name.
-#[tactic(auto, using(crate::proofs::Orders::asked_by_found, crate::proofs::Orders::asked_by_help))]
+#[tactic(auto, using(crate::proofs::Orders::asked_if_found, crate::proofs::Orders::asked_if_help))]
 pub fn request_of(alloc: Global, arguments: &[String]) -> Result<Request, Failure>
     ensures asked { IfOk result (IsAsked (map (λ word. string_bytes word) arguments.now)) }
-    ensures refused { IfErr result (λ e. is_of_command_line e ≡ true) }
+    ensures refused { IfErr result (IsRefused (map (λ word. string_bytes word) arguments.now)) }
 {
-    let word = command_word(arguments);
-    match parse(alloc, word, arguments) {
-        Ok(request) => Ok(request),
-        Err(error) => help_in(alloc, word, &error),
+    match pair_command(alloc, Lists::Whole)?.try_get_matches_from(arguments) {
+        Ok(matches) => request_in(alloc, arguments, &matches),
+        Err(error) => help_in(alloc, arguments, &error),
     }
+}
+
+// What the words ask for in which clap has found a fault: help, or they are refused.
+#[tactic(auto, using(crate::proofs::Orders::help_asked, crate::proofs::Orders::faulty))]
+fn help_in(alloc: Global, arguments: &[String], error: &Error) -> Result<Request, Failure>
+    requires { HasKind (fault_of pair_app (map (λ word. string_bytes word) arguments.now)) error.now }
+    ensures asked { IfOk result (AsksHelp (map (λ word. string_bytes word) arguments.now)) }
+    ensures refused { IfErr result (IsRefused (map (λ word. string_bytes word) arguments.now)) }
+{
+    if lacks_memory(error) {
+        return Err(Failure::OutOfMemory);
+    }
+    if !asks_for_help(command_word(arguments), error) {
+        return Err(refusal(alloc, arguments));
+    }
+    Ok(Request::Help(told_of(alloc, arguments)?))
+}
+
+// Whether the command is `help`, and not an option `--help`.
+fn asks_for_help(word: &str, error: &Error) -> bool
+    ensures word { result ≡ true → word.now ≡ codes "help" }
+    ensures kind { result ≡ true → kind_of error.now ≡ ErrorKind.DisplayHelp }
+{
+    if word != "help" {
+        return false;
+    }
+    matches!(error.kind(), ErrorKind::DisplayHelp)
+}
+
+// Whether clap was refused memory.
+fn lacks_memory(error: &Error) -> bool
+    ensures yes { result ≡ true → kind_of error.now ≡ ErrorKind.OutOfMemory }
+    ensures no { result ≡ false → kind_of error.now ≢ ErrorKind.OutOfMemory }
+{
+    matches!(error.kind(), ErrorKind::OutOfMemory)
 }
 
 // The word that names the command: the one after the program's name.
@@ -67,72 +107,46 @@ fn command_word(arguments: &[String]) -> &str
     }
 }
 
-// What a command line asks for in which clap has found no command: help, or it is refused.
-fn help_in(alloc: Global, word: &str, error: &Error) -> Result<Request, Failure>
-    ensures asked { IfOk result (AsksHelp word.now) }
-    ensures refused { IfErr result (λ e. is_of_command_line e ≡ true) }
+// What the words ask for in which clap has found this; they are refused if a list has a piece that it may not have.
+#[tactic(auto, using(crate::proofs::Orders::refused_without, crate::proofs::Orders::refused_by_list, crate::proofs::Orders::asked_by))]
+fn request_in(
+    alloc: Global,
+    arguments: &[String],
+    matches: &ArgMatches<'_>,
+) -> Result<Request, Failure>
+    requires found { subcommand_rows_of matches.now ≡ subcommand_of pair_app (map (λ word. string_bytes word) arguments.now) }
+    requires faultless { fault_of pair_app (map (λ word. string_bytes word) arguments.now) ≡ [] }
+    ensures asked { IfOk result (HasFound (map (λ word. string_bytes word) arguments.now)) }
+    ensures refused { IfErr result (IsRefused (map (λ word. string_bytes word) arguments.now)) }
 {
-    if !asks_for_help(word, error) {
-        return Err(refusal(alloc, error));
+    let Some((name, found)) = matches.subcommand() else {
+        return Err(refusal(alloc, arguments));
+    };
+    if !lists_hold(alloc, found)? {
+        return Err(refusal(alloc, arguments));
     }
-    let text = format!(in alloc; "{error}")?;
-    Ok(Request::Help(text))
+    Ok(request_after(alloc, name, found)?)
 }
 
-// Whether the command is `help`, and not an option `--help`.
-fn asks_for_help(word: &str, error: &Error) -> bool
-    ensures { result ≡ true → word.now ≡ codes "help" }
-{
-    if word != "help" {
-        return false;
-    }
-    matches!(error.kind(), ErrorKind::DisplayHelp)
-}
-
-// What the command of this word asks for.
-#[tactic(auto, using(crate::proofs::Orders::has_found))]
-fn parse(alloc: Global, word: &str, arguments: &[String]) -> Result<Request, Error>
-    ensures { IfOk result (HasFound word.now) }
-{
-    let matches = found_in(alloc, arguments)?;
-    request_in(alloc, word, &matches)
-}
-
-// What clap finds in the words.
-fn found_in(alloc: Global, arguments: &[String]) -> Result<ArgMatches<'_>, Error> {
-    pair_command(alloc)?.try_get_matches_from(arguments)
-}
-
-// What the command of this word asks for, by what was found in the words; what was found after its name is what counts.
-#[tactic(auto, using(crate::proofs::Orders::asks_in))]
-fn request_in(alloc: Global, word: &str, matches: &ArgMatches<'_>) -> Result<Request, Error>
-    ensures { IfOk result (λ request. AsksIn word.now matches.now request) }
-{
-    match matches.subcommand() {
-        Some((_, found)) => request_after(alloc, word, found),
-        None => request_after(alloc, word, matches),
-    }
-}
-
-// The same by what was found after the name of the command.
-fn request_after(alloc: Global, word: &str, found: &ArgMatches<'_>) -> Result<Request, Error>
-    ensures { IfOk result (Asks word.now (found_of found.now)) }
+// What the command of this name asks for, by what was found after it.
+fn request_after(alloc: Global, name: &str, found: &ArgMatches<'_>) -> Result<Request, AllocError>
+    ensures { IfOk result (Asks name.now (rows_of (found_of found.now))) }
 {
     let images = images_in(alloc, found)?;
-    request_named(alloc, word, found, images)
+    request_named(alloc, name, found, images)
 }
 
-// The request of the command of this word, with these images, by what was found after it.
+// The request of the command of this name, with these images, by what was found after it.
 fn request_named(
     alloc: Global,
-    word: &str,
+    name: &str,
     found: &ArgMatches<'_>,
     images: Vec<u8>,
-) -> Result<Request, Error>
-    requires { images.items ≡ drives_in (found_of found.now) (codes "images") }
-    ensures { IfOk result (Asks word.now (found_of found.now)) }
+) -> Result<Request, AllocError>
+    requires { images.items ≡ drives_in (rows_of (found_of found.now)) (codes "images") }
+    ensures { IfOk result (Asks name.now (rows_of (found_of found.now))) }
 {
-    match word {
+    match name {
         "check" => Ok(Request::Check(images)),
         "picture" => Ok(Request::Picture(images)),
         "lint" => Ok(Request::Lint),
@@ -145,29 +159,33 @@ fn request_named(
 
 // The drives whose images come before the script.
 fn images_in(alloc: Global, found: &ArgMatches<'_>) -> Result<Vec<u8>, AllocError>
-    ensures { IfOk result (λ drives. drives.items ≡ drives_in (found_of found.now) (codes "images")) }
+    ensures { IfOk result (λ drives. drives.items ≡ drives_in (rows_of (found_of found.now)) (codes "images")) }
 {
-    drives_of(alloc, found.get_strs("images").unwrap_or(&[]))
+    drives_of(alloc, pieces_in(alloc, found, "images")?.as_slice())
 }
 
 // The drives whose images are written at the end.
 fn saved_in(alloc: Global, found: &ArgMatches<'_>) -> Result<Vec<u8>, AllocError>
-    ensures { IfOk result (λ drives. drives.items ≡ drives_in (found_of found.now) (codes "saved")) }
+    ensures { IfOk result (λ drives. drives.items ≡ drives_in (rows_of (found_of found.now)) (codes "saved")) }
 {
-    drives_of(alloc, found.get_strs("saved").unwrap_or(&[]))
+    drives_of(alloc, pieces_in(alloc, found, "saved")?.as_slice())
 }
 
 // What becomes of the packets of the link.
 fn link_in(alloc: Global, found: &ArgMatches<'_>) -> Result<Vec<Fate>, AllocError>
-    ensures { IfOk result (λ fates. fates.items ≡ map fate_of (values_of (found_of found.now) (codes "link"))) }
+    ensures { IfOk result (λ fates. fates.items ≡ map fate_of (pieces_in (rows_of (found_of found.now)) (codes "link"))) }
 {
-    fates_of(alloc, found.get_strs("link").unwrap_or(&[]))
+    fates_of(alloc, pieces_in(alloc, found, "link")?.as_slice())
 }
 
 // What the words after `live` say.
 #[tactic(auto, using(crate::proofs::Orders::given_or))]
-fn live_order(alloc: Global, matches: &ArgMatches<'_>, images: Vec<u8>) -> Result<LiveOrder, Error>
-    ensures { IfOk result (λ order. IsOrdered (found_of matches.now) images.items order) }
+fn live_order(
+    alloc: Global,
+    matches: &ArgMatches<'_>,
+    images: Vec<u8>,
+) -> Result<LiveOrder, AllocError>
+    ensures { IfOk result (λ order. IsOrdered (rows_of (found_of matches.now)) images.items order) }
 {
     let turns = number(matches, "turns").unwrap_or(TURNS);
     let primary_asks = number(matches, "primary-asks");
@@ -195,8 +213,8 @@ fn console_order(
     alloc: Global,
     matches: &ArgMatches<'_>,
     images: Vec<u8>,
-) -> Result<ConsoleOrder, Error>
-    ensures { IfOk result (λ order. IsConsoleOrdered (found_of matches.now) images.items order) }
+) -> Result<ConsoleOrder, AllocError>
+    ensures { IfOk result (λ order. IsConsoleOrdered (rows_of (found_of matches.now)) images.items order) }
 {
     let spares = number(matches, "spares").unwrap_or(SPARES);
     let escape = byte(matches, "escape").unwrap_or(ESCAPE);
@@ -221,30 +239,30 @@ fn console_order(
 
 // The number that an option was given, if it was.
 fn number(matches: &ArgMatches<'_>, option: &str) -> Option<u64>
-    ensures { IsGiven 64 (one_text (found_of matches.now) option.now) result }
+    ensures { IsGiven 64 (one_of option.now (rows_of (found_of matches.now))) result }
 {
     matches.get_one(option)
 }
 
 // Whether an option without a value was given.
 fn flag(matches: &ArgMatches<'_>, option: &str) -> bool
-    ensures { IsFlag (one_text (found_of matches.now) option.now) result }
+    ensures { IsFlag (one_of option.now (rows_of (found_of matches.now))) result }
 {
     matches.get_flag(option)
 }
 
 // The byte that an option was given as a number, if it was.
 fn byte(matches: &ArgMatches<'_>, option: &str) -> Option<u8>
-    ensures { IsGiven 8 (one_text (found_of matches.now) option.now) result }
+    ensures { IsGiven 8 (one_of option.now (rows_of (found_of matches.now))) result }
 {
     matches.get_one(option)
 }
 
 // The text that an option was given; nothing if it was not.
 fn text(alloc: Global, matches: &ArgMatches<'_>, option: &str) -> Result<String, AllocError>
-    ensures { IfOk result (λ text. string_bytes text ≡ text_given (found_of matches.now) option.now) }
+    ensures { IfOk result (λ text. string_bytes text ≡ text_given (rows_of (found_of matches.now)) option.now) }
 {
-    match matches.get_str(option) {
+    match given_in(matches, option) {
         Some(text) => String::from_str(alloc, text),
         None => Ok(String::new(alloc)),
     }
@@ -252,9 +270,9 @@ fn text(alloc: Global, matches: &ArgMatches<'_>, option: &str) -> Result<String,
 
 // What the log has of a sector: `logged` if the option was not given.
 fn reads_in(matches: &ArgMatches<'_>) -> Reads
-    ensures { result ≡ reads_of (text_given (found_of matches.now) (codes "reads")) }
+    ensures { result ≡ reads_of (text_given (rows_of (found_of matches.now)) (codes "reads")) }
 {
-    reads_of(matches.get_str("reads").unwrap_or(""))
+    reads_of(given_in(matches, "reads").unwrap_or(""))
 }
 
 // What the log has of a sector, by its name.
@@ -291,11 +309,11 @@ fn fate_of(word: &str) -> Fate
 
 // Who asks in further generations, and at which turns.
 fn next_of(alloc: Global, matches: &ArgMatches<'_>) -> Result<(Vec<Asker>, Vec<u64>), AllocError>
-    ensures who { IfOk result (λ next. next.0.items ≡ map asker_of (values_of (found_of matches.now) (codes "next"))) }
-    ensures at { IfOk result (λ next. AreTurns (values_of (found_of matches.now) (codes "next-at")) next.1.items) }
+    ensures who { IfOk result (λ next. next.0.items ≡ map asker_of (pieces_in (rows_of (found_of matches.now)) (codes "next"))) }
+    ensures at { IfOk result (λ next. AreTurns (pieces_in (rows_of (found_of matches.now)) (codes "next-at")) next.1.items) }
 {
-    let next = askers_of(alloc, matches.get_strs("next").unwrap_or(&[]))?;
-    let next_at = turns_of(alloc, matches.get_strs("next-at").unwrap_or(&[]))?;
+    let next = askers_of(alloc, pieces_in(alloc, matches, "next")?.as_slice())?;
+    let next_at = turns_of(alloc, pieces_in(alloc, matches, "next-at")?.as_slice())?;
     Ok((next, next_at))
 }
 
@@ -365,20 +383,40 @@ fn drive_of(word: &str) -> u8
     }
 }
 
-// The text of the error, without the line end after it.
-fn refusal(alloc: Global, error: &Error) -> Failure
+// The refusal of the words, with what clap tells of them, without the line end after it.
+fn refusal(alloc: Global, arguments: &[String]) -> Failure
     ensures { is_of_command_line result ≡ true }
 {
-    if matches!(error.kind(), ErrorKind::OutOfMemory) {
-        return Failure::OutOfMemory;
-    }
-    match format!(in alloc; "{error}") {
+    match told_of(alloc, arguments) {
         Ok(mut text) => {
             if text.ends_with("\n") {
                 text.pop();
             }
             Failure::CommandLine(text)
         }
-        Err(_) => Failure::OutOfMemory,
+        Err(failure) => failure,
+    }
+}
+
+// What clap tells of words that ask for nothing, or for help.
+fn told_of(alloc: Global, arguments: &[String]) -> Result<String, Failure>
+    ensures { IfErr result (λ e. e ≡ Failure.OutOfMemory) }
+{
+    match pair_command(alloc, Lists::Cut)?.try_get_matches_from(arguments) {
+        Ok(_) => Ok(String::from_str(alloc, UNTOLD)?),
+        Err(error) => text_of(alloc, &error),
+    }
+}
+
+// The text of an error of clap.
+fn text_of(alloc: Global, error: &Error) -> Result<String, Failure>
+    ensures { IfErr result (λ e. e ≡ Failure.OutOfMemory) }
+{
+    if lacks_memory(error) {
+        return Err(Failure::OutOfMemory);
+    }
+    match format!(in alloc; "{error}") {
+        Ok(text) => Ok(text),
+        Err(_) => Err(Failure::OutOfMemory),
     }
 }

@@ -1,5 +1,5 @@
 -- What a command prints is what obeying its request leaves.
-use Rattle.std.proofs.Common.{◌≡◌, ℕ, Option, List, true, Result, Ok, Err, String, Global, string_bytes, inl, inr, refl, subst, sym}
+use Rattle.std.proofs.Common.{◌≡◌, ℕ, Option, List, Result, Ok, Err, String, Global, string_bytes, inl, inr, refl, subst, sym}
 use Rattle.std.specs.Global.{Vec}
 use Rattle.command_console.specs.Console.{IsAtConsole, IsOfRun}
 use Rattle.command_lint.specs.Linting.{Lints}
@@ -8,7 +8,6 @@ use Rattle.command_script.specs.Drawing.{Draws}
 use Rattle.command_script.specs.Printing as script
 use Rattle.pair_main.specs.Runs.{IsObeyed, IsRun, IsScriptOf, SitsAt, Writes, asked_by}
 use Rattle.pair_shell.specs.Hearing.{Hears}
-use Rattle.command_ending.specs.Statuses.{is_of_command_line}
 use Rattle.command_ending.specs.declared.failure.Failure.{Failure}
 use Rattle.command_ending.specs.declared.failure.Failure.TheVariants as failure
 use Rattle.command_script.specs.declared.order.Order.{Order}
@@ -17,7 +16,7 @@ use Rattle.command_input.specs.Inputs.{ReadsInput, meaning_of}
 use Rattle.command_input.specs.declared.input.Input.{Input}
 use Rattle.command_input.specs.declared.input.Language.{Language}
 use Rattle.command_input.specs.declared.input.Language.TheVariants.{Any, Threads}
-use Rattle.command_line.specs.Orders.{IsAsked}
+use Rattle.command_line.specs.Orders.{IsAsked, IsRefused}
 use Rattle.command_line.specs.declared.console_order.ConsoleOrder.{ConsoleOrder}
 use Rattle.command_line.specs.declared.live_order.LiveOrder.{LiveOrder}
 use Rattle.command_line.specs.declared.options.Request.{Request}
@@ -33,7 +32,7 @@ module _ {R W : Type 0} (remaining : R → Option (List ℕ)) (contents : W → 
       → IsRun remaining contents reader reader' writer writer' words result
   obeyed words asked result by_words h = inl (record { asked = asked; by_words = by_words; obeyed = h })
 
-  pub refuses_words : (words : List (List ℕ)) (f : Failure) → is_of_command_line f ≡ true
+  pub refuses_words : (words : List (List ℕ)) (f : Failure) → IsRefused words f
       → IsRun remaining contents reader reader writer writer words (Err f)
   refuses_words words f h = inr (record { failed = h; reads_nothing = refl; prints_nothing = refl })
 

@@ -1,5 +1,5 @@
 -- One run of the program: what its words ask for, what it has read and printed, and how it ends.
-use Rattle.std.specs.Prelude.{◌≡◌, ◌⊎◌, ℕ, Option, List, Result, Ok, Err, string_bytes, true}
+use Rattle.std.specs.Prelude.{◌≡◌, ◌⊎◌, ℕ, Option, List, Result, Ok, Err, string_bytes}
 use Rattle.std.specs.Io.KnownBytes.{Appends}
 use Rattle.std.specs.Global.{Vec}
 use Rattle.std.specs.Result.{IsErrAnd}
@@ -11,7 +11,7 @@ use Rattle.command_script.specs.Drawing.{Draws}
 use Rattle.command_script.specs.Printing as script
 use Rattle.pair_shell.specs.Hearing.{Hears}
 use Rattle.command_ending.specs.Inputs.{Meaning}
-use Rattle.command_ending.specs.Statuses.{EndsAs, is_of_command_line}
+use Rattle.command_ending.specs.Statuses.{EndsAs}
 use Rattle.command_ending.specs.declared.failure.Failure.{Failure}
 use Rattle.command_ending.specs.declared.failure.Failure.TheVariants.{CommandLine, BadScript}
 use Rattle.command_ending.specs.declared.failure.Failure.TheVariants.{OutOfMemory, InputOrOutput, Stalled, Differs}
@@ -19,7 +19,7 @@ use Rattle.command_input.specs.Inputs.{ReadsInput, meaning_of}
 use Rattle.command_input.specs.declared.input.Input.{Input}
 use Rattle.command_input.specs.declared.input.Language.{Language}
 use Rattle.command_input.specs.declared.input.Language.TheVariants.{Any, Threads}
-use Rattle.command_line.specs.Orders.{IsAsked}
+use Rattle.command_line.specs.Orders.{IsAsked, IsRefused}
 use Rattle.command_line.specs.declared.console_order.ConsoleOrder.{ConsoleOrder}
 use Rattle.command_line.specs.declared.options.Request.{Request}
 use Rattle.command_line.specs.declared.options.Request.TheVariants as request
@@ -114,14 +114,14 @@ module _ {R W : Type 0} (remaining : R → Option (List ℕ)) (contents : W → 
     pub obeyed : IsObeyed asked result
 
   -- the words ask for nothing, or memory is refused for reading them: nothing is read or printed
-  pub record RefusesWords (result : Result (Unit {0}) Failure) : Type 0 where
-    pub failed : IsErrAnd result (λ failure. is_of_command_line failure ≡ true)
+  pub record RefusesWords (words : List (List ℕ)) (result : Result (Unit {0}) Failure) : Type 0 where
+    pub failed : IsErrAnd result (IsRefused words)
     pub reads_nothing : reader' ≡ reader
     pub prints_nothing : writer' ≡ writer
 
   -- one run of the program on these words
   abbrev pub IsRun : List (List ℕ) → Result (Unit {0}) Failure → Type 0
-  IsRun words result = Obeyed words result ⊎ RefusesWords result
+  IsRun words result = Obeyed words result ⊎ RefusesWords words result
 
 -- some run on these words ends with this status and this text
 pub record IsEnding {R W Z : Type 0} (remaining : R → Option (List ℕ)) (contents : W → Option (List ℕ)) (reader reader' : R)
