@@ -1,0 +1,15 @@
+//! The law of processes, for the Altair of any setup.
+ghost use Rattle.altair_hosts.specs.Hosts.{AltairHostsAreFaithful, AltairHostsAreKept};
+
+use altair_copies::the_image_copies;
+use altair_laws::altairs_are_lawful;
+
+/// Whatever the processes of a pair of Altairs do, interleaved in any order, after each step they show a faithful world,
+/// and in the end the outside's terminals and disk have what one never-failing Altair gives.
+pub fn altair_hosts_are_faithful()
+    ensures faithful { AltairHostsAreFaithful }
+    ensures kept { AltairHostsAreKept }
+{
+    altairs_are_lawful();
+    the_image_copies();
+}

@@ -1,0 +1,14 @@
+pub mod Words
+pub mod Later
+pub mod Winners
+pub mod Following
+pub mod Passing
+pub mod HostSteps
+pub mod OutsideSteps
+pub mod Booting
+pub mod Keeping
+pub mod Interleaving
+pub mod Survival
+pub mod Takeover
+pub mod Running
+pub mod Relying
