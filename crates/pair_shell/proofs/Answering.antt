@@ -1,6 +1,6 @@
 -- A running session answers line after line, whatever world its pair shows.
 use Rattle.std.proofs.Common.{◌≡◌, ℕ, ◌++◌, ◌∷◌, ◌∙◌, Bool, true, Option, Some, None, List, [], ap, refl, subst, sym, append-nil}
-use Rattle.std.specs.Prelude.{map}
+use Rattle.std.specs.Prelude.{is_some, map}
 use Rattle.std.specs.List.{concat}
 use Rattle.std.specs.Io.KnownBytes.{Appends}
 use Rattle.std.proofs.lemmas.List.{map-append}
@@ -14,7 +14,7 @@ use Rattle.guest_parts.specs.Guest.{Guest}
 use Rattle.pair_check.proofs.Disks.{records_show, shows_records}
 use Rattle.pair_shell.specs.Looking.{IsSeen, IsSeenSaid, LooksIn}
 use Rattle.pair_shell.specs.Playing.{Plays}
-use Rattle.pair_shell.specs.Sessions.{AltairsPlay, BootsBy, HeedsSaid, IsAsBefore, is_quit, is_run, trace_after}
+use Rattle.pair_shell.specs.Sessions.{AltairsPlay, BootsBy, HeedsSaid, IsAsBefore, MayRefuse, is_quit, is_run, trace_after}
 use Rattle.pair_shell.specs.declared.notes.Notes.{Notes}
 use Rattle.shared_disk.specs.Failing.{Disk, records_in}
 use Rattle.shell_book.specs.Outcomes.{is_ended}
@@ -158,6 +158,14 @@ module _ {B H : Type 0} (guest : B → Guest) where
       has_seen look tape world pair is_traced answer shows h
   sees_said line tape world pair is_traced answer shows h = tt
 
+  -- a pair has booted in the one exactly if it has in the other
+  both_or_none : (world : Option (Running B H Disk)) (pair : Option (Course Guest)) → PairShows guest world pair
+      → is_some world ≡ is_some pair
+  both_or_none (Some v) (Some c) shows = refl
+  both_or_none (Some v) None shows = absurd shows
+  both_or_none None (Some c) shows = absurd shows
+  both_or_none None None shows = refl
+
   -- ---- one line
 
   -- what a session promises of a line
@@ -168,6 +176,7 @@ module _ {B H : Type 0} (guest : B → Guest) where
     pub heeded : told ≡ outcome.Done → HeedsSaid (said line) tape old.is_traced [] answer
     pub seen : told ≡ outcome.Done → IsSeenSaid guest (said line) tape new.world old.is_traced answer
     pub wrong : said line ≡ None → told ≡ outcome.Refused
+    pub why : told ≡ outcome.Refused → MayRefuse old.opening (is_some old.world) (said line)
     pub set : told ≡ outcome.Done → SetsUpSaid (said line) old.opening new.opening
     pub switched : new.is_traced ≡ trace_after (said line) old.is_traced
     pub left : told ≡ outcome.Refused → IsAsBefore old.opening new.opening old.world new.world noted noted' old.is_traced new.is_traced
@@ -191,6 +200,7 @@ module _ {B H : Type 0} (guest : B → Guest) where
             heeded = p.heeded;
             seen = λ is. sees_said (said line) tape new.world r.0 old.is_traced answer r.1.1 (p.seen is);
             wrong = p.wrong;
+            why = λ is. absurd (not is);
             set = p.set;
             switched = p.switched;
             left = λ is. absurd (not is);
@@ -217,6 +227,7 @@ module _ {B H : Type 0} (guest : B → Guest) where
             heeded = λ is. absurd (cc);
             seen = λ is. absurd (cc);
             wrong = λ is. refl;
+            why = λ is. subst (λ b. MayRefuse old.opening b (said line)) (both_or_none old.world pair shows) (p.why refl);
             set = λ is. absurd (cc);
             switched = p.switched;
             left = λ is. record { nothing_played = refl; opening = same.opening; pair = refl; is_traced = same.is_traced };

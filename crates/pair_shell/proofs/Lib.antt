@@ -1,11 +1,12 @@
-pub mod Looking
+pub mod Answering
 pub mod Backups
 pub mod Books
 pub mod Days
-pub mod Playing
-pub mod Tracing
-pub mod Answering
 pub mod Hearing
 pub mod Lines
+pub mod Looking
 pub mod Loops
+pub mod Playing
+pub mod Refusing
 pub mod Same
+pub mod Tracing

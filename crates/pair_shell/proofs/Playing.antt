@@ -1,9 +1,11 @@
 -- A tape grows by an event and its answer, as the run that it says. Nothing but events lengthens it: a line that only
 -- reads leaves the world over the records as it was.
 use Rattle.guest_parts.specs.Guest.{Guest}
-use Rattle.std.proofs.Common.{◌≡◌, ◌+◌, ◌∷◌, ◌++◌, [], List, Option, Some, None, refl, subst, sym}
-use Rattle.std.specs.Prelude.{Result}
-use Rattle.std.proofs.lemmas.List.{map-append}
+use Rattle.std.proofs.Common.{◌≡◌, ◌∙◌, ℕ, ◌+◌, ◌≤◌, ◌∷◌, ◌++◌, [], Bool, true, false, List, Option, Some, None, ap, arith, length, refl, subst, sym}
+use Rattle.std.specs.Prelude.{◌&&◌, Result, nat_lt, not}
+use Rattle.std.specs.Option.{option_map_or}
+use Rattle.std.proofs.lemmas.Bool.Decides.{nat_tests}
+use Rattle.std.proofs.lemmas.List.{length-append, map-append}
 use Rattle.guest_lockstep.specs.Machine.{Machine}
 use Rattle.i8080_words.specs.declared.refusal.Fault.{Fault}
 use Rattle.pair_events.specs.declared.event.Event.{Event}
@@ -14,10 +16,12 @@ use Rattle.ft_world.proofs.Running.{runs_begin, runs_then}
 use Rattle.shared_disk.specs.Failing.{Disk, records_in}
 use Rattle.pair_check.specs.Disks.{over_records}
 use Rattle.pair_check.proofs.Disks.{records_show, shows_records}
-use Rattle.pair_shell.specs.Playing.{Lengthens, Plays, answers_of, events_of}
+use Rattle.pair_shell.specs.Playing.{Lengthens, Plays, answers_of, events_of, pauses}
 use Rattle.pair_shell.specs.Sessions.{LinePlays}
 use Rattle.shell_book.specs.Tapes.{played}
 use Rattle.shell_book.specs.declared.tape.Played.{Played}
+use Rattle.shell_day.specs.Rounds.{may_pause}
+use Rattle.shell_day.specs.declared.day.Day.{Day}
 
 -- an empty tape: the world over the records is as it was
 pub plays_nothing : {B H S : Type 0} (state : B → S) (copied : B → Guest) (M : Machine S) (old new : Running B H Disk)
@@ -94,3 +98,28 @@ module _ {B H S : Type 0} (state : B → S) (copied : B → Guest) (M : Machine 
   line_plays_nothing before after tape none same =
       subst (λ t. LinePlays state copied M Boots before t after) (sym none)
       (subst (λ n. LinePlays state copied M Boots before [] n) (sym same) (line_nothing before))
+
+-- so many events have happened since, and the tape has them
+pub record PlaysSo {B H S : Type 0} (state : B → S) (copied : B → Guest) (M : Machine S) (old : Running B H Disk) (made : ℕ)
+    (tape : List Played) (new : Running B H Disk) : Type 0 where
+  pub plays : Plays state copied M old tape new
+  pub many : length tape ≡ made
+
+-- one more
+pub plays_more : {B H S : Type 0} (state : B → S) (copied : B → Guest) (M : Machine S) (old mid new : Running B H Disk)
+    (made : ℕ) (tape longer : List Played) (one : Played) → PlaysSo state copied M old made tape mid → longer ≡ tape ++ one ∷ []
+    → Lengthens state copied M mid new tape longer → PlaysSo state copied M old (made + 1) longer new
+plays_more state copied M old mid new made tape longer one h is lengthens = record {
+  plays = lengthens old h.plays;
+  many = ap length is ∙ length-append tape (one ∷ []) ∙ ap (λ n. n + 1) h.many;
+}
+
+-- a day that pauses has a million events
+pub many_enough : (is : Bool) (tape : List Played) (happened : Event) (day : Option Day)
+    → is ≡ pauses (length tape) happened day → is ≡ true → 1000000 ≤ length tape
+many_enough is tape happened day so told = at_least (nat_lt (length tape) 1000000) refl (sym so ∙ told)
+  where
+    at_least : (low : Bool) → nat_lt (length tape) 1000000 ≡ low
+        → not low && option_map_or (may_pause happened) day false ≡ true → 1000000 ≤ length tape
+    at_least true e h = absurd (cc)
+    at_least false e h = grind (arith, nat_tests)

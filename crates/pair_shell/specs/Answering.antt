@@ -1,5 +1,5 @@
 -- What a session answers to its lines, one after another, and what each of them does to its pair.
-use Rattle.std.specs.Prelude.{◌≡◌, ℕ, Bool, true, false, List, [], ◌∷◌, ◌++◌, Option, Some, None, map, slice_get, string_bytes}
+use Rattle.std.specs.Prelude.{◌≡◌, ℕ, Bool, true, false, List, [], ◌∷◌, ◌++◌, Option, Some, None, is_some, map, slice_get, string_bytes}
 use Rattle.std.specs.List.{concat}
 use Rattle.std.specs.Io.KnownBytes.{Appends}
 use Rattle.altair_copies.specs.Copies.{image_copy}
@@ -14,7 +14,7 @@ use Rattle.pair_protocol.specs.World.{World}
 use Rattle.pair_setup.specs.Booting.{HostsCome}
 use Rattle.pair_shell.specs.Looking.{look_rows}
 use Rattle.pair_shell.specs.Playing.{answers_of, events_of}
-use Rattle.pair_shell.specs.Sessions.{HeedsSaid, is_quit, is_run, trace_after}
+use Rattle.pair_shell.specs.Sessions.{HeedsSaid, MayRefuse, is_quit, is_run, trace_after}
 use Rattle.shared_disk.specs.Records.{HasDrives, IsAtBoot, IsUnwritten}
 use Rattle.shared_disk.specs.declared.store.Record.{Record}
 use Rattle.shell_book.specs.Outcomes.{is_ended}
@@ -101,7 +101,7 @@ pub record IsLeft (tape : List Played) (old new : Sitting) : Type 0 where
 
 -- What a line is answered. A trace of the events that it made comes first, if events are traced. A line that is an event made
 -- that event alone, and is answered as in a script; one that looks at a machine is told what is there. A line that says nothing
--- is refused.
+-- is refused, and one that says something only for one of the reasons that there are.
 pub record IsAnswer (line : List ℕ) (old : Sitting) (answer : List ℕ) (new : Sitting) : Type 0 where
   pub outcome : Outcome
   pub tape : List Played
@@ -110,6 +110,7 @@ pub record IsAnswer (line : List ℕ) (old : Sitting) (answer : List ℕ) (new :
   pub heeded : outcome ≡ Done → HeedsSaid (said line) tape old.is_traced [] answer
   pub seen : outcome ≡ Done → SeesSaid (said line) tape new.pair old.is_traced answer
   pub wrong : said line ≡ None → outcome ≡ Refused
+  pub why : outcome ≡ Refused → MayRefuse old.opening (is_some old.pair) (said line)
   pub set : outcome ≡ Done → SetsUpSaid (said line) old.opening new.opening
   pub switched : new.is_traced ≡ trace_after (said line) old.is_traced
   pub left : outcome ≡ Refused → IsLeft tape old new

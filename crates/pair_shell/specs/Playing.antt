@@ -1,6 +1,7 @@
 -- What a tape says of a pair.
 use Rattle.guest_parts.specs.Guest.{Guest}
-use Rattle.std.specs.Prelude.{List, Result, map}
+use Rattle.std.specs.Prelude.{ℕ, ◌&&◌, nat_lt, not, Bool, false, List, Option, Result, map}
+use Rattle.std.specs.Option.{option_map_or}
 use Rattle.guest_lockstep.specs.Machine.{Machine}
 use Rattle.i8080_words.specs.declared.refusal.Fault.{Fault}
 use Rattle.pair_events.specs.declared.event.Event.{Event}
@@ -11,6 +12,8 @@ use Rattle.ft_world.specs.Applies.{Runs, Shows}
 use Rattle.ft_world.specs.Running.{Running}
 use Rattle.ft_world.specs.Standing.{Course}
 use Rattle.shell_book.specs.declared.tape.Played.{Played}
+use Rattle.shell_day.specs.Rounds.{may_pause}
+use Rattle.shell_day.specs.declared.day.Day.{Day}
 
 -- the events of a tape, and their answers
 abbrev pub events_of : List Played → List Event
@@ -32,3 +35,7 @@ abbrev pub Lengthens : {B H S : Type 0} → (B → S) → (B → Guest) → Mach
     → List Played → List Played → Type 0
 Lengthens {B = B} {H = H} state copied M old new tape longer =
     (before : Running B H Disk) → Plays state copied M before tape old → Plays state copied M before longer new
+
+-- a day pauses after the first event at which it may, once its tape has a million of them
+abbrev pub pauses : ℕ → Event → Option Day → Bool
+pauses taped happened day = not (nat_lt taped 1000000) && option_map_or (may_pause happened) day false

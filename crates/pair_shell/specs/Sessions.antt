@@ -10,7 +10,8 @@ use Rattle.shared_disk.specs.Failing.{Disk}
 use Rattle.shell_language.specs.declared.line.ShellLine.{ShellLine}
 use Rattle.shell_language.specs.declared.line.ShellLine.TheVariants as shell
 use Rattle.pair_setup.specs.Booting.{IsBooted}
-use Rattle.shell_opening.specs.Openings.{IsSame}
+use Rattle.shared_disk.specs.Records.{AreOnDrives}
+use Rattle.shell_opening.specs.Openings.{CannotSet, IsSame}
 use Rattle.pair_shell.specs.Playing.{Plays}
 use Rattle.shell_book.specs.Tapes.{IsAnswered}
 use Rattle.pair_shell.specs.declared.notes.Notes.{Notes}
@@ -68,6 +69,18 @@ is_setup (Some (shell.Setup word words)) = true
 is_setup (Some (shell.SetSector place bytes)) = true
 is_setup (Some (shell.Load loaded)) = true
 is_setup _ = false
+
+-- no pair can boot: a sector of the setup is on a drive that is not attached
+abbrev pub CannotBoot : Opening → Type 0
+CannotBoot opening = AreOnDrives opening.setup.guest.drives opening.sectors.items → ⊥
+
+-- Why a line may be refused. It says nothing; or it is one of the setup and comes too late, or its words are none that may come
+-- there; or it would be the first at which a pair boots, and none can.
+pub data MayRefuse (opening : Opening) (has_booted : Bool) : Option ShellLine → Type 0 where
+  SaysNothing : MayRefuse opening has_booted None
+  ComesLate : {line : ShellLine} → is_setup (Some line) ≡ true → has_booted ≡ true → MayRefuse opening has_booted (Some line)
+  IsWrong : {line : ShellLine} → CannotSet line opening → MayRefuse opening has_booted (Some line)
+  NoneBoots : {line : ShellLine} → has_booted ≡ false → CannotBoot opening → MayRefuse opening has_booted (Some line)
 
 -- so many bytes of a terminal were shown
 abbrev pub shown_at : List ℕ → ℕ → ℕ → List ℕ

@@ -1,8 +1,8 @@
 //! The pair of a session boots.
-ghost use Rattle.std.specs.Prelude.{IfOk, IfSome};
+ghost use Rattle.std.specs.Prelude.{◌≡◌, IfOk, IfSome, None};
 ghost use Rattle.event_callbacks.specs.declared.devices.TheConstants.{SENT, SECTOR, WRITTEN};
 ghost use Rattle.event_callbacks.specs.Keeping.{Keeps};
-ghost use Rattle.pair_shell.specs.Sessions.{BootsBy};
+ghost use Rattle.pair_shell.specs.Sessions.{BootsBy, CannotBoot};
 
 use event_callbacks::Completes;
 use i8080_words::Fault;
@@ -11,6 +11,7 @@ use shell_opening::Opening;
 use std::alloc::{AllocError, Global};
 
 /// A pair that boots as a session's setup says; none if a sector of the setup is on a drive that is not attached.
+#[tactic(auto, using(crate::proofs::Refusing::cannot_boot))]
 pub fn booted<T: Completes + Drop + Copy, S: Completes + Drop + Copy, W: Completes + Drop + Copy>(
     alloc: Global,
     opening: &Opening,
@@ -21,7 +22,8 @@ pub fn booted<T: Completes + Drop + Copy, S: Completes + Drop + Copy, W: Complet
     requires sent { Keeps (T.may sent) (T.gives sent) SENT }
     requires sector { Keeps (S.may sector) (S.gives sector) SECTOR }
     requires written { Keeps (W.may written) (W.gives written) WRITTEN }
-    ensures { IfOk result (λ booted. IfSome booted (λ world. BootsBy (λ d. d.board.guest) opening.now world)) }
+    ensures boots { IfOk result (λ booted. IfSome booted (λ world. BootsBy (λ d. d.board.guest) opening.now world)) }
+    ensures none { IfOk result (λ booted. booted ≡ None → CannotBoot opening.now) }
 {
     let setup = &opening.setup;
     let sectors = &opening.sectors;

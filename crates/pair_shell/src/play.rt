@@ -1,11 +1,11 @@
 //! Events that happen in a pair, one after another, and what was answered to each.
-ghost use Rattle.std.specs.Prelude.{◌≡◌, ◌⊎◌, ◌<◌, [], ◌∷◌, ◌++◌, IfOk, None, cond, nat_lt, option_map, vec_capacity, vec_len};
+ghost use Rattle.std.specs.Prelude.{◌≡◌, ◌⊎◌, ◌<◌, ◌≤◌, [], ◌∷◌, ◌++◌, IfOk, None, cond, false, length, nat_lt, option_map, vec_capacity, vec_len};
 ghost use Rattle.std.specs.Option.{option_and_then};
 ghost use Rattle.ft_world.specs.Applies.{Happens, Shows};
 ghost use Rattle.ft_world.specs.Standing.{Course};
 ghost use Rattle.shared_disk.specs.Failing.{records_in};
 ghost use Rattle.pair_shell.specs.Books.{IsNoted, brings_in, brought_by, sent_in};
-ghost use Rattle.pair_shell.specs.Playing.{Lengthens, Plays};
+ghost use Rattle.pair_shell.specs.Playing.{Lengthens, Plays, pauses};
 ghost use Rattle.shell_book.specs.Tapes.{played};
 ghost use Rattle.shell_day.specs.Rounds.{left_waiting, rested};
 
@@ -25,13 +25,13 @@ use std::alloc::{AllocError, Global};
 /// keep two thousand bytes for each byte that it prints.
 pub const KEPT: usize = 200_000;
 
-// After so many events a day pauses, so that its tape is no longer than that.
+// After so many events a day pauses, as soon as it may, so that its tape is hardly longer than that.
 const MOST_TAPED: usize = 1_000_000;
 
 /// Makes the events of a plan happen, one after another, each chosen when the one before it was answered. The tape has
 /// exactly these afterwards, with their answers; also if memory for the next one is refused. A day ends once its guest polls with
 /// nothing left to do for it, and pauses after a million events. Whether the plan has come to its end.
-#[tactic(auto, using(crate::proofs::Playing::plays_nothing))]
+#[tactic(auto, using(crate::proofs::Playing::plays_nothing, crate::proofs::Playing::many_enough))]
 pub fn play<B: Copies<H> + MayPoll + Drop, H: Drop>(
     alloc: Global,
     world: &mut World<B, Disk, H>,
@@ -40,21 +40,29 @@ pub fn play<B: Copies<H> + MayPoll + Drop, H: Drop>(
     tape: &mut Vec<Played>,
     past: &mut Vec<Moment>,
 ) -> Result<bool, AllocError>
-    ensures { Plays B.state B.copied B.machine world.old tape.new.items world.new }
+    ensures played { Plays B.state B.copied B.machine world.old tape.new.items world.new }
+    ensures paused { IfOk result (λ is_over. is_over ≡ false → 1_000_000 ≤ length tape.new.items) }
 {
     tape.clear();
-    'events: for _ in 0..u64::MAX {
+    'events: for _made in 0..u64::MAX {
         let Some(event) = plan.next(book)? else {
             return Ok(true);
         };
         let answer = play_next(alloc, world, book, event, tape, past)?;
         plan.hear(event, answer);
         rest_if_polling(world, book, event, plan);
-        if tape.len() >= MOST_TAPED && plan.may_pause(event) {
+        if pauses(tape, plan, event) {
             return Ok(false);
         }
     }
     Ok(false)
+}
+
+// Whether a day pauses after an event that is the last on its tape.
+fn pauses(tape: &[Played], plan: &Plan, event: Event) -> bool
+    ensures { result ≡ pauses (length tape.now) event plan.now.day }
+{
+    tape.len() >= MOST_TAPED && plan.may_pause(event)
 }
 
 // A day ends if its guest polls after this event, and nothing is left to do for it.

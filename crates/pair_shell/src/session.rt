@@ -30,7 +30,7 @@ impl<T: Completes + Drop + Copy, S: Completes + Drop + Copy, W: Completes + Drop
     ghost use Rattle.std.specs.Prelude.{◌≡◌, [], true, false, IfOk, None, Some, string_bytes};
     ghost use Rattle.shell_language.specs.Saying.{said};
     ghost use Rattle.shell_opening.specs.Openings.{IsDefault, IsSame, SetsUp, SetsUpSaid};
-    ghost use Rattle.pair_shell.specs.Sessions.{AltairsPlay, HeedsSaid, IsAsBefore, IsHeeded, is_quit, trace_after};
+    ghost use Rattle.pair_shell.specs.Sessions.{AltairsPlay, HeedsSaid, IsAsBefore, IsHeeded, MayRefuse, is_quit, trace_after};
     ghost use Rattle.pair_shell.specs.Looking.{IsLooked, IsSeenSaid};
     ghost use Rattle.shell_book.specs.Outcomes.{is_ended};
     ghost use Rattle.shell_book.specs.Tapes.{Begins, trace_text};
@@ -55,7 +55,7 @@ impl<T: Completes + Drop + Copy, S: Completes + Drop + Copy, W: Completes + Drop
     /// Answers a line, which is without its LF and a CR before that. What it makes happen is on the tape, event by event,
     /// each with its answer; a trace says it line by line. A line that is wrong changes nothing. One that is an event of the
     /// script language makes that event alone, and is answered as a script is. A day may pause; it goes on with `go_on`.
-    #[tactic(auto, using(crate::proofs::Playing::line_plays_nothing, crate::proofs::Tracing::begins_nothing, crate::proofs::Tracing::heeds_said, crate::proofs::Looking::seen_said, crate::proofs::Tracing::ends_said, crate::proofs::Tracing::ends_not, crate::proofs::Tracing::sets_up_said, crate::proofs::Tracing::switches, crate::proofs::Tracing::switches_not, crate::proofs::Tracing::late_said))]
+    #[tactic(auto, using(crate::proofs::Playing::line_plays_nothing, crate::proofs::Tracing::begins_nothing, crate::proofs::Tracing::heeds_said, crate::proofs::Looking::seen_said, crate::proofs::Tracing::ends_said, crate::proofs::Tracing::ends_not, crate::proofs::Tracing::sets_up_said, crate::proofs::Tracing::switches, crate::proofs::Tracing::switches_not, crate::proofs::Tracing::late_said, crate::proofs::Refusing::why_said, crate::proofs::Refusing::why_nothing))]
     pub fn answer(
         &mut self,
         alloc: Global,
@@ -76,6 +76,8 @@ impl<T: Completes + Drop + Copy, S: Completes + Drop + Copy, W: Completes + Drop
         ensures seen { IfOk result (λ told. told.0 ≡ outcome.Done → IsSeenSaid (λ d. d.board.guest) (said text.now)
             self.new.notes.tape.items self.new.world self.old.is_traced (string_bytes told.1)) }
         ensures wrong { said text.now ≡ None → IfOk result (λ told. told.0 ≡ outcome.Refused) }
+        ensures why { IfOk result (λ told. told.0 ≡ outcome.Refused
+            → MayRefuse self.old.opening (is_some self.old.world) (said text.now)) }
         ensures set { IfOk result (λ told. told.0 ≡ outcome.Done
             → SetsUpSaid (said text.now) self.old.opening self.new.opening) }
         ensures switched { self.new.is_traced ≡ trace_after (said text.now) self.old.is_traced }
@@ -144,6 +146,8 @@ impl<T: Completes + Drop + Copy, S: Completes + Drop + Copy, W: Completes + Drop
             printed.old.is_traced (string_bytes printed.old.text) (string_bytes printed.new.text)) }
         ensures looked { IfOk result (λ told. told ≡ outcome.Done → IsLooked (λ d. d.board.guest) line.entry
             self.new.notes.tape.items self.new.world printed.old printed.new) }
+        ensures why { IfOk result (λ told. told ≡ outcome.Refused
+            → MayRefuse self.old.opening (is_some self.old.world) (Some line.entry)) }
         ensures set { IfOk result (λ told. told ≡ outcome.Done
             → SetsUp line.entry self.old.opening self.new.opening) }
         ensures switched { self.new.is_traced ≡ trace_after (Some line.entry) self.old.is_traced }
@@ -170,6 +174,7 @@ impl<T: Completes + Drop + Copy, S: Completes + Drop + Copy, W: Completes + Drop
     }
 
     // Does what a line of the setup says, unless the pair has booted.
+    #[tactic(auto, using(crate::proofs::Refusing::comes_late, crate::proofs::Refusing::is_wrong))]
     fn take_setup(
         &mut self,
         alloc: Global,
@@ -180,6 +185,8 @@ impl<T: Completes + Drop + Copy, S: Completes + Drop + Copy, W: Completes + Drop
         ensures set { IfOk result (λ told. told ≡ outcome.Done
             → SetsUp line.entry self.old.opening self.new.opening) }
         ensures refused { IfOk result (λ told. told ≡ outcome.Refused → IsSame self.old.opening self.new.opening) }
+        ensures why { is_setup (Some line.entry) ≡ true → IfOk result (λ told. told ≡ outcome.Refused
+            → MayRefuse self.old.opening (is_some self.old.world) (Some line.entry)) }
         ensures late { is_some self.old.world ≡ true → IfOk result (λ told. told ≡ outcome.Refused) }
         ensures world { self.new.world ≡ self.old.world }
         ensures notes { self.new.notes ≡ self.old.notes }
@@ -216,6 +223,8 @@ impl<T: Completes + Drop + Copy, S: Completes + Drop + Copy, W: Completes + Drop
             printed.old.is_traced (string_bytes printed.old.text) (string_bytes printed.new.text)) }
         ensures looked { IfOk result (λ told. told ≡ outcome.Done → IsLooked (λ d. d.board.guest) line.entry
             self.new.notes.tape.items self.new.world printed.old printed.new) }
+        ensures why { IfOk result (λ told. told ≡ outcome.Refused
+            → MayRefuse self.old.opening (is_some self.old.world) (Some line.entry)) }
         ensures opening { self.new.opening ≡ self.old.opening }
         ensures goes_on { IfOk result (λ told. is_ended told ≡ false) }
         ensures switched { self.new.is_traced ≡ self.old.is_traced }
@@ -230,7 +239,7 @@ impl<T: Completes + Drop + Copy, S: Completes + Drop + Copy, W: Completes + Drop
     }
 
     // The same of a pair that has not booted yet.
-    #[tactic(auto, using(crate::proofs::Playing::line_plays_nothing, crate::proofs::Tracing::begins_nothing))]
+    #[tactic(auto, using(crate::proofs::Playing::line_plays_nothing, crate::proofs::Tracing::begins_nothing, crate::proofs::Refusing::none_boots))]
     fn take_first(
         &mut self,
         alloc: Global,
@@ -254,6 +263,8 @@ impl<T: Completes + Drop + Copy, S: Completes + Drop + Copy, W: Completes + Drop
             printed.old.is_traced (string_bytes printed.old.text) (string_bytes printed.new.text)) }
         ensures looked { IfOk result (λ told. told ≡ outcome.Done → IsLooked (λ d. d.board.guest) line.entry
             self.new.notes.tape.items self.new.world printed.old printed.new) }
+        ensures why { IfOk result (λ told. told ≡ outcome.Refused
+            → MayRefuse self.old.opening (is_some self.old.world) (Some line.entry)) }
         ensures opening { self.new.opening ≡ self.old.opening }
         ensures goes_on { IfOk result (λ told. is_ended told ≡ false) }
         ensures switched { self.new.is_traced ≡ self.old.is_traced }

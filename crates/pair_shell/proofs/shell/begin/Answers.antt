@@ -21,6 +21,7 @@ returns-clause-heard g c =
       heeded = told.heeded;
       seen = told.seen;
       wrong = told.wrong;
+      why = told.why;
       set = told.set;
       switched = told.switched;
       left = told.refused;
