@@ -49,6 +49,8 @@ MOST_KEYS = 4096
 PATIENCE = 30
 # These end the command; a program does not hear those that a terminal sends, since this command does.
 ENDINGS = (signal.SIGINT, signal.SIGQUIT, signal.SIGTERM)
+# After how many seconds a signal is heard at the latest.
+LONGEST_WAIT = 0.2
 OF_TERMINALS = (signal.SIGINT, signal.SIGQUIT, signal.SIGHUP)
 
 
@@ -213,10 +215,18 @@ class Run:
         ends = [(self.program.stdout, self.row or Output(1)), (self.program.stderr, Output(2))]
         self.screens = [Screen(self.program, pipe, output, mark, self.heard) for pipe, output in ends if pipe]
         showing = [begin(threading.Thread(target=screen.pass_on)) for screen in self.screens]
-        self.program.wait()
+        self.await_program()
         for it in showing:
             while it.is_alive() and not self.ended_by:
                 it.join(0.1)
+
+    def await_program(self):
+        """Waits until the program has ended. A signal that comes just before a wait is heard only after it, so no wait is long."""
+        program = os.pidfd_open(self.program.pid)
+        while not select.select([program], [], [], LONGEST_WAIT)[0]:
+            pass
+        os.close(program)
+        self.program.wait()
 
     def heard(self, handed):
         """Does what is to be done with what a program hands over; gives what is written in its place."""
