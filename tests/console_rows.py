@@ -90,7 +90,7 @@ def a_line_is_on_the_last_row_and_the_guest_above_it(command):
         for number in range(5):
             console.type_slowly(b"D 0000")
             lines += ["*" * (number > 0) + DUMP[0], DUMP[1]]
-            console.await_that(lambda: console.shown.count(b" 00 00\r\n*") == number + 1, "a dump")
+            console.await_that(lambda: console.shown_above().count(b" 00 00\r\n*") == number + 1, "a dump")
         expect(console.texts(), [*lines, "*"][1 - SIZE[0] :], "the rows above, after they have scrolled")
         console.await_row("^generation 2: ")
         expect(console.quit(), 0, "the status")
@@ -225,7 +225,7 @@ def drawn_in(path):
 def a_picture_has_what_became_of_the_hosts(command):
     for place in (OnScreen, AtTerminal, BetweenPipes):
         with folder() as room, ended_at_last(place(command())) as console:
-            console.await_that(lambda: b"MONITOR\r\n*" in console.shown, "the monitor")
+            console.await_shown(b"MONITOR\r\n*")
             for line, host in ((b"stop 0", 2), (b"stop 2", 3)):
                 console.type(ESCAPE + line + ENTER)
                 console.await_that(lambda: b", host %d its backup" % host in console.shown + console.said, f"host {host}")

@@ -17,6 +17,9 @@ from cases import Differs
 
 TOP = pathlib.Path(__file__).resolve().parent.parent
 
+# What is written to a terminal so that its last row is apart, and has a line.
+OF_THE_ROW = re.compile(rb"\x1b7.*?\x1b8|\x1bD\x1b\[A", re.DOTALL)
+
 # How long anything may take that is waited for, in seconds.
 PATIENCE = 120
 
@@ -91,8 +94,12 @@ class Console:
         while time.monotonic() < ends:
             self.hear(0.05)
 
+    def shown_above(self):
+        """What is shown but for what is written of the last row, which may come amid it."""
+        return OF_THE_ROW.sub(b"", self.shown)
+
     def await_shown(self, text):
-        self.await_that(lambda: text in self.shown, repr(text))
+        self.await_that(lambda: text in self.shown or text in self.shown_above(), repr(text))
 
     def await_said(self, pattern):
         self.await_that(lambda: re.search(pattern, self.said), repr(pattern))
