@@ -172,6 +172,7 @@ def the_last_row_is_the_guests_again_at_the_end(command):
 def a_sequence_that_is_cut_off_does_not_hold_the_row(command):
     with played(b"<first>text\x1b[5;", b"") as console:
         console.await_row("^first$")
+        console.await_shown(b"text\x1b[5;")
         console.run.terminate()
         console.status()
         expect((console.screen.all_scroll(), console.screen.texts()[0], console.screen.texts()[-1]), (True, "text", ""), "the rows at the end")
