@@ -12,11 +12,11 @@ use Rattle.ft_node.specs.Calls as calls
 use Rattle.ft_node.specs.declared.ran.Drained.{Drained}
 use Rattle.ft_node.proofs.FollowerMoves.{in_role, repeats}
 
-abbrev drained_by : Replayed → Drained
+abbrev pub drained_by : Replayed → Drained
 drained_by r = record { moves = r.moves; why = r.why }
 
 -- a draining node is not refused
-allowed : {S : Type 0} (M : Machine S) (reads : Reads) (x : Node S) (s : S) (come : Option (List ℕ)) (r : Receiving) (turns : ℕ) (d : Drained)
+pub allowed : {S : Type 0} (M : Machine S) (reads : Reads) (x : Node S) (s : S) (come : Option (List ℕ)) (r : Receiving) (turns : ℕ) (d : Drained)
     (Is : Node S → Type 0) → IsFollower Draining reads s come r x → calls.Makes x (calls.DrainedBy M turns d) Is
     → calls.Drains M turns x (Ok d) Is
 allowed M reads x s come r turns d Is f empties =
@@ -24,7 +24,7 @@ allowed M reads x s come r turns d Is f empties =
     (sym (in_role Draining reads x s come r f refl)) empties
 
 -- unless nothing is left, it drains on
-stays_draining : {S : Type 0} (y : Node S) (why : ReplayEnd) → why ≢ End → y ≡ after_drain y why
+pub stays_draining : {S : Type 0} (y : Node S) (why : ReplayEnd) → why ≢ End → y ≡ after_drain y why
 stays_draining y Turns left = refl
 stays_draining y End left = absurd (left refl)
 stays_draining y Wait left = refl

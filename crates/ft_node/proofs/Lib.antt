@@ -11,6 +11,7 @@ pub mod PrimaryReleases
 pub mod SamePrimary
 pub mod AloneSteps
 pub mod FollowerMoves
+pub mod CheckedMoves
 pub mod FollowerLog
 pub mod FetchedBytes
 pub mod Deliveries

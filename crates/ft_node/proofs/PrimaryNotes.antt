@@ -178,7 +178,7 @@ found_itself (note ∷ notes) (suc k) d within =
     (λ differs. (later.0, ap (λ b. cond b (Some note) (note_in notes (get_or notes k d).id)) differs ∙ later.1))
     (cases_Bool (same_name note.id (get_or notes k d).id))
 
-few_outstanding : {S : Type 0} (M : Machine S) (t : S) (c : Covering) (few : AreFew M t) → AreOfOutstanding M t c
+pub few_outstanding : {S : Type 0} (M : Machine S) (t : S) (c : Covering) (few : AreFew M t) → AreOfOutstanding M t c
     → AreNotesOf few.names c.notes
 few_outstanding M t c few outstanding k d within =
     let found = found_itself c.notes k d within in

@@ -1,13 +1,18 @@
--- What a run leaves, besides the machine. Quiet steps change no operation, so whatever had a note is still outstanding
--- after them; the new name is outstanding too, and since few operations are, there is room for its note.
-use Rattle.std.proofs.Common.{◌≡◌, ℕ, Option, Some, None, Ok, refl, ◌∙◌}
-use Rattle.ft_node.proofs.Words.{AdvancesSome, AdvancesUnless, AllTurns, AreFew, AreOfOutstanding, Begin, ComesAndGoes, Covering, Fault, HasPlace, IsCovering, IsFrugal, IsRefused, Log, Machine, More, OpId, Quiet, RunsOn, Stopped, advance_refusal, id_of}
-use Rattle.guest_lockstep.specs.declared.reads.Reads.TheVariants.{Logged}
-use Rattle.recorder.proofs.Advances.{records_steps}
-use Rattle.guest_lockstep.specs.Recorded.{Counts}
-use Rattle.guest_lockstep.specs.Running.{Gives}
-use Rattle.guest_lockstep.proofs.Moves.{recorded-runs}
-use Rattle.ft_node.proofs.PrimaryNotes.{AreOfOutstanding-noted, room_for_note}
+-- Room for the note of an operation. It is looked at before a run, which gives at most one; a machine of which few
+-- operations are outstanding always has it.
+use Rattle.std.proofs.Common.{◌≡◌, ℕ, ◌<◌, not, [], length, Option, Some, None, Result, Ok, refl, sym, subst, arith}
+use Rattle.std.proofs.lemmas.List.Filters.{length-filter_both}
+use Rattle.ft_node.proofs.Words.{AdvancesSome, AdvancesUnless, AreFew, Covering, Covers, Fault, HasPlace, IsCovering, IsFrugal, Log, Machine, Node, Stopped}
+use Rattle.guest_lockstep.specs.declared.running.StopReason.{StopReason}
+use Rattle.guest_lockstep.specs.declared.running.StopReason.TheVariants as reason
+use Rattle.output_rule.specs.Notes.{same_name}
+use Rattle.output_rule.specs.declared.notes.Note.{Note}
+use Rattle.output_rule.specs.declared.notes.TheConstants.{PLACES}
+use Rattle.output_rule.proofs.FewNotes.{few_notes}
+use Rattle.ft_node.specs.Calls as calls
+use Rattle.ft_node.specs.Checked as checked
+use Rattle.ft_node.specs.declared.ran.Ran.{Ran}
+use Rattle.ft_node.proofs.PrimaryNotes.{few_outstanding}
 
 -- ---- a run that was made
 
@@ -16,33 +21,30 @@ pub made_some : {S : Type 0} (M : Machine S) (s t : S) (l new : Log) (turns : �
 made_some M s t l new turns a None made = (refl, made)
 made_some M s t l new turns a (Some fault) made = let no = made.0 in absurd (cc)
 
--- ---- there is room for the note
+-- ---- the room is looked at before the run
 
-quiet_found : {S : Type 0} (M : Machine S) (s t : S) (n : ℕ) (name : OpId) → ComesAndGoes M → Quiet M s n t
-    → M.find t name ≡ M.find s name
-quiet_found M s t n name laws Begin = refl
-quiet_found M s t n name laws (More {n = m} {t = v} q allowed made) =
-    laws.quiet v t made name ∙ quiet_found M s v m name laws q
+-- an operation that was given takes at most one more place
+pub place_if_room : (c : Covering) (why : StopReason) → length c.notes < PLACES → HasPlace c why
+place_if_room c reason.Turns room = tt
+place_if_room c (reason.Operation name) room =
+    let both =
+    length-filter_both (λ (note : Note). same_name note.id name) (λ (note : Note). not (same_name note.id name))
+    (λ note. refl) c.notes in
+    omega arith
+place_if_room c (reason.Refused fault) room = tt
 
-quiet_outstanding : {S : Type 0} (M : Machine S) (s t : S) (n : ℕ) (c : Covering) → ComesAndGoes M → Quiet M s n t
-    → AreOfOutstanding M s c → AreOfOutstanding M t c
-quiet_outstanding M s t n c laws q before = λ name index is.
-    let there = before name index is in
-    (there.0, quiet_found M s t n name laws q ∙ there.1)
+-- there is room if few operations are outstanding
+pub lacks_room : {S : Type 0} (M : Machine S) (x : Node S) (c : Covering) → Covers M c x → IsCovering c
+    → (length c.notes < PLACES → ⊥) → IsFrugal M x.machine → ⊥
+lacks_room M x c covers stands none frugal =
+    let few : AreFew M x.machine = frugal [] x.machine refl in
+    let notes = few_notes c.notes few.names stands.apart (few_outstanding M x.machine c few covers.outstanding) in
+    let limit = few.few in
+    none (omega arith)
 
-place_at : {S : Type 0} (M : Machine S) (s t : S) (turns : ℕ) (a : Stopped) (c : Covering) → ComesAndGoes M → AreFew M t
-    → AreOfOutstanding M s c → IsCovering c → RunsOn M s turns a t → HasPlace c a.reason
-place_at M s t turns _ c laws few outstanding stands (AllTurns q) = tt
-place_at M s t turns _ c laws few outstanding stands (Gives {n = n} {t = v} {given = given} lt q allowed made) =
-    room_for_note M t c (id_of given) 0 stands few
-    (AreOfOutstanding-noted M v t c given 0 laws made (quiet_outstanding M s v n c laws q outstanding))
-place_at M s t turns _ c laws few outstanding stands (IsRefused lt q) = tt
-
-pub place_for_note : {S : Type 0} (M : Machine S) (s t : S) (l new : Log) (turns : ℕ) (a : Stopped) (c : Covering)
-    → Counts M → ComesAndGoes M → IsFrugal M s → AreOfOutstanding M s c → IsCovering c
-    → AdvancesUnless M s l turns (advance_refusal M s l turns) (Ok a) t new → HasPlace c a.reason
-place_for_note M s t l new turns a c counts laws frugal outstanding stands made =
-    let some = made_some M s t l new turns a (advance_refusal M s l turns) made in
-    let run = records_steps M Logged s t l new turns a counts some.1.0 in
-    place_at M s t turns a c laws (frugal run.moves t (recorded-runs M s t run.moves run.records.runs)) outstanding stands
-    some.1.0.runs
+-- and then nothing else refuses the steps
+pub all_steps : {S : Type 0} {M : Machine S} {s : S} {turns : ℕ} {x : Node S} {result : Result Ran Fault}
+    {Is : Node S → Type 0} → x.machine ≡ s → IsFrugal M s → checked.Steps M turns x result Is
+    → calls.Steps M turns x result Is
+all_steps same frugal (checked.StepsAll steps) = steps
+all_steps {S} {M} same frugal (checked.StepsNone lacks) = absurd (lacks.not_frugal (subst (IsFrugal M) (sym same) frugal))

@@ -17,8 +17,6 @@ use Rattle.log_entry.specs.declared.entry.Entry.{Entry}
 use Rattle.pair_protocol.specs.Copying.{Copying}
 use Rattle.pair_protocol.specs.Node.{Node, Primary, Backup, Joining, Draining, Alone}
 use Rattle.recorder.specs.Recording.{IsDue}
-use Rattle.replayer.specs.Replaying.{bytes_refusal}
-use Rattle.shared_disk.specs.declared.disk.SectorRead.{SectorRead}
 use Rattle.ft_node.specs.Joined.{Joined}
 use Rattle.ft_node.specs.Pages.{PagesGoOn, SamePages}
 use Rattle.ft_node.specs.Roles.{AreOfOutstanding, HasImage, IsPrimary, IsFollower, IsJoining, IsAlone, IsHalted}
@@ -92,7 +90,7 @@ NoneCopied {B} stale node = (board : B) → alone_board node ≡ Some board → 
 abbrev pub PagesStay : {B : Type 0} {H : Type 0} → (B → ℕ → Bool) → code.Node B H → code.Node B H → Type 0
 PagesStay stale old new = PagesGoOn stale (SamePages stale) (alone_board old) (alone_board new)
 
--- ---- what the calls of a node require
+-- ---- what the calls of a node require, or are exact with
 
 -- nothing refuses an input: the guest awaits it, and a log has room for its entry
 pub record MayAccept {B S : Type 0} {H : Type 0} (state : B → S) (M : Machine S) (node : code.Node B H) (i : Input) : Type 0 where
@@ -130,20 +128,6 @@ MayReplay state M (node.Draining d) =
     IsOnTrace M (state d.draining.replayer.board) d.draining.receiver.entries d.draining.replayer.fetched
 MayReplay state M (node.Alone a) = Unit {0}
 MayReplay state M (node.Halted h) = Unit {0}
-
--- if the bytes of a sector are those that a replaying node waits for, its run takes the sector with them
-abbrev pub MayFetch : {B S : Type 0} {H : Type 0} → (B → S) → Machine S → code.Node B H → SectorRead → Type 0
-MayFetch state M (node.Primary p) read = Unit {0}
-MayFetch state M (node.Backup b) read =
-    bytes_refusal M (state b.replayer.board) b.receiver.entries b.replayer.fetched read ≡ None
-    → IsOnTrace M (state b.replayer.board) b.receiver.entries (Some read.bytes)
-MayFetch state M (node.Joining j) read = Unit {0}
-MayFetch state M (node.Draining d) read =
-    let r = d.draining.replayer in
-    bytes_refusal M (state r.board) d.draining.receiver.entries r.fetched read ≡ None
-    → IsOnTrace M (state r.board) d.draining.receiver.entries (Some read.bytes)
-MayFetch state M (node.Alone a) read = Unit {0}
-MayFetch state M (node.Halted h) read = Unit {0}
 
 -- ---- what a node becomes
 

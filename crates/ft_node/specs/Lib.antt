@@ -7,3 +7,4 @@ pub mod Due
 pub mod Guests
 pub mod Calls
 pub mod Noting
+pub mod Checked

@@ -1,11 +1,12 @@
 //! The backup of a generation.
-ghost use Rattle.std.specs.Prelude.{◌≡◌, IfOk, IfSome, None, OnErr, Some};
+ghost use Rattle.std.specs.Prelude.{◌≡◌, IfOk, IfSome, OnErr};
 ghost use Rattle.log_channel.specs.Channel.{MayHold};
 ghost use Rattle.log_channel.specs.Packet.{packet_at};
 ghost use Rattle.pair_protocol.specs.Node as protocol;
 ghost use Rattle.log_entry.specs.Standing.{IsOnTrace};
 ghost use Rattle.ft_node.specs.Calls as calls;
-ghost use Rattle.replayer.specs.Replaying.{bytes_refusal, place_of};
+ghost use Rattle.replayer.specs.Replaying.{place_of};
+ghost use Rattle.ft_node.specs.Checked as checked;
 ghost use Rattle.ft_node.specs.Roles.{IsFollower};
 
 use disk_dcdd::SectorAddress;
@@ -67,11 +68,16 @@ impl<B: Lockstep> Backup<B> {
         self.receiver.ack(alloc, replayed)
     }
 
-    /// Makes at most `turns` moves, each of them a step or a held entry.
+    /// Makes at most `turns` moves, each of them a step or a held entry, as far as the entries fit.
     pub(crate) fn replay(&mut self, turns: u64) -> R<Replayed>
-        requires on_trace { IsOnTrace B.machine (B.state self.old.replayer.board) self.old.receiver.entries
-            self.old.replayer.fetched }
         ensures answer { (x : protocol.Node B.State)
+            → IsFollower protocol.Backup self.old.reads (B.state self.old.replayer.board) self.old.replayer.fetched
+            self.old.receiver x
+            → checked.Replays B.machine turns x result
+            (IsFollower protocol.Backup self.new.reads (B.state self.new.replayer.board) self.new.replayer.fetched
+            self.new.receiver) }
+        ensures exactly { IsOnTrace B.machine (B.state self.old.replayer.board) self.old.receiver.entries
+            self.old.replayer.fetched → (x : protocol.Node B.State)
             → IsFollower protocol.Backup self.old.reads (B.state self.old.replayer.board) self.old.replayer.fetched
             self.old.receiver x
             → calls.Replays B.machine turns x result
@@ -81,6 +87,7 @@ impl<B: Lockstep> Backup<B> {
     {
         self.replayer.replay(&mut self.receiver, turns)
     }
+
     /// The sector for whose bytes it waits.
     pub(crate) fn wanted(&self) -> R<SectorAddress>
         ensures { (x : protocol.Node B.State)
@@ -96,9 +103,6 @@ impl<B: Lockstep> Backup<B> {
 
     /// Takes the bytes of the sector for which it waits.
     pub(crate) fn fetched(&mut self, read: &SectorRead) -> R<()>
-        requires { bytes_refusal B.machine (B.state self.old.replayer.board) self.old.receiver.entries
-            self.old.replayer.fetched read.now ≡ None
-            → IsOnTrace B.machine (B.state self.old.replayer.board) self.old.receiver.entries (Some read.now.bytes) }
         ensures answer { (x : protocol.Node B.State)
             → IsFollower protocol.Backup self.old.reads (B.state self.old.replayer.board) self.old.replayer.fetched
             self.old.receiver x

@@ -4,7 +4,7 @@ ghost use Rattle.pair_protocol.specs.Copying.{Copying};
 ghost use Rattle.pair_protocol.specs.Node as protocol;
 ghost use Rattle.replayer.specs.Replaying.{place_of};
 ghost use Rattle.ft_node.specs.Calls as calls;
-ghost use Rattle.ft_node.specs.AnyNode.{IsNode, MayFetch, PagesStay};
+ghost use Rattle.ft_node.specs.AnyNode.{IsNode, PagesStay};
 
 use crate::node::Node;
 use clone_state::Copies;
@@ -29,7 +29,6 @@ impl<B: Copies<H> + Drop, H: Drop> Node<B, H> {
     /// Takes the bytes of the sector for which it waits. `NotDue` if it waits for none or for another one, `StaleRead` if
     /// the disk had what another write left there. Allocates no memory.
     pub fn fetched(&mut self, read: &SectorRead) -> R<()>
-        requires { MayFetch B.state B.machine self.old read.now }
         ensures answer { (C : Copying B.State) (drives : ℕ) (x : protocol.Node B.State) → IsNode B.state B.machine C drives self.old x
             → calls.Fetches B.machine (place_of read.now) read.now.number read.now.bytes x result
             (IsNode B.state B.machine C drives self.new) }

@@ -8,6 +8,7 @@ ghost use Rattle.pair_protocol.specs.Copying.{Copying};
 ghost use Rattle.pair_protocol.specs.Node as protocol;
 ghost use Rattle.pair_protocol.specs.Node.{halts};
 ghost use Rattle.ft_node.specs.Calls as calls;
+ghost use Rattle.ft_node.specs.Checked as checked;
 ghost use Rattle.ft_node.specs.Guests.{shown_machine};
 ghost use Rattle.ft_node.specs.Roles.{IsHalted, node_count};
 ghost use Rattle.ft_node.specs.Pages.{PagesGoOn, StepsWrite};
@@ -88,10 +89,12 @@ impl<B: Copies<H> + Drop, H: Drop> Node<B, H> {
     }
 
     /// Makes at most `turns` steps of a primary's or an alone node's machine, up to the first that gives an operation.
-    /// `LogFull`, `Spent`, `Idle` and `OutOfMemory` are returned only if no step is made.
+    /// `LogFull`, `Spent`, `Idle` and `OutOfMemory` are returned only if no step is made; `LogFull` also if a primary has no
+    /// room to note one more operation.
     pub fn step(&mut self, turns: u64) -> R<Ran>
-        requires few { MayRun B.state B.machine self.old }
         ensures answer { (C : Copying B.State) (drives : ℕ) (x : protocol.Node B.State) → IsNode B.state B.machine C drives self.old x
+            → checked.Steps B.machine turns x result (IsNode B.state B.machine C drives self.new) }
+        ensures exactly { MayRun B.state B.machine self.old → (C : Copying B.State) (drives : ℕ) (x : protocol.Node B.State) → IsNode B.state B.machine C drives self.old x
             → calls.Steps B.machine turns x result (IsNode B.state B.machine C drives self.new) }
         ensures pages { IfOk result (λ ran. PagesGoOn B.stale (StepsWrite B.state B.machine B.writes B.stale ran.steps)
             (alone_board self.old) (alone_board self.new)) }

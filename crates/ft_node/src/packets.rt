@@ -5,6 +5,7 @@ ghost use Rattle.log_channel.specs.Packet.{packet_at};
 ghost use Rattle.pair_protocol.specs.Copying.{Copying};
 ghost use Rattle.pair_protocol.specs.Node as protocol;
 ghost use Rattle.ft_node.specs.Calls as calls;
+ghost use Rattle.ft_node.specs.Checked as checked;
 ghost use Rattle.ft_node.specs.AnyNode.{IsNode, MayHold, MayReplay, PagesStay};
 
 use crate::node::Node;
@@ -92,10 +93,12 @@ impl<B: Copies<H> + Drop, H: Drop> Node<B, H> {
         }
     }
 
-    /// Makes at most `turns` moves from the entries that a backup holds. `OutOfMemory` is returned only if no move is made.
+    /// Makes at most `turns` moves of a backup, each of them a step or a held entry. Makes fewer also where what it holds
+    /// fits its guest no longer, since it is not of its guest's run; `OutOfMemory` or `Malformed` if it makes none at all.
     pub fn replay(&mut self, turns: u64) -> R<Replayed>
-        requires on_trace { MayReplay B.state B.machine self.old }
         ensures answer { (C : Copying B.State) (drives : ℕ) (x : protocol.Node B.State) → IsNode B.state B.machine C drives self.old x
+            → checked.Replays B.machine turns x result (IsNode B.state B.machine C drives self.new) }
+        ensures exactly { MayReplay B.state B.machine self.old → (C : Copying B.State) (drives : ℕ) (x : protocol.Node B.State) → IsNode B.state B.machine C drives self.old x
             → calls.Replays B.machine turns x result (IsNode B.state B.machine C drives self.new) }
         ensures pages { OnOk result (PagesStay B.stale self.old self.new) }
         ensures unchanged { OnErr result (self.new ≡ self.old) }

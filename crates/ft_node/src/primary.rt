@@ -14,8 +14,9 @@ ghost use Rattle.pair_protocol.specs.Effects.{Took};
 ghost use Rattle.pair_protocol.specs.Node.{Node};
 ghost use Rattle.recorder.specs.Recording.{MayTake};
 ghost use Rattle.ft_node.specs.Calls as calls;
+ghost use Rattle.ft_node.specs.Checked as checked;
 ghost use Rattle.ft_node.specs.Noting as noting;
-ghost use Rattle.ft_node.specs.Roles.{AreOfOutstanding, HasImage, IsPrimary};
+ghost use Rattle.ft_node.specs.Roles.{HasImage, IsPrimary};
 
 use crate::kept_image::KeptImage;
 use crate::ran::Ran;
@@ -73,11 +74,16 @@ impl<B: Lockstep + Drop> Primary<B> {
     }
 
     /// Makes at most `turns` steps, and stops after the first that gives an operation, which waits for its mark to be
-    /// acknowledged.
+    /// acknowledged. `LogFull` if there is no room to note one more operation.
     pub(crate) fn step(&mut self, turns: u64) -> R<Ran>
-        requires few { outstanding.IsFrugal B.machine (B.state self.old.recorder.board) }
-        requires notes { AreOfOutstanding B.machine (B.state self.old.recorder.board) self.old.coverage }
         ensures answer { (C : Copying B.State) (x : Node B.State)
+            → IsPrimary B.machine (HasImage C self.old.sender.generation self.old.image) self.old.recorder.reads (B.state self.old.recorder.board) self.old.recorder.log self.old.sender
+            self.old.coverage x
+            → checked.Steps B.machine turns x result
+            (IsPrimary B.machine (HasImage C self.new.sender.generation self.new.image) self.new.recorder.reads (B.state self.new.recorder.board) self.new.recorder.log self.new.sender
+            self.new.coverage) }
+        ensures exactly { outstanding.IsFrugal B.machine (B.state self.old.recorder.board)
+            → (C : Copying B.State) (x : Node B.State)
             → IsPrimary B.machine (HasImage C self.old.sender.generation self.old.image) self.old.recorder.reads (B.state self.old.recorder.board) self.old.recorder.log self.old.sender
             self.old.coverage x
             → calls.Steps B.machine turns x result
@@ -87,6 +93,9 @@ impl<B: Lockstep + Drop> Primary<B> {
     {
         self.recorder.log().stands();
         self.coverage.stands();
+        if !self.coverage.has_room() {
+            return Err(Fault::LogFull);
+        }
         let mark = self.recorder.log().next();
         let Stopped { steps, reason } = self.recorder.advance(turns)?;
         note(&mut self.coverage, reason, mark);

@@ -6,6 +6,7 @@ ghost use Rattle.pair_protocol.specs.Copying.{Copying};
 ghost use Rattle.pair_protocol.specs.Node as protocol;
 ghost use Rattle.pair_protocol.specs.Node.{goes_live, wins};
 ghost use Rattle.ft_node.specs.Calls as calls;
+ghost use Rattle.ft_node.specs.Checked as checked;
 ghost use Rattle.ft_node.specs.Roles.{IsFollower};
 ghost use Rattle.ft_node.specs.AnyNode.{IsNode, MayReplay, PagesStay, alone_board};
 
@@ -54,10 +55,11 @@ impl<B: Copies<H> + Drop, H: Drop> Node<B, H> {
     }
 
     /// Makes at most `turns` moves from the entries that a node that won still holds; with nothing left the node is
-    /// alone. `OutOfMemory` is returned only if no move is made.
+    /// alone. Makes fewer also where what it holds fits its guest no longer; `OutOfMemory` or `Malformed` if it makes none.
     pub fn drain(&mut self, turns: u64) -> R<Drained>
-        requires on_trace { MayReplay B.state B.machine self.old }
         ensures answer { (C : Copying B.State) (drives : ℕ) (x : protocol.Node B.State) → IsNode B.state B.machine C drives self.old x
+            → checked.Drains B.machine turns x result (IsNode B.state B.machine C drives self.new) }
+        ensures exactly { MayReplay B.state B.machine self.old → (C : Copying B.State) (drives : ℕ) (x : protocol.Node B.State) → IsNode B.state B.machine C drives self.old x
             → calls.Drains B.machine turns x result (IsNode B.state B.machine C drives self.new) }
         ensures pages { OnOk result (PagesStay B.stale self.old self.new) }
         ensures unchanged { OnErr result (self.new ≡ self.old) }

@@ -1,8 +1,9 @@
 //! A backup that won.
-ghost use Rattle.std.specs.Prelude.{◌≡◌, None, OnErr, Some};
+ghost use Rattle.std.specs.Prelude.{◌≡◌, OnErr};
 ghost use Rattle.log_entry.specs.Standing.{IsOnTrace};
 ghost use Rattle.pair_protocol.specs.Node as protocol;
-ghost use Rattle.replayer.specs.Replaying.{Answers, bytes_refusal, place_of};
+ghost use Rattle.replayer.specs.Checking.{AnswersAny};
+ghost use Rattle.replayer.specs.Replaying.{Answers, place_of};
 ghost use Rattle.ft_node.specs.Calls as calls;
 ghost use Rattle.ft_node.specs.Roles.{IsFollower};
 
@@ -22,11 +23,15 @@ pub struct Winner<B> {
 }
 
 impl<B: Lockstep> Winner<B> {
-    /// Makes at most `turns` moves from the entries that are held.
+    /// Makes at most `turns` moves from the entries that are held, as far as they fit.
     pub(crate) fn drain(&mut self, turns: u64) -> R<Replayed>
-        requires on_trace { IsOnTrace B.machine (B.state self.old.draining.replayer.board)
-            self.old.draining.receiver.entries self.old.draining.replayer.fetched }
-        ensures answers { Answers B.machine (B.state self.old.draining.replayer.board)
+        ensures answers { AnswersAny B.machine (B.state self.old.draining.replayer.board)
+            self.old.draining.receiver.entries self.old.draining.replayer.fetched turns result
+            (B.state self.new.draining.replayer.board) self.new.draining.receiver.entries
+            self.new.draining.replayer.fetched }
+        ensures exactly { IsOnTrace B.machine (B.state self.old.draining.replayer.board)
+            self.old.draining.receiver.entries self.old.draining.replayer.fetched
+            → Answers B.machine (B.state self.old.draining.replayer.board)
             self.old.draining.receiver.entries self.old.draining.replayer.fetched turns result
             (B.state self.new.draining.replayer.board) self.new.draining.receiver.entries
             self.new.draining.replayer.fetched }
@@ -53,10 +58,6 @@ impl<B: Lockstep> Winner<B> {
 
     /// Takes the bytes of the sector for which it waits.
     pub(crate) fn fetched(&mut self, read: &SectorRead) -> R<()>
-        requires { bytes_refusal B.machine (B.state self.old.draining.replayer.board) self.old.draining.receiver.entries
-            self.old.draining.replayer.fetched read.now ≡ None
-            → IsOnTrace B.machine (B.state self.old.draining.replayer.board) self.old.draining.receiver.entries
-            (Some read.now.bytes) }
         ensures answer { (x : protocol.Node B.State)
             → IsFollower protocol.Draining self.old.reads (B.state self.old.draining.replayer.board)
             self.old.draining.replayer.fetched self.old.draining.receiver x

@@ -2,31 +2,20 @@
 -- the run that it follows takes that sector there, so it was ready at the selected drive, and is a sector of the disk. If
 -- the answer has the number of the read, its bytes are those that the run takes, as in every world that actions reach; so
 -- they may be kept.
-use Rattle.disk_dcdd.proofs.Addresses.{same_address-is}
-use Rattle.ft_world.proofs.Words.{After, Applies, Backup, Course, Do, Draining, Entry, Fault, Fetched, Fetches, GetsSector, Guest, Host, Input, IsFollower, IsHost, IsNode, IsOnTrace-back, Machine, MayFetch, Message, Move, Never, Node, NotDue, OfNode, OutOfMemory, Reached, Reads, Record, Replaying, Reply, Role, Running, SectorAddress, SectorRead, Shows, StaleRead, Station, Stays, Take, Unknown, Wants, World, acts_as, at_fetched, at_node, drop-at, entries, entry_of, faults_in, fetch_refusal, fetched_refusal, fetches, first-passed, get_set, has_sector, is-at-read, machine_of, next_read, node-passed, nodes_stand, read_address, refusal, replaying, role_refusal, same_address, sector_of, wanted, wanted_of, with_node}
-use Rattle.std.proofs.Common.{◌≡◌, ◌≤◌, ◌+◌, ◌∙◌, ◌++◌, [], ◌∷◌, Bool, Err, List, None, Ok, Option, Some, ap, arith, drop, eqb-true, false, inl, inr, not, refl, subst, suc, sym, true, ℕ}
+use Rattle.ft_world.proofs.Words.{Applies, Backup, Course, Do, Draining, Entry, Fault, Fetched, GetsSector, Guest, Host, Input, Machine, Message, Move, Never, Node, NotDue, OfNode, OutOfMemory, Reads, Record, Replaying, Reply, Running, SectorAddress, SectorRead, Shows, Stays, Take, Unknown, Wants, World, acts_as, at_fetched, at_node, drop-at, entries, entry_of, faults_in, fetch_refusal, fetched_refusal, first-passed, has_sector, is-at-read, machine_of, next_read, node-passed, nodes_stand, read_address, refusal, replaying, role_refusal, sector_of, wanted, wanted_of}
+use Rattle.std.proofs.Common.{◌≡◌, ◌≤◌, ◌+◌, ◌∙◌, ◌++◌, [], ◌∷◌, Bool, Err, List, None, Ok, Option, Some, ap, arith, drop, false, inr, not, refl, subst, suc, sym, true, ℕ}
 use Rattle.std.specs.Option.{option_and_then}
 use Rattle.std.specs.Prelude.{IfErr, IsTrue, Result, if◌then◌else◌, is_none, slice_get, ◌==◌}
 use Rattle.guest_lockstep.specs.Recorded.{Accepts, Recorded}
 use Rattle.guest_lockstep.specs.declared.input.Input.TheVariants.{Rx, Sector, Sent, Written}
 use Rattle.guest_lockstep.specs.declared.reads.Reads.TheVariants.{Logged, Shared}
-use Rattle.log_channel.specs.Channel.{Receiving}
-use Rattle.log_entry.specs.Standing.{IsOnTrace, owed}
+use Rattle.log_entry.specs.Standing.{owed}
 use Rattle.log_entry.specs.declared.entry.Entry.TheVariants as entry
 use Rattle.log_entry.proofs.TraceEntries.{same_first}
-use Rattle.log_entry.specs.Entries.{read_at}
-use Rattle.replayer.specs.Replaying as replayer
-use Rattle.replayer.specs.Replaying.{bytes_refusal}
 use Rattle.replayer.proofs.Fronts.{not_behind}
-use Rattle.pair_protocol.specs.Effects as effect
 use Rattle.pair_protocol.specs.World as sent
-use Rattle.ft_node.specs.declared.node.Node as code
-use Rattle.ft_node.specs.declared.node.Node.TheVariants as node
-use Rattle.ft_node.proofs.FollowerMoves.{next_left}
 use Rattle.pair_events.specs.declared.event.Event.TheVariants as event
 use Rattle.pair_events.specs.declared.reply.Reply.TheVariants as reply
-use Rattle.ft_world.specs.declared.host.Host.TheVariants as host
-use Rattle.ft_world.proofs.Agreeing.{agree-other}
 use Rattle.ft_world.proofs.Applying.{refuses}
 use Rattle.ft_world.proofs.AtHosts.{AsksNode, AtHost}
 use Rattle.ft_world.proofs.AtOneNode.{asks_refused, node_applies, node_asked, node_refused}
@@ -84,12 +73,6 @@ read_taken M reads s last drive sector number es false (Take i ∷ moves) r h =
 is_ready : (ready : Bool) (rest : Option Fault) → (if not ready then Some NotDue else rest) ≡ None → ready ≡ true
 is_ready true rest e = refl
 is_ready false rest e = absurd (cc)
-
-is_due : (here same : Bool) → (if not here then Some NotDue else if not same then Some StaleRead else None) ≡ None →
-    (here ≡ true) × (same ≡ true)
-is_due true true e = (refl, refl)
-is_due true false e = absurd (cc)
-is_due false same e = absurd (cc)
 
 next_of : (fetched : Option (List ℕ)) (read : Option (ℕ × ℕ × ℕ)) (r : ℕ × ℕ × ℕ) → wanted_of fetched read ≡ Some r →
     read ≡ Some r
@@ -176,63 +159,6 @@ module _ {B H D S : Type 0} (state : B → S) (copied : B → Guest) (M : Machin
 
   -- ---- its answer comes
 
-  -- if a node waits for what comes, the run takes it so
-  fetched_on_trace : (m n : ℕ) (x : Node S) (read : SectorRead) → slice_get c.world.nodes n ≡ Some x →
-      x.running ≡ true → Replaying x.role →
-      slice_get c.world.messages m ≡ Some (sent.SectorRead (read_address read) read.number read.bytes) →
-      bytes_refusal M x.machine (drop x.replayed x.held) x.fetched read ≡ None →
-      IsOnTrace M x.machine (drop x.replayed x.held) (Some read.bytes)
-  fetched_on_trace m n x read there up replays message free =
-      go (replayer.wanted M x.machine (drop x.replayed x.held) x.fetched) refl free
-    where
-      go : (w : Option (ℕ × ℕ × ℕ)) → replayer.wanted M x.machine (drop x.replayed x.held) x.fetched ≡ w →
-          replayer.unwanted M x.machine read w ≡ None → IsOnTrace M x.machine (drop x.replayed x.held) (Some read.bytes)
-      go None e u = absurd (cc)
-      go (Some next) e u =
-          let due = is_due (same_address (M.address x.machine next.0 next.1) (read_address read)) (next.2 == read.number) u in
-          let place : M.address x.machine next.0 next.1 ≡ read_address read =
-          same_address-is (M.address x.machine next.0 next.1) (read_address read) due.0 in
-          let number : next.2 ≡ read.number = eqb-true next.2 read.number due.1 in
-          let at = is-at-read (M.count x.machine) next.0 next.1 next.2 (slice_get x.held x.replayed)
-          (ap (read_at (M.count x.machine)) (sym (next_left x.held x.replayed))
-          ∙ next_of x.fetched (read_at (M.count x.machine) (slice_get (drop x.replayed x.held) 0)) next e) in
-          let brings : slice_get c.world.messages m
-          ≡ Some (sent.SectorRead (N.address x.machine next.0 next.1) next.2 read.bytes) =
-          message ∙ ap (λ a. Some (sent.SectorRead a read.number read.bytes)) (sym place)
-          ∙ ap (λ k. Some (sent.SectorRead (M.address x.machine next.0 next.1) k read.bytes)) (sym number) in
-          let y = fetches x read.bytes in
-          let reached : Reached N c.copying (with_node c.world n y) =
-          After h.reached (Fetches n x x.role m next.0 next.1 next.2 read.bytes
-          (record { there = there; up = up; role_is = refl }) replays at brings) in
-          let stands = nodes_stand N c.copying h.machine.lawful h.machine.copies (with_node c.world n y) reached n y
-          (get_set c.world.nodes n x y there) in
-          IsOnTrace-back M c.boot c.sectors x.machine (drop x.replayed x.held) (Some read.bytes) (stands.on_trace replays)
-
-  follows_with : (m n : ℕ) (x : Node S) (role : Role) (reads : Reads) (s : S) (fetched : Option (List ℕ)) (r : Receiving)
-      (read : SectorRead) → slice_get c.world.nodes n ≡ Some x → Replaying role → IsFollower role reads s fetched r x →
-      slice_get c.world.messages m ≡ Some (sent.SectorRead (read_address read) read.number read.bytes) →
-      bytes_refusal M s r.entries fetched read ≡ None → IsOnTrace M s r.entries (Some read.bytes)
-  follows_with m n x role reads s fetched r read there replays is message =
-      let held = drop x.replayed x.held in
-      subst (λ es. bytes_refusal M s es fetched read ≡ None → IsOnTrace M s es (Some read.bytes)) (sym is.left)
-      (subst (λ t. bytes_refusal M t held fetched read ≡ None → IsOnTrace M t held (Some read.bytes)) is.machine
-      (subst (λ come. bytes_refusal M x.machine held come read ≡ None → IsOnTrace M x.machine held (Some read.bytes)) is.come
-      (fetched_on_trace m n x read there is.up (subst (λ q. Replaying q) (sym is.role_is) replays) message)))
-
-  may_fetch : (m n : ℕ) (x : Node S) (node : code.Node B H) (read : SectorRead) → slice_get c.world.nodes n ≡ Some x →
-      IsNode state M c.copying h.drives node x →
-      slice_get c.world.messages m ≡ Some (sent.SectorRead (read_address read) read.number read.bytes) →
-      MayFetch state M node read
-  may_fetch m n x (node.Primary p) read there is message = tt
-  may_fetch m n x (node.Backup b) read there is message =
-      follows_with m n x Backup b.reads (state b.replayer.board) b.replayer.fetched b.receiver read there (inl refl) is message
-  may_fetch m n x (node.Joining j) read there is message = tt
-  may_fetch m n x (node.Draining d) read there is message =
-      follows_with m n x Draining d.reads (state d.draining.replayer.board) d.draining.replayer.fetched d.draining.receiver
-      read there (inr refl) is message
-  may_fetch m n x (node.Alone a) read there is message = tt
-  may_fetch m n x (node.Halted a) read there is message = tt
-
   pub fetched_unknown : (m n : ℕ) → option_and_then sector_of (slice_get old.messages m) ≡ None →
       Applies state copied M records c (event.Fetched m n) (Err Unknown) old
   fetched_unknown m n brings =
@@ -271,13 +197,6 @@ module _ {B H D S : Type 0} (state : B → S) (copied : B → Guest) (M : Machin
           at = at;
           reply = refl;
         }) a
-
-    pub node_may_fetch : (station : Station B H) → slice_get old.hosts n ≡ Some (host.Node station) →
-        MayFetch state M station.node read
-    node_may_fetch station at =
-        let x = agree-other (IsHost state M c.copying h.drives) (slice_get old.hosts n) (slice_get c.world.nodes n)
-        (host.Node station) at (h.parts.hosts n) in
-        may_fetch m n x.0 station.node read x.1 x.2.node message
 
 pub fetches_no_failure : {S : Type 0} (M : Machine S) (w : World S) (n failures : ℕ) (fault : Fault)
     (result : Result Reply Fault) → result ≡ Err fault → AsksNode w n (fetch_refusal M) Never (Wants M) (Err fault) →

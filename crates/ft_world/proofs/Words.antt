@@ -10,7 +10,7 @@ pub use Rattle.event_callbacks.specs.declared.devices.TheConstants.{PORTS}
 pub use Rattle.event_callbacks.specs.declared.operations.Operation.{Operation}
 pub use Rattle.ft_node.specs.Calls.{Ask, Begins, Call, DeliversAcknowledgement, DeliversLog, DrainedBy, Ever, Freshens, Gives, IsLast, IsSpelled, Makes, Never, ReplayedBy, SendsEntry, SpellsPart, SteppedBy, Suspects, SuspectsOf, Unless, part_refusal, reported_by}
 pub use Rattle.ft_node.specs.Roles.{AreOfOutstanding, IsFollower, node_count}
-pub use Rattle.ft_node.specs.AnyNode.{AreFreshened, IsNode, IsRole, MayAccept, MayFetch, MayHold, MayReplay, MayRun, PagesStay, alone_board, board_of}
+pub use Rattle.ft_node.specs.AnyNode.{AreFreshened, IsNode, IsRole, MayAccept, MayHold, MayReplay, MayRun, PagesStay, alone_board, board_of}
 pub use Rattle.guest_lockstep.specs.Machine.{Do, Machine, Move, Runs, Take, booted_from}
 pub use Rattle.guest_lockstep.specs.Reach.{keys, operations, timed}
 pub use Rattle.guest_lockstep.specs.declared.input.Input.{Input}

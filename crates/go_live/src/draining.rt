@@ -6,6 +6,7 @@ ghost use Rattle.disk_dcdd.specs.declared.sector.TheConstants.{SECTORS};
 ghost use Rattle.i8080_words.specs.declared.refusal.Fault.TheVariants.{WrongRole};
 ghost use Rattle.log_entry.specs.Entries.{last_count};
 ghost use Rattle.log_entry.specs.Standing.{IsOnTrace};
+ghost use Rattle.replayer.specs.Checking as checking;
 ghost use Rattle.replayer.specs.Replaying as table;
 ghost use Rattle.replayer.specs.Standing.{StaysOnEach};
 
@@ -46,21 +47,25 @@ impl<B: Lockstep> Draining<B> {
         &self.receiver
     }
 
-    /// Makes at most `turns` moves, each of them a step or an entry. Makes fewer only if no entry is held any longer, the
-    /// next one is a read whose bytes have not arrived, or a step runs out of memory; `OutOfMemory` is returned only if
-    /// no move was made.
+    /// Makes at most `turns` moves, each of them a step or an entry, as the replayer's `replay`.
     pub fn drain(&mut self, turns: u64) -> R<Replayed>
-        requires on_trace { IsOnTrace B.machine (B.state self.old.replayer.board) self.old.receiver.entries
-            self.old.replayer.fetched }
-        ensures answers { table.Answers B.machine (B.state self.old.replayer.board) self.old.receiver.entries
+        ensures answers { checking.AnswersAny B.machine (B.state self.old.replayer.board) self.old.receiver.entries
+            self.old.replayer.fetched turns result (B.state self.new.replayer.board) self.new.receiver.entries
+            self.new.replayer.fetched }
+        ensures exactly { IsOnTrace B.machine (B.state self.old.replayer.board) self.old.receiver.entries
+            self.old.replayer.fetched
+            → table.Answers B.machine (B.state self.old.replayer.board) self.old.receiver.entries
             self.old.replayer.fetched turns result (B.state self.new.replayer.board) self.new.receiver.entries
             self.new.replayer.fetched }
         ensures stays { StaysOnEach B.machine (B.state self.old.replayer.board) self.old.receiver.entries
             self.old.replayer.fetched (B.state self.new.replayer.board) self.new.receiver.entries
             self.new.replayer.fetched }
-        ensures on_trace { IsOnTrace B.machine (B.state self.new.replayer.board) self.new.receiver.entries
-            self.new.replayer.fetched }
-        ensures below { B.machine.count (B.state self.new.replayer.board)
+        ensures on_trace { IsOnTrace B.machine (B.state self.old.replayer.board) self.old.receiver.entries
+            self.old.replayer.fetched
+            → IsOnTrace B.machine (B.state self.new.replayer.board) self.new.receiver.entries self.new.replayer.fetched }
+        ensures below { IsOnTrace B.machine (B.state self.old.replayer.board) self.old.receiver.entries
+            self.old.replayer.fetched
+            → B.machine.count (B.state self.new.replayer.board)
             ≤ last_count (B.machine.count (B.state self.old.replayer.board)) self.old.receiver.entries }
         ensures held { self.new.receiver ≡ record self.old.receiver { entries = self.new.receiver.entries } }
         ensures unchanged { OnErr result (self.new ≡ self.old) }
@@ -79,15 +84,10 @@ impl<B: Lockstep> Draining<B> {
 
     /// Keeps the bytes of the sector that it waits for, as the replayer's `bytes`.
     pub fn bytes(&mut self, read: &SectorRead) -> R<()>
-        requires on_trace { table.bytes_refusal B.machine (B.state self.old.replayer.board) self.old.receiver.entries
-            self.old.replayer.fetched read.now ≡ None → IsOnTrace B.machine (B.state self.old.replayer.board)
-            self.old.receiver.entries (Some read.now.bytes) }
         ensures answer { result ≡ answered (table.bytes_refusal B.machine (B.state self.old.replayer.board)
             self.old.receiver.entries self.old.replayer.fetched read.now) }
         ensures kept { OnOk result (self.new
             ≡ record self.old { replayer = record self.old.replayer { fetched = Some read.now.bytes } }) }
-        ensures on_trace { OnOk result (IsOnTrace B.machine (B.state self.new.replayer.board)
-            self.new.receiver.entries self.new.replayer.fetched) }
         ensures unchanged { OnErr result (self.new ≡ self.old) }
     {
         self.replayer.bytes(&self.receiver, read)

@@ -4,4 +4,4 @@ use Rattle.output_rule.specs.declared.notes.TheConstants.{PLACES}
 
 -- sixteen bytes of each of two ports and eight writes may have notes
 pub record Limits : Type 0 where
-  pub places : PLACES ≡ 2 * 16 + 8
+  pub places : PLACES ≡ 2 * 16 + 8 + 1

@@ -1,5 +1,5 @@
 //! Which operations may be released, and how many keys the backup is known to have.
-ghost use Rattle.std.specs.Prelude.{◌≡◌, ◌<◌, ◌≤◌, ℕ, length, slice_index, None};
+ghost use Rattle.std.specs.Prelude.{◌≡◌, ◌<◌, ◌≤◌, ◌↔◌, ℕ, IsTrue, length, slice_index, None};
 ghost use Rattle.i8080_words.specs.declared.limits.TheConstants.{GREATEST_NUMBER};
 ghost use Rattle.event_callbacks.specs.Operations.{id_of};
 ghost use Rattle.event_callbacks.specs.declared.devices.TheConstants.{PORTS};
@@ -64,6 +64,13 @@ impl Coverage {
     {
         let after = self.waits_for(id);
         self.notes.push(Note { id, index, after });
+    }
+
+    /// Whether there is room for one more note.
+    pub fn has_room(&self) -> bool
+        ensures { IsTrue result ↔ length self.now.notes < PLACES }
+    {
+        self.notes.len() < PLACES
     }
 
     /// Notes that the log entry `index` is a sector that the backup reads from the shared disk.

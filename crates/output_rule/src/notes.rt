@@ -5,8 +5,8 @@ ghost use Rattle.output_rule.specs.Notes as table;
 use arrayvec::ArrayVec;
 use event_callbacks::OpId;
 
-/// The most operations that have notes: sixteen bytes of each port, and eight writes.
-pub const PLACES: usize = 40;
+/// The most operations that have notes: sixteen bytes of each port, eight writes, and the one that the next step may give.
+pub const PLACES: usize = 41;
 
 /// The name of an operation, the index of its mark in the log, and how many entries the backup must have replayed.
 #[derive(Clone, Copy)]

@@ -1,26 +1,27 @@
 -- What the first entry that is held allows. If it is at a later count, a step can be executed, and is refused only when
 -- out of memory; it is never at an earlier one; if it is at the machine's count, its input, if it has one, is accepted,
 -- and it is popped with that move. The input of a read is the sector with the bytes that have arrived.
-use Rattle.std.proofs.Common.{◌≡◌, ℕ, ◌<◌, ◌≤◌, Bool, true, false, List, [], ◌∷◌, ◌++◌, Option, Some, None, Ok, Err, refl, sym, ap, subst, ◌∙◌, arith, drop, slice_get, cond, is_none, length, eq-eqb}
+use Rattle.std.proofs.Common.{◌≡◌, ℕ, ◌<◌, ◌≤◌, Bool, true, false, List, [], ◌∷◌, ◌++◌, Option, Some, None, refl, sym, ap, subst, ◌∙◌, arith, drop, slice_get, cond, is_none, is_some, length, eq-eqb, inl, inr, option_map}
 use Rattle.std.specs.Prelude.{◌==◌}
+use Rattle.std.proofs.lemmas.Bool.Decides.{leb_tells}
 use Rattle.std.proofs.lemmas.Option.{same_Some}
 use Rattle.event_callbacks.specs.declared.operations.Operation.{Operation}
-use Rattle.guest_lockstep.specs.Lockstep.{Takes, step_refusal}
+use Rattle.guest_lockstep.specs.Lockstep.{step_refusal}
 use Rattle.guest_lockstep.specs.Machine.{Machine}
 use Rattle.guest_lockstep.specs.Recorded.{Counts, Accepts}
 use Rattle.guest_lockstep.specs.declared.input.Input.{Input}
 use Rattle.guest_lockstep.specs.declared.input.Input.TheVariants.{Sector}
 use Rattle.guest_lockstep.specs.declared.replay_end.ReplayEnd.TheVariants.{End, Wait}
-use Rattle.i8080_words.specs.declared.refusal.Fault.{Fault}
 use Rattle.i8080_words.specs.declared.refusal.Fault.TheVariants.{Spent, Idle}
 use Rattle.log_entry.specs.Entries.{count_of, entries, input_of, bare_of, read_of}
 use Rattle.log_entry.specs.Standing.{owed, IsOnTrace, TakesFetched}
 use Rattle.log_entry.specs.declared.entry.Entry.{Entry}
 use Rattle.log_entry.specs.declared.entry.Entry.TheVariants as entry
 use Rattle.log_channel.proofs.SentEntries.{first_and_rest}
-use Rattle.replayer.specs.Replaying.{Moves, Passes, TakesInput, ReadsSector, Replays, input_with, read_at, wanted, wanted_of, stop_at}
+use Rattle.replayer.specs.Checking.{IsStuck, bytes_after}
+use Rattle.replayer.specs.Replaying.{Moves, Steps, Passes, TakesInput, ReadsSector, Replays, input_with, read_at, wanted, wanted_of, stop_at}
 use Rattle.replayer.specs.Standing.{StaysOn}
-use Rattle.replayer.proofs.Fronts.{not_behind, NextDoes, next_does, NextTakes, next_takes, next_reads, none_for, input_not_read}
+use Rattle.replayer.proofs.Fronts.{not_behind, NextDoes, next_does, NextTakes, next_takes, next_reads}
 use Rattle.replayer.proofs.Standing.{stays_on}
 
 -- moves by the entries that are held keep to the run
@@ -133,40 +134,33 @@ may_take M s held fetched e input on first no_later has = go (gives fetched e in
         (first_takes M s held fetched e on first))) in
         record { t = next.t; accepts = subst (λ i. Accepts M s i next.t) (sym takes) next.accepts }
 
-pub no_refusal : {S : Type 0} (M : Machine S) (s t : S) (input : Input) (fault : Fault) → MayTake M s input
-    → Takes M s input (Err fault) t → ⊥
-no_refusal M s t input fault may did = let none = may.accepts.allowed in let some = did.0 in cc
+-- an entry that carries its input is no read
+no_read : (e : Entry) (input : Input) → input_of e ≡ Some input → is_some (read_of e) ≡ false
+no_read (entry.Mark count) input has = refl
+no_read (entry.Rx count port byte) input has = refl
+no_read (entry.Sent count port) input has = refl
+no_read (entry.Sector count drive sector number bytes) input has = refl
+no_read (entry.Written count number) input has = refl
+no_read (entry.Read count drive sector number) input has = absurd cc
 
--- after an entry with an input no bytes are kept
+-- an entry whose input is accepted is popped, and of bytes those of a read are no longer kept
 pub takes : {S : Type 0} (M : Machine S) (s t : S) (held left : List Entry) (fetched still : Option (List ℕ))
-    (e : Entry)
-    (input : Input) → IsOnTrace M s held fetched → slice_get held 0 ≡ Some e → (M.count s < count_of e → ⊥)
-    → input_with fetched e ≡ Some input → Takes M s input (Ok tt) t → left ≡ drop 1 held → still ≡ None
+    (e : Entry) (input : Input) → slice_get held 0 ≡ Some e → M.count s ≡ count_of e
+    → input_with fetched e ≡ Some input → Accepts M s input t → left ≡ drop 1 held → still ≡ bytes_after fetched e
     → Moves M s held fetched t left still
-takes {S} M s t held left fetched still e input on first no_later has did popped none =
-    subst (λ still. Moves M s held fetched t left still) (sym none)
-    (subst (λ left. Moves M s held fetched t left None) (sym popped) (go (gives fetched e input has)))
+takes {S} M s t held left fetched still e input first at has accepts popped kept =
+    subst (λ still. Moves M s held fetched t left still) (sym kept)
+    (subst (λ left. Moves M s held fetched t left (bytes_after fetched e)) (sym popped) (go (gives fetched e input has)))
   where
-    may : MayTake M s input
-    may = may_take M s held fetched e input on first no_later has
-
-    accepts : Accepts M s input t
-    accepts =
-        record { is_input = may.accepts.is_input; room = may.accepts.room; allowed = did.0; taken = did.1 }
-
-    at : M.count s ≡ count_of e
-    at = stands_at M s held fetched e on first no_later
-
-    go : Gives fetched e input → Moves M s held fetched t (drop 1 held) None
+    go : Gives fetched e input → Moves M s held fetched t (drop 1 held) (bytes_after fetched e)
     go (Carries carried) =
-        let no_bytes : fetched ≡ None =
-        none_for e (drop 1 held) fetched on.moves (input_not_read e input carried)
-        (first_takes M s held fetched e on first) in
-        subst (λ f. Moves M s held fetched t (drop 1 held) f) no_bytes
+        subst (λ b. Moves M s held fetched t (drop 1 held) (cond b None fetched)) (sym (no_read e input carried))
         (TakesInput (first_and_rest held e first) at carried accepts)
-    go (ReadsIt is come sector_is) =
-        ReadsSector (first_and_rest held e first ∙ ap (λ e. e ∷ drop 1 held) is) (at ∙ ap count_of is) come
-        (subst (λ i. Accepts M s i t) sector_is accepts)
+    go (ReadsIt is come takes) =
+        subst (λ b. Moves M s held fetched t (drop 1 held) (cond b None fetched))
+        (sym (ap (λ e. is_some (read_of e)) is))
+        (ReadsSector (first_and_rest held e first ∙ ap (λ e. e ∷ drop 1 held) is) (at ∙ ap count_of is) come
+        (subst (λ i. Accepts M s i t) takes accepts))
 
 -- ---- a mark
 
@@ -204,10 +198,107 @@ no_input None (entry.Read count drive sector number) none ready = absurd cc
 no_input (Some bytes) (entry.Read count drive sector number) none ready = absurd cc
 
 pub passes : {S : Type 0} (M : Machine S) (s : S) (held left : List Entry) (fetched : Option (List ℕ)) (e : Entry)
-    → IsOnTrace M s held fetched → slice_get held 0 ≡ Some e → (M.count s < count_of e → ⊥)
-    → input_with fetched e ≡ None → stop_at M s held fetched ≡ None → left ≡ drop 1 held
-    → Moves M s held fetched s left fetched
-passes M s held left fetched e on first no_later none ready popped =
-    let at = stands_at M s held fetched e on first no_later in
+    → slice_get held 0 ≡ Some e → M.count s ≡ count_of e → input_with fetched e ≡ None
+    → stop_at M s held fetched ≡ None → left ≡ drop 1 held → Moves M s held fetched s left fetched
+passes M s held left fetched e first at none ready popped =
     subst (λ left. Moves M s held fetched s left fetched) (sym popped)
     (Passes (first_and_rest held e first) at (no_input fetched e none (not_waiting M s held fetched e first at ready)))
+
+-- ---- entries that do not fit
+
+same_front : (held es : List Entry) (e f : Entry) → held ≡ f ∷ es → slice_get held 0 ≡ Some e → f ≡ e
+same_front held es e f are first =
+    let both : Some f ≡ Some e = sym (ap (λ (h : List Entry). slice_get h 0) are) ∙ first in cc
+
+carried_with : (fetched : Option (List ℕ)) (e : Entry) (input : Input) → input_of e ≡ Some input
+    → input_with fetched e ≡ Some input
+carried_with fetched (entry.Mark count) input has = absurd cc
+carried_with fetched (entry.Rx count port byte) input has = has
+carried_with fetched (entry.Sent count port) input has = has
+carried_with fetched (entry.Sector count drive sector number bytes) input has = has
+carried_with fetched (entry.Written count number) input has = has
+carried_with fetched (entry.Read count drive sector number) input has = absurd cc
+
+mark_has_none : (fetched : Option (List ℕ)) (e : Entry) → bare_of e ≡ None → input_with fetched e ≡ None
+mark_has_none fetched (entry.Mark count) bare = refl
+mark_has_none fetched (entry.Rx count port byte) bare = absurd cc
+mark_has_none fetched (entry.Sent count port) bare = absurd cc
+mark_has_none fetched (entry.Sector count drive sector number bytes) bare = absurd cc
+mark_has_none fetched (entry.Written count number) bare = absurd cc
+mark_has_none fetched (entry.Read count drive sector number) bare = absurd cc
+
+-- the first entry allows neither a step nor a move at its count
+stuck_at : {S : Type 0} (M : Machine S) (s : S) (held : List Entry) (fetched : Option (List ℕ)) (e : Entry)
+    → stop_at M s held fetched ≡ None → slice_get held 0 ≡ Some e
+    → (M.count s < count_of e → (t : S) (gives : Option Operation) → M.step s ≡ Some (t, gives) → ⊥)
+    → (M.count s ≡ count_of e → (bare_of e ≡ None → ⊥)
+    × ((input : Input) (t : S) → input_with fetched e ≡ Some input → Accepts M s input t → ⊥))
+    → IsStuck M s held fetched
+stuck_at {S} M s held fetched e ready first no_step no_entry = record { ready = ready; no_move = none }
+  where
+    none : (t : S) (left : List Entry) (still : Option (List ℕ)) → Moves M s held fetched t left still → ⊥
+    none t left still (Steps {gives = gives} {e = f} {es = es} are later made) =
+        let same : f ≡ e = same_front held es e f are first in
+        no_step (subst (λ f. M.count s < count_of f) same later) t gives made
+    none t left still (Passes {e = f} {es = es} are here bare) =
+        let same : f ≡ e = same_front held es e f are first in
+        (no_entry (here ∙ ap count_of same)).0 (ap bare_of (sym same) ∙ bare)
+    none t left still (TakesInput {e = f} {es = es} {input = input} are here has accepts) =
+        let same : f ≡ e = same_front held es e f are first in
+        (no_entry (here ∙ ap count_of same)).1 input t
+        (carried_with fetched e input (ap input_of (sym same) ∙ has)) accepts
+    none t left still (ReadsSector {count = count} {drive = drive} {sector = sector} {number = number} {bytes = bytes} {es = es} are here come accepts) =
+        let read = entry.Read count drive sector number in
+        let same : read ≡ e = same_front held es e read are first in
+        (no_entry (here ∙ ap count_of same)).1 (Sector drive sector number bytes) t
+        (ap (input_with fetched) (sym same) ∙ ap (λ f. option_map (Sector drive sector number) f) come) accepts
+
+-- its count is past
+pub is_past : {S : Type 0} (M : Machine S) (s : S) (held : List Entry) (fetched : Option (List ℕ)) (e : Entry)
+    → stop_at M s held fetched ≡ None → slice_get held 0 ≡ Some e → count_of e < M.count s → IsStuck M s held fetched
+is_past M s held fetched e ready first past =
+    stuck_at M s held fetched e ready first (λ later t gives made. absurd (omega arith)) (λ at. absurd (omega arith))
+
+-- the machine makes no step toward it
+pub no_step_toward : {S : Type 0} (M : Machine S) (s : S) (held : List Entry) (fetched : Option (List ℕ)) (e : Entry)
+    → stop_at M s held fetched ≡ None → slice_get held 0 ≡ Some e → M.count s < count_of e → M.step s ≡ None
+    → IsStuck M s held fetched
+no_step_toward {S} M s held fetched e ready first later no_step =
+    stuck_at M s held fetched e ready first none (λ at. absurd (omega arith))
+  where
+    none : M.count s < count_of e → (t : S) (gives : Option Operation) → M.step s ≡ Some (t, gives) → ⊥
+    none l t gives made = let no : None ≡ Some (t, gives) = sym no_step ∙ made in cc
+
+-- its input is not accepted
+pub not_accepted : {S : Type 0} (M : Machine S) (s : S) (held : List Entry) (fetched : Option (List ℕ)) (e : Entry)
+    (input : Input) → stop_at M s held fetched ≡ None → slice_get held 0 ≡ Some e → M.count s ≡ count_of e
+    → input_with fetched e ≡ Some input → ((t : S) → Accepts M s input t → ⊥) → IsStuck M s held fetched
+not_accepted {S} M s held fetched e input ready first at has refused =
+    stuck_at M s held fetched e ready first (λ later t gives made. absurd (omega arith)) (λ here. (
+      λ bare. let no : None ≡ Some input = sym (mark_has_none fetched e bare) ∙ has in cc,
+      λ other t gives accepts. refused t
+          (subst (λ i. Accepts M s i t) (same_Some other input (sym gives ∙ has)) accepts),
+    ))
+
+-- the entries of a recorded run fit
+pub runs_fit : {S : Type 0} (M : Machine S) (s : S) (held : List Entry) (fetched : Option (List ℕ)) → Counts M
+    → IsOnTrace M s held fetched → IsStuck M s held fetched → ⊥
+runs_fit M s [] fetched counts on stuck = not_empty M s [] fetched stuck.ready refl
+runs_fit {S} M s (e ∷ es) fetched counts on stuck = elim (leb_tells (count_of e) (M.count s)) [
+  | inl p ↦ at_it (let le = p.1 in let before = not_before M s (e ∷ es) fetched e on refl in omega arith)
+  | inr p ↦
+      let may : MayStep M s = may_step M s (e ∷ es) fetched e counts on refl p.1 in
+      stuck.no_move may.t (e ∷ es) fetched (Steps refl p.1 may.made)
+]
+  where
+    at_it : M.count s ≡ count_of e → ⊥
+    at_it at = go (input_with fetched e) refl
+      where
+        go : (o : Option Input) → input_with fetched e ≡ o → ⊥
+        go None none =
+            stuck.no_move s es fetched (passes M s (e ∷ es) es fetched e refl at none stuck.ready refl)
+        go (Some input) has =
+            let may : MayTake M s input =
+            may_take M s (e ∷ es) fetched e input on refl (λ later. omega arith) has in
+            stuck.no_move may.t es (bytes_after fetched e)
+            (takes M s may.t (e ∷ es) es fetched (bytes_after fetched e) e input refl at has may.accepts refl refl)

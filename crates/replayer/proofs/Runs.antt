@@ -11,14 +11,16 @@ use Rattle.guest_lockstep.specs.Recorded.{Counts}
 use Rattle.guest_lockstep.specs.declared.replay_end.ReplayEnd.{ReplayEnd}
 use Rattle.guest_lockstep.specs.declared.replay_end.ReplayEnd.TheVariants.{Turns, End, Wait, Memory}
 use Rattle.i8080_words.specs.declared.refusal.Fault.{Fault}
+use Rattle.i8080_words.specs.declared.refusal.Fault.TheVariants.{OutOfMemory}
 use Rattle.log_entry.specs.Entries.{count_of, last_count, read_of}
 use Rattle.log_entry.specs.Standing.{IsOnTrace}
 use Rattle.log_entry.specs.declared.entry.Entry.{Entry}
-use Rattle.replayer.specs.Replaying.{Replays, NoMoves, Then, IsBehind, Ends, AllTurns, AtEnd, Waits, NeedsMemory, Answers, AnswersStretch, wanted, wanted_of, stop_at, replay_end}
+use Rattle.replayer.specs.Checking.{AnswersAny, AnswersStretch, ComesToFit, InAll, SoFar, Refuses, NoMemory, FitsNowhere, why_after}
+use Rattle.replayer.specs.Replaying.{Replays, NoMoves, Then, IsBehind, Ends, AllTurns, AtEnd, Waits, NeedsMemory, Came, Answers, wanted, wanted_of, stop_at, replay_end}
 use Rattle.replayer.specs.Standing.{StaysOnEach}
 use Rattle.replayer.specs.declared.replayer.Replayed.{Replayed}
 use Rattle.replayer.proofs.Below.{stays_below}
-use Rattle.replayer.proofs.OneMove.{still_on}
+use Rattle.replayer.proofs.OneMove.{runs_fit, still_on}
 use Rattle.replayer.proofs.Standing.{stays_on}
 
 pub goes_on : {S : Type 0} (M : Machine S) (s t : S) (held now : List Entry) (fetched come : Option (List ℕ)) (n : ℕ)
@@ -44,11 +46,12 @@ nothing_more M s t u held left now fetched still come n same_state same_left sam
 
 -- what an answer says was replayed
 pub replayed : {S : Type 0} (M : Machine S) (s t : S) (held left : List Entry) (fetched still : Option (List ℕ))
-    (turns : ℕ) (r : Result Replayed Fault) → Answers M s held fetched turns r t left still
+    (turns : ℕ) (r : Result Replayed Fault) → AnswersAny M s held fetched turns r t left still
     → (n : ℕ) × Replays M s held fetched n t left still
-replayed M s t held left fetched still turns (Ok r) a = (r.moves, a.replays)
+replayed M s t held left fetched still turns (Ok r) (InAll came) = (r.moves, came.replays)
+replayed M s t held left fetched still turns (Ok r) (SoFar lt came stuck) = (r.moves, came.replays)
 replayed M s t held left fetched still turns (Err fault) a =
-    (0, nothing_more M s s t held held left fetched fetched still 0 a.3 a.4 a.5 NoMoves)
+    (0, nothing_more M s s t held held left fetched fetched still 0 a.2 a.3 a.4 NoMoves)
 
 -- nothing was done if no move was made
 pub nothing_done : {S : Type 0} (M : Machine S) (s : S) (held : List Entry) (fetched : Option (List ℕ)) (t : S)
@@ -73,13 +76,13 @@ word false false other why e = sym (same_Some Wait why e)
 pub at_stop : {S : Type 0} (M : Machine S) (s t : S) (held left : List Entry) (fetched still : Option (List ℕ))
     (turns n : ℕ) (why : ReplayEnd) → n < turns → Replays M s held fetched n t left still
     → stop_at M t left still ≡ Some why
-    → Answers M s held fetched turns (Ok (record { moves = n; why = why })) t left still
-at_stop {S} M s t held left fetched still turns n why lt before stop = record {
+    → AnswersAny M s held fetched turns (Ok (record { moves = n; why = why })) t left still
+at_stop {S} M s t held left fetched still turns n why lt before stop = InAll (record {
   replays = before;
   ends = ends (length left == 0) (is_none (wanted M t left still)) refl refl stop;
   why =
       word (length left == 0) (is_none (wanted M t left still)) (cond (n == turns) Turns Memory) why stop;
-}
+})
   where
     ends : (empty none : Bool) → (length left == 0) ≡ empty → is_none (wanted M t left still) ≡ none
         → cond empty (Some End) (cond none None (Some Wait)) ≡ Some why → Ends M turns n t left still
@@ -94,18 +97,24 @@ behind_still : {S : Type 0} (M : Machine S) (v t : S) (now left : List Entry) �
 behind_still M v t now left same_state same_left behind =
     subst (λ t. IsBehind M t left) (sym same_state) (subst (λ l. IsBehind M v l) (sym same_left) behind)
 
+same_refusal : {S : Type 0} (M : Machine S) (v t : S) (now left : List Entry) (come still : Option (List ℕ))
+    (fault : Fault) → t ≡ v → left ≡ now → still ≡ come → Refuses M v now come fault → Refuses M t left still fault
+same_refusal M v t now left come still fault same_state same_left same_bytes why =
+    subst (λ t. Refuses M t left still fault) (sym same_state)
+    (subst (λ l. Refuses M v l still fault) (sym same_left)
+    (subst (λ f. Refuses M v now f fault) (sym same_bytes) why))
+
 pub refused : {S : Type 0} (M : Machine S) (s v t : S) (held now left : List Entry)
     (fetched come still : Option (List ℕ)) (turns most n : ℕ) (fault : Fault) → n < turns → n ≡ 0
     → Replays M s held fetched n v now come → AnswersStretch M v now come most (Err fault) t left still
-    → Answers M s held fetched turns (Err fault) t left still
+    → AnswersAny M s held fetched turns (Err fault) t left still
 refused M s v t held now left fetched come still turns most n fault lt none before a =
     let here : (v ≡ s) × (now ≡ held) × (come ≡ fetched) = nothing_done M s held fetched v now come n none before in (
-      a.0,
       omega arith,
-      behind_still M v s now held (sym here.0) (sym here.1) a.1,
-      a.2 ∙ here.0,
-      a.3 ∙ here.1,
-      a.4 ∙ here.2,
+      same_refusal M v s now held come fetched fault (sym here.0) (sym here.1) (sym here.2) a.0,
+      a.1 ∙ here.0,
+      a.2 ∙ here.1,
+      a.3 ∙ here.2,
     )
 
 less_not_same : (a b : ℕ) → a < b → (a == b) ≡ false
@@ -138,18 +147,6 @@ memory M t left still turns n lt behind =
     ∙ ap (λ w. cond (is_none w) (cond (n == turns) Turns Memory) Wait) (behind_waits_not M t left still behind)
     ∙ ap (λ b. cond b Turns Memory) (less_not_same n turns lt))
 
-pub stopped : {S : Type 0} (M : Machine S) (s v t : S) (held now left : List Entry)
-    (fetched come still : Option (List ℕ)) (turns most n : ℕ) (fault : Fault) → n < turns → 0 < n
-    → Replays M s held fetched n v now come → AnswersStretch M v now come most (Err fault) t left still
-    → Answers M s held fetched turns (Ok (record { moves = n; why = Memory })) t left still
-stopped M s v t held now left fetched come still turns most n fault lt some before a =
-    let behind : IsBehind M t left = behind_still M v t now left a.2 a.3 a.1 in
-    record {
-      replays = nothing_more M s v t held now left fetched come still n a.2 a.3 a.4 before;
-      ends = NeedsMemory some lt behind;
-      why = memory M t left still turns n lt behind;
-    }
-
 -- ---- all turns
 
 all_made : (empty none all : Bool) → all ≡ true
@@ -159,11 +156,11 @@ all_made true none all e = refl
 all_made false true all e = ap (λ b. cond b Turns Memory) (sym e)
 all_made false false all e = refl
 
-pub all_turns : {S : Type 0} (M : Machine S) (s t : S) (held left : List Entry) (fetched still : Option (List ℕ))
+came_all : {S : Type 0} (M : Machine S) (s t : S) (held left : List Entry) (fetched still : Option (List ℕ))
     (turns n : ℕ) (why : ReplayEnd) → n ≡ turns → Replays M s held fetched n t left still
     → why ≡ unwrap_or (stop_at M t left still) Turns
-    → Answers M s held fetched turns (Ok (record { moves = n; why = why })) t left still
-all_turns M s t held left fetched still turns n why all before is = record {
+    → Came M s held fetched turns (record { moves = n; why = why }) t left still
+came_all M s t held left fetched still turns n why all before is = record {
   replays = before;
   ends = subst (λ n. Ends M turns n t left still) (sym all) AllTurns;
   why =
@@ -171,24 +168,76 @@ all_turns M s t held left fetched still turns n why all before is = record {
       ∙ all_made (length left == 0) (is_none (wanted M t left still)) (n == turns) (eq-eqb n turns all);
 }
 
+pub all_turns : {S : Type 0} (M : Machine S) (s t : S) (held left : List Entry) (fetched still : Option (List ℕ))
+    (turns n : ℕ) (why : ReplayEnd) → n ≡ turns → Replays M s held fetched n t left still
+    → why ≡ unwrap_or (stop_at M t left still) Turns
+    → AnswersAny M s held fetched turns (Ok (record { moves = n; why = why })) t left still
+all_turns M s t held left fetched still turns n why all before is =
+    InAll (came_all M s t held left fetched still turns n why all before is)
+
+-- ---- a stretch is refused after some moves
+
+-- a replay of as many turns as it made moves, which ended where the entries fit no longer
+so_far : {S : Type 0} (M : Machine S) (s t : S) (held left : List Entry) (fetched still : Option (List ℕ)) (n : ℕ)
+    → Replays M s held fetched n t left still → stop_at M t left still ≡ None
+    → Came M s held fetched n (record { moves = n; why = Turns }) t left still
+so_far M s t held left fetched still n before ready =
+    came_all M s t held left fetched still n n Turns refl before
+    (sym (ap (λ stop. unwrap_or stop Turns) ready))
+
+pub stopped : {S : Type 0} (M : Machine S) (s v t : S) (held now left : List Entry)
+    (fetched come still : Option (List ℕ)) (turns most n : ℕ) (fault : Fault) → n < turns → 0 < n
+    → Replays M s held fetched n v now come → AnswersStretch M v now come most (Err fault) t left still
+    → AnswersAny M s held fetched turns (Ok (record { moves = n; why = why_after fault })) t left still
+stopped {S} M s v t held now left fetched come still turns most n fault lt some before a =
+    go fault (same_refusal M v t now left come still fault a.1 a.2 a.3 a.0)
+  where
+    here : Replays M s held fetched n t left still
+    here = nothing_more M s v t held now left fetched come still n a.1 a.2 a.3 before
+
+    go : (fault : Fault) → Refuses M t left still fault
+        → ComesToFit M s held fetched turns (record { moves = n; why = why_after fault }) t left still
+    go fault (NoMemory behind) = InAll (record {
+      replays = here;
+      ends = NeedsMemory some lt behind;
+      why = memory M t left still turns n lt behind;
+    })
+    go fault (FitsNowhere stuck) = SoFar lt (so_far M s t held left fetched still n here stuck.ready) stuck
+
+-- ---- over the entries of a recorded run
+
+pub exactly : {S : Type 0} (M : Machine S) (s t : S) (held left : List Entry) (fetched still : Option (List ℕ))
+    (turns : ℕ) (r : Result Replayed Fault) → Counts M → IsOnTrace M s held fetched
+    → AnswersAny M s held fetched turns r t left still → Answers M s held fetched turns r t left still
+exactly M s t held left fetched still turns (Ok r) counts on (InAll came) = came
+exactly M s t held left fetched still turns (Ok r) counts on (SoFar lt came stuck) =
+    absurd (runs_fit M t left still counts
+    (still_on M s t held left fetched still r.moves counts on came.replays) stuck)
+exactly {S} M s t held left fetched still turns (Err fault) counts on a =
+    let why = go fault a.1 in (why.0, a.0, why.1, a.2, a.3, a.4)
+  where
+    go : (fault : Fault) → Refuses M s held fetched fault → (fault ≡ OutOfMemory) × IsBehind M s held
+    go fault (NoMemory behind) = (refl, behind)
+    go fault (FitsNowhere stuck) = absurd (runs_fit M s held fetched counts on stuck)
+
 -- ---- what holds after a replay, whatever it returns
 
 pub stays_on_each : {S : Type 0} (M : Machine S) (s t : S) (held left : List Entry) (fetched still : Option (List ℕ))
-    (turns : ℕ) (r : Result Replayed Fault) → Counts M → Answers M s held fetched turns r t left still
+    (turns : ℕ) (r : Result Replayed Fault) → Counts M → AnswersAny M s held fetched turns r t left still
     → StaysOnEach M s held fetched t left still
 stays_on_each M s t held left fetched still turns r counts a = λ reads owes moves last stands.
     let before = replayed M s t held left fetched still turns r a in
     stays_on M reads s held fetched t last left still before.0 owes moves counts before.1 stands
 
 pub still_on_trace : {S : Type 0} (M : Machine S) (s t : S) (held left : List Entry) (fetched still : Option (List ℕ))
-    (turns : ℕ) (r : Result Replayed Fault) → Counts M → Answers M s held fetched turns r t left still
+    (turns : ℕ) (r : Result Replayed Fault) → Counts M → AnswersAny M s held fetched turns r t left still
     → IsOnTrace M s held fetched → IsOnTrace M t left still
 still_on_trace M s t held left fetched still turns r counts a on =
     let before = replayed M s t held left fetched still turns r a in
     still_on M s t held left fetched still before.0 counts on before.1
 
 pub below_last : {S : Type 0} (M : Machine S) (s t : S) (held left : List Entry) (fetched still : Option (List ℕ))
-    (turns : ℕ) (r : Result Replayed Fault) → Counts M → Answers M s held fetched turns r t left still
+    (turns : ℕ) (r : Result Replayed Fault) → Counts M → AnswersAny M s held fetched turns r t left still
     → IsOnTrace M s held fetched → M.count t ≤ last_count (M.count s) held
 below_last M s t held left fetched still turns r counts a on =
     let before = replayed M s t held left fetched still turns r a in

@@ -1,7 +1,7 @@
 -- What a stretch of moves meets. Each step that the machine executes by itself raises its count by one; so as many of
--- them as the first entry is ahead all begin below its count, and each is a move by the entries. The first of them can
--- be executed, so it is refused only when out of memory; and an entry at the machine's count is a stretch of one move.
-use Rattle.std.proofs.Common.{◌≡◌, ℕ, ◌+◌, ◌<◌, ◌≤◌, List, ◌∷◌, drop, slice_get, Option, Some, Ok, Err, refl, sym, ap, subst, ◌∙◌, arith}
+-- them as the first entry is ahead all begin below its count, and each is a move by the entries. If the first of them is
+-- refused, it ran out of memory, or the entries do not fit; an entry at the machine's count is a stretch of one move.
+use Rattle.std.proofs.Common.{◌≡◌, ℕ, ◌+◌, ◌<◌, ◌≤◌, true, false, cond, is_none, List, ◌∷◌, drop, slice_get, Option, Some, None, Ok, Err, refl, sym, ap, subst, ◌∙◌, arith}
 use Rattle.guest_lockstep.proofs.QuietSteps.{none_made, quiet_count}
 use Rattle.guest_lockstep.specs.Lockstep.{step_refusal}
 use Rattle.guest_lockstep.specs.Machine.{Machine}
@@ -9,13 +9,15 @@ use Rattle.guest_lockstep.specs.Recorded.{Counts}
 use Rattle.guest_lockstep.specs.Running.{Quiet, Begin, More, RunsOn, AllTurns, Gives, IsRefused, fault_of}
 use Rattle.guest_lockstep.specs.declared.running.StopReason.TheVariants.{Refused}
 use Rattle.guest_lockstep.specs.declared.running.Stopped.{Stopped}
+use Rattle.event_callbacks.specs.declared.operations.Operation.{Operation}
 use Rattle.i8080_words.specs.declared.refusal.Fault.{Fault}
+use Rattle.i8080_words.specs.declared.refusal.Fault.TheVariants.{Spent, Idle, Malformed}
 use Rattle.log_entry.specs.Entries.{count_of}
-use Rattle.log_entry.specs.Standing.{IsOnTrace}
 use Rattle.log_entry.specs.declared.entry.Entry.{Entry}
 use Rattle.log_channel.proofs.SentEntries.{first_and_rest}
-use Rattle.replayer.specs.Replaying.{Moves, Steps, Replays, NoMoves, Then, IsBehind, AnswersStretch}
-use Rattle.replayer.proofs.OneMove.{MayStep, may_step}
+use Rattle.replayer.specs.Checking.{AnswersStretch, IsStuck, Refuses, NoMemory, FitsNowhere, seen}
+use Rattle.replayer.specs.Replaying.{Moves, Steps, Replays, NoMoves, Then, stop_at}
+use Rattle.replayer.proofs.OneMove.{no_step_toward}
 
 -- ---- steps up to the first entry
 
@@ -64,20 +66,28 @@ refused_at_once M s t most ran fault some why none (IsRefused {n = n} lt quiet) 
     let here : fault_of (step_refusal M t) ≡ fault = cc in
     (sym here ∙ ap (λ t. fault_of (step_refusal M t)) same, same)
 
-pub needs_memory : {S : Type 0} (M : Machine S) (s t : S) (held : List Entry) (fetched : Option (List ℕ)) (e : Entry)
-    (turns most : ℕ) (ran : Stopped) (fault : Fault) → Counts M → IsOnTrace M s held fetched → slice_get held 0 ≡ Some e
-    → M.count s < count_of e → 0 < most → RunsOn M s most ran t → ran.reason ≡ Refused fault → ran.steps ≡ 0
-    → AnswersStretch M s held fetched turns (Err fault) t held fetched
-needs_memory M s t held fetched e turns most ran fault counts on first later some runs why none =
-    let may : MayStep M s = may_step M s held fetched e counts on first later in
+-- it ran out of memory, or the machine makes no step by itself
+pub refused_step : {S : Type 0} (M : Machine S) (s t : S) (held : List Entry) (fetched : Option (List ℕ)) (e : Entry)
+    (turns most : ℕ) (ran : Stopped) (fault : Fault) → Counts M → stop_at M s held fetched ≡ None
+    → slice_get held 0 ≡ Some e → M.count s < count_of e → 0 < most → RunsOn M s most ran t
+    → ran.reason ≡ Refused fault → ran.steps ≡ 0
+    → AnswersStretch M s held fetched turns (Err (seen fault)) t held fetched
+refused_step {S} M s t held fetched e turns most ran fault counts ready first later some runs why none =
     let refused = refused_at_once M s t most ran fault some why none runs in
-    let behind : IsBehind M s held =
-    record { first = e; rest = drop 1 held; held_are = first_and_rest held e first; later = later } in
-    (refused.0 ∙ ap fault_of may.allowed, behind, refused.1, refl, refl)
+    (subst (λ f. Refuses M s held fetched (seen f)) (sym refused.0) cause, refused.1, refl, refl)
+  where
+    unmade : (step : Option (S × Option Operation)) → M.step s ≡ step
+        → Refuses M s held fetched (seen (fault_of (cond (is_none step) (Some Idle) None)))
+    unmade None is = FitsNowhere (no_step_toward M s held fetched e ready first later is)
+    unmade (Some made) is =
+        NoMemory (record { first = e; rest = drop 1 held; held_are = first_and_rest held e first; later = later })
 
-pub still_there : {S : Type 0} (M : Machine S) (s t : S) (held : List Entry) (fetched : Option (List ℕ)) → t ≡ s
-    → IsOnTrace M s held fetched → IsOnTrace M t held fetched
-still_there M s t held fetched same on = subst (λ t. IsOnTrace M t held fetched) (sym same) on
+    cause : Refuses M s held fetched (seen (fault_of (step_refusal M s)))
+    cause = elim (M.is_spent s) as (λ b. M.is_spent s ≡ b
+        → Refuses M s held fetched (seen (fault_of (cond b (Some Spent) (cond (is_none (M.step s)) (Some Idle) None))))) [
+          | true ↦ λ spent. FitsNowhere (no_step_toward M s held fetched e ready first later (counts.spent s spent))
+          | false ↦ λ spent. unmade (M.step s) refl
+        ] refl
 
 -- ---- an entry
 
@@ -85,3 +95,8 @@ pub one_move : {S : Type 0} (M : Machine S) (s t : S) (held left : List Entry) (
     (turns : ℕ) → 0 < turns → Moves M s held fetched t left still
     → AnswersStretch M s held fetched turns (Ok 1) t left still
 one_move M s t held left fetched still turns some one = (omega arith, omega arith, Then NoMoves one)
+
+-- an entry that does not fit is a refusal, and nothing is done
+pub fits_nowhere : {S : Type 0} (M : Machine S) (s t : S) (held : List Entry) (fetched : Option (List ℕ)) (turns : ℕ)
+    → t ≡ s → IsStuck M s held fetched → AnswersStretch M s held fetched turns (Err Malformed) t held fetched
+fits_nowhere M s t held fetched turns same stuck = (FitsNowhere stuck, same, refl, refl)

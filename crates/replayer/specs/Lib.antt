@@ -1,3 +1,4 @@
 pub mod Replaying
 pub mod Standing
 pub mod Following
+pub mod Checking

@@ -116,12 +116,3 @@ abbrev pub Answers : {S : Type 0} → Machine S → S → List Entry → Option 
 Answers M s held fetched turns (Ok r) t left still = Came M s held fetched turns r t left still
 Answers M s held fetched turns (Err fault) t left still =
     (fault ≡ OutOfMemory) × (0 < turns) × IsBehind M s held × (t ≡ s) × (left ≡ held) × (still ≡ fetched)
-
--- what a stretch of at most this many moves returns and leaves: how many were made, or that its first runs out of
--- memory
-abbrev pub AnswersStretch : {S : Type 0} → Machine S → S → List Entry → Option (List ℕ) → ℕ → Result ℕ Fault → S
-    → List Entry → Option (List ℕ) → Type 0
-AnswersStretch M s held fetched turns (Ok made) t left still =
-    (0 < made) × (made ≤ turns) × Replays M s held fetched made t left still
-AnswersStretch M s held fetched turns (Err fault) t left still =
-    (fault ≡ OutOfMemory) × IsBehind M s held × (t ≡ s) × (left ≡ held) × (still ≡ fetched)

@@ -1,5 +1,5 @@
 //! A guest that makes the moves of entries that it need not trust.
-ghost use Rattle.std.specs.Prelude.{◌≡◌, ◌<◌, ◌↔◌, IsTrue, OnErr};
+ghost use Rattle.std.specs.Prelude.{◌≡◌, ◌<◌, ◌↔◌, IsTrue, OnErr, false};
 ghost use Rattle.guest_lockstep.specs.Lockstep.{IsInput, HasRoom};
 ghost use Rattle.log_entry.specs.Entries.{count_of, input_of};
 ghost use Rattle.replayer.specs.Following.{Follows, TakesIf};
@@ -59,8 +59,9 @@ fn step_toward<B: Lockstep>(board: &mut B, entry: &Entry, turns: u64) -> R<Follo
 }
 
 // Takes an input, if it may come and nothing refuses it.
-fn take<B: Lockstep>(board: &mut B, input: Input) -> bool
-    ensures { TakesIf B.machine (B.state board.old) input result (B.state board.new) }
+pub(crate) fn take<B: Lockstep>(board: &mut B, input: Input) -> bool
+    ensures answer { TakesIf B.machine (B.state board.old) input result (B.state board.new) }
+    ensures unchanged { result ≡ false → board.new ≡ board.old }
 {
     may_come(&input) && has_room(board, &input) && board.take(input).is_ok()
 }

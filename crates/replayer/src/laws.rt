@@ -1,4 +1,5 @@
 //! What follows from the definitions alone, for the crates above.
+ghost use Rattle.replayer.specs.Checking.{RunsFit};
 ghost use Rattle.replayer.specs.Following.{FollowingIsRecording};
 ghost use Rattle.replayer.specs.Standing.{ReplaysKeepTo};
 
@@ -11,4 +12,9 @@ pub fn replays_keep_to_the_trace<S>()
 /// Whoever follows the entries of a list one after another has made a recorded run that logs exactly that list.
 pub fn following_is_recording<S>()
     ensures { FollowingIsRecording S }
+{}
+
+/// The entries of a recorded run always fit, so a replay of them is never refused with `Malformed`.
+pub fn runs_fit<S>()
+    ensures { RunsFit S }
 {}

@@ -3,6 +3,7 @@ ghost use Rattle.std.specs.Prelude.{◌≡◌, ◌<◌, IfSome};
 ghost use Rattle.disk_dcdd.specs.Address.{same_address};
 ghost use Rattle.disk_dcdd.specs.declared.controller.TheConstants.{DRIVES};
 ghost use Rattle.disk_dcdd.specs.declared.sector.TheConstants.{SECTORS};
+ghost use Rattle.replayer.specs.Checking as checking;
 ghost use Rattle.replayer.specs.Replaying as table;
 
 use disk_dcdd::{SECTOR_BYTES, SectorAddress};
@@ -49,4 +50,17 @@ pub(crate) fn input_with(fetched: Option<[u8; SECTOR_BYTES]>, entry: &Entry) -> 
         number,
         bytes,
     })
+}
+
+// The bytes that are kept once an entry is taken: those of a read are taken with it.
+pub(crate) fn bytes_after(
+    fetched: Option<[u8; SECTOR_BYTES]>,
+    entry: &Entry,
+) -> Option<[u8; SECTOR_BYTES]>
+    ensures { result ≡ checking.bytes_after fetched entry.now }
+{
+    match entry.read_of() {
+        Some(_) => None,
+        None => fetched,
+    }
 }

@@ -5,6 +5,7 @@ ghost use Rattle.disk_dcdd.specs.declared.controller.TheConstants.{DRIVES};
 ghost use Rattle.disk_dcdd.specs.declared.sector.TheConstants.{SECTORS};
 ghost use Rattle.log_entry.specs.Entries.{last_count};
 ghost use Rattle.log_entry.specs.Standing.{IsOnTrace};
+ghost use Rattle.replayer.specs.Checking as checking;
 ghost use Rattle.replayer.specs.Replaying as table;
 ghost use Rattle.replayer.specs.Standing.{StaysOnEach};
 
@@ -59,16 +60,20 @@ impl<B: Lockstep> Replayer<B> {
     }
 
     /// Makes at most `turns` moves, each of them a step or an entry. Makes fewer only if no entry is held any longer, the
-    /// next one is a read whose bytes have not arrived, or a step runs out of memory; `OutOfMemory` is returned only if
-    /// no move was made.
+    /// next one is a read whose bytes have not arrived, a step runs out of memory, or no move by the next one can be made,
+    /// since it is not of this guest's run. If the first move is not made, it is refused with `OutOfMemory` or `Malformed`.
     pub fn replay(&mut self, receiver: &mut Receiver, turns: u64) -> R<Replayed>
-        requires on_trace { IsOnTrace B.machine (B.state self.old.board) receiver.old.entries self.old.fetched }
-        ensures answers { table.Answers B.machine (B.state self.old.board) receiver.old.entries self.old.fetched turns
+        ensures answers { checking.AnswersAny B.machine (B.state self.old.board) receiver.old.entries self.old.fetched
+            turns result (B.state self.new.board) receiver.new.entries self.new.fetched }
+        ensures exactly { IsOnTrace B.machine (B.state self.old.board) receiver.old.entries self.old.fetched
+            → table.Answers B.machine (B.state self.old.board) receiver.old.entries self.old.fetched turns
             result (B.state self.new.board) receiver.new.entries self.new.fetched }
         ensures stays { StaysOnEach B.machine (B.state self.old.board) receiver.old.entries self.old.fetched
             (B.state self.new.board) receiver.new.entries self.new.fetched }
-        ensures on_trace { IsOnTrace B.machine (B.state self.new.board) receiver.new.entries self.new.fetched }
-        ensures below { B.machine.count (B.state self.new.board)
+        ensures on_trace { IsOnTrace B.machine (B.state self.old.board) receiver.old.entries self.old.fetched
+            → IsOnTrace B.machine (B.state self.new.board) receiver.new.entries self.new.fetched }
+        ensures below { IsOnTrace B.machine (B.state self.old.board) receiver.old.entries self.old.fetched
+            → B.machine.count (B.state self.new.board)
             ≤ last_count (B.machine.count (B.state self.old.board)) receiver.old.entries }
         ensures held { receiver.new ≡ record receiver.old { entries = receiver.new.entries } }
         ensures unchanged { OnErr result ((self.new ≡ self.old) × (receiver.new ≡ receiver.old)) }
@@ -89,13 +94,9 @@ impl<B: Lockstep> Replayer<B> {
     /// Keeps the bytes of the sector that it waits for. `NotDue` if it waits for none or for another one, `StaleRead`
     /// if the shared disk had what another write left there. Allocates no memory.
     pub fn bytes(&mut self, receiver: &Receiver, read: &SectorRead) -> R<()>
-        requires on_trace { table.bytes_refusal B.machine (B.state self.old.board) receiver.now.entries self.old.fetched
-            read.now ≡ None → IsOnTrace B.machine (B.state self.old.board) receiver.now.entries (Some read.now.bytes) }
         ensures answer { result ≡ answered (table.bytes_refusal B.machine (B.state self.old.board)
             receiver.now.entries self.old.fetched read.now) }
         ensures kept { OnOk result (self.new ≡ record self.old { fetched = Some read.now.bytes }) }
-        ensures on_trace { OnOk result
-            (IsOnTrace B.machine (B.state self.new.board) receiver.now.entries self.new.fetched) }
         ensures unchanged { OnErr result (self.new ≡ self.old) }
     {
         let Some((drive, sector, number)) = self.wanted(receiver) else {

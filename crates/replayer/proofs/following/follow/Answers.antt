@@ -22,7 +22,7 @@ returns-in-Some-clause-answer g c =
     input_taken g.B.Lockstep.machine (g.B.Lockstep.state c.args.board.now) (g.B.Lockstep.state c.take.new.board)
     c.args.entry.now c.in-Some.input (omega arith) (sym c.input.ensures ∙ c.in-Some.is)
     (subst (λ taken. TakesIf g.B.Lockstep.machine (g.B.Lockstep.state c.args.board.now) c.in-Some.input taken
-    (g.B.Lockstep.state c.take.new.board)) c.if-take.true c.take.ensures)
+    (g.B.Lockstep.state c.take.new.board)) c.if-take.true c.take.ensures.answer)
 
 pub returns-in_default-clause-answer : goal.returns-in_default-clause-answer
 returns-in_default-clause-answer g c =
@@ -32,7 +32,7 @@ returns-in_default-clause-answer g c =
     let not_before = c.if-now-count.false in
     let not_past = c.if-now-count-2.false in
     let none = subst (λ taken. TakesIf g.B.Lockstep.machine (g.B.Lockstep.state c.args.board.now) c.in-Some.input taken
-    (g.B.Lockstep.state c.take.new.board)) c.if-take.false c.take.ensures in
+    (g.B.Lockstep.state c.take.new.board)) c.if-take.false c.take.ensures.answer in
     input_refused g.B.Lockstep.machine g.met.B.Lockstep.counts (g.B.Lockstep.state c.args.board.now)
     (g.B.Lockstep.state c.take.new.board) c.args.entry.now c.in-Some.input c.args.turns (omega arith)
     (sym c.input.ensures ∙ c.in-Some.is) none.0 none.1

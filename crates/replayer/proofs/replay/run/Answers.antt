@@ -10,7 +10,6 @@ use Rattle.replayer.proofs.replay.run.Goals as goal
 pub loop-moves-init : goal.loop-moves-init
 loop-moves-init g c = record {
   replays = NoMoves;
-  on_trace = c.requires.on_trace;
   within = omega arith;
   held = refl;
   unchanged = λ none. (refl, refl, refl);
@@ -24,7 +23,6 @@ loop-moves-preserved g c = record {
       c.loop-moves.moves
       (g.B.Lockstep.state c.stretch.new.board) c.stretch.new.receiver.entries c.stretch.new.fetched c.in-Ok.made
       c.loop-moves.invariant.replays c.in-Ok.ensures.answers.2;
-  on_trace = c.stretch.ensures.on_trace;
   within = let made = c.in-Ok.ensures.answers.1 in let within = c.loop-moves.invariant.within in omega arith;
   held =
       c.stretch.ensures.held
@@ -55,11 +53,12 @@ returns-in-Err-clause-unchanged g c =
 pub returns-in-Err-2-clause-answers : goal.returns-in-Err-2-clause-answers
 returns-in-Err-2-clause-answers g c =
     let test = c.if-moves-eq0.false in
-    stopped g.B.Lockstep.machine (g.B.Lockstep.state c.args.board.now) (g.B.Lockstep.state c.loop-moves.board)
+    rw c.why_after-why.ensures
+    (stopped g.B.Lockstep.machine (g.B.Lockstep.state c.args.board.now) (g.B.Lockstep.state c.loop-moves.board)
     (g.B.Lockstep.state c.stretch.new.board) c.args.receiver.now.entries c.loop-moves.receiver.entries
     c.stretch.new.receiver.entries c.args.fetched.now c.loop-moves.fetched c.stretch.new.fetched c.args.turns
     (c.args.turns - c.loop-moves.moves) c.loop-moves.moves c.in-Err.fault c.loop-moves-test.true (omega arith)
-    c.loop-moves.invariant.replays c.in-Err.ensures.answers
+    c.loop-moves.invariant.replays c.in-Err.ensures.answers)
 
 pub returns-clause-answers : goal.returns-clause-answers
 returns-clause-answers g c =

@@ -5,20 +5,10 @@ use Rattle.std.specs.Prelude.{slice_get}
 use Rattle.ft_world.specs.Messages.{sector_of}
 use Rattle.ft_world.specs.Pairs.{running_of}
 use Rattle.ft_world.proofs.Applying.{hands_on}
-use Rattle.ft_world.proofs.AtFetching.{fetched_applies, fetched_refused, fetched_unknown, node_may_fetch}
+use Rattle.ft_world.proofs.AtFetching.{fetched_applies, fetched_refused, fetched_unknown}
 use Rattle.ft_world.proofs.AtHosts.{at_host, no_call}
 use Rattle.ft_world.proofs.CopiedPages.{pages_keep}
 use Rattle.ft_world.proofs.pair.Pair.fetched.Goals as goal
-
-pub fetched-requires : goal.fetched-requires
-fetched-requires g c =
-    let some = c.requires.shown in
-    let brings : option_and_then sector_of (slice_get c.args.self.now.messages.items c.args.message) ≡ Some c.in-Some.read = sym c.in-Some.ensures in
-    record {
-      on_trace = node_may_fetch g.B.Lockstep.state g.B.Copies.copied g.B.Lockstep.machine g.D.SectorStore.records (running_of c.args.self.now)
-          some.course some.shows c.args.message c.args.node c.in-Some.read brings c.in_ok-station.station.now
-          c.in_ok-station.ensures.found;
-    }
 
 pub returns-in_default-clause-row : goal.returns-in_default-clause-row
 returns-in_default-clause-row g c = λ course h.
