@@ -1,5 +1,5 @@
 -- How a node moves by entries of which nothing is known. A replayer over any entries makes the moves of a replay of as
--- many turns as fit, so what is shown of a replay holds of it; and it is stuck where its node is.
+-- many turns as fit, so what is shown of a replay holds of it; and a node diverges where its replayer does.
 use Rattle.std.proofs.Common.{◌≡◌, ◌≢◌, ℕ, ◌<◌, Bool, true, false, cond, Option, Some, None, is_none, List, length, drop, Result, Ok, Err, refl, sym, ap, subst, ◌∙◌}
 use Rattle.std.specs.Prelude.{◌==◌}
 use Rattle.ft_node.proofs.Words.{Backup, Draining, Fault, IsFollower, Machine, Node, Reads, Receiving, Role, goes_live}
@@ -13,13 +13,13 @@ use Rattle.ft_node.specs.Checked as checked
 use Rattle.ft_node.proofs.FollowerMoves.{backup_replays, in_role, repeats}
 use Rattle.ft_node.proofs.LastMoves.{allowed, drained, drained_by, drains_on, not_drained, stays_draining}
 
--- a node is stuck where its replayer is
-is_stuck : {S : Type 0} (M : Machine S) (role : Role) (reads : Reads) (s : S) (come : Option (List ℕ)) (r : Receiving)
-    (x : Node S) → IsFollower role reads s come r x → checking.IsStuck M s r.entries come → checked.IsStuck M x
-is_stuck M role reads s come r x f stuck =
-    subst (λ s. checking.IsStuck M s (drop x.replayed x.held) x.fetched) (sym f.machine)
-    (subst (λ es. checking.IsStuck M s es x.fetched) f.left
-    (subst (λ come. checking.IsStuck M s r.entries come) (sym f.come) stuck))
+-- a node diverges where its replayer does
+node_diverges : {S : Type 0} (M : Machine S) (role : Role) (reads : Reads) (s : S) (come : Option (List ℕ)) (r : Receiving)
+    (x : Node S) → IsFollower role reads s come r x → checking.Diverges M s r.entries come → checked.Diverges M x
+node_diverges M role reads s come r x f apart =
+    subst (λ s. checking.Diverges M s (drop x.replayed x.held) x.fetched) (sym f.machine)
+    (subst (λ es. checking.Diverges M s es x.fetched) f.left
+    (subst (λ come. checking.Diverges M s r.entries come) (sym f.come) apart))
 
 -- the same node, after nothing was done
 same_node : {S : Type 0} (role : Role) (reads : Reads) (x : Node S) (s t : S) (come still : Option (List ℕ))
@@ -37,46 +37,46 @@ same_node role reads x s t come still r new f held same_state same_left same_byt
   within = f.within;
 }
 
--- it makes as many moves as fit, and is stuck then
+-- it makes as many moves as fit, and diverges then
 so_far : {S : Type 0} (M : Machine S) (role : Role) (reads : Reads) (x : Node S) (s t : S)
     (come still : Option (List ℕ)) (r new : Receiving) (q : Replayed) → IsFollower role reads s come r x
     → new ≡ record r { entries = new.entries }
-    → replaying.Came M s r.entries come q.moves q t new.entries still → checking.IsStuck M t new.entries still
-    → calls.Makes x (calls.ReplayedBy M q.moves q) (λ y. IsFollower role reads t still new y × checked.IsStuck M y)
-so_far M role reads x s t come still r new q f held came stuck =
+    → replaying.Came M s r.entries come q.moves q t new.entries still → checking.Diverges M t new.entries still
+    → calls.Makes x (calls.ReplayedBy M q.moves q) (λ y. IsFollower role reads t still new y × checked.Diverges M y)
+so_far M role reads x s t come still r new q f held came apart =
     let h = repeats M role reads x s t come still r new q.moves (Ok q) f held came in
-    record { y = h.y; done = h.done; after = (h.after, is_stuck M role reads t still new h.y h.after stuck) }
+    record { y = h.y; done = h.done; after = (h.after, node_diverges M role reads t still new h.y h.after apart) }
 
 -- ---- a backup
 
 pub backup_replays_checked : {S : Type 0} (M : Machine S) (reads : Reads) (x : Node S) (s t : S)
     (come still : Option (List ℕ)) (r new : Receiving) (turns : ℕ) (result : Result Replayed Fault)
     → IsFollower Backup reads s come r x → new ≡ record r { entries = new.entries }
-    → checking.AnswersAny M s r.entries come turns result t new.entries still
+    → checking.AnswersUntrusted M s r.entries come turns result t new.entries still
     → checked.Replays M turns x result (IsFollower Backup reads t still new)
-backup_replays_checked M reads x s t come still r new turns (Ok q) f held (checking.InAll came) =
-    checked.ReplaysAll (backup_replays M reads x s t come still r new turns (Ok q) f held came)
-backup_replays_checked {S} M reads x s t come still r new turns (Ok q) f held (checking.SoFar lt came stuck) =
-    checked.ReplaysSome q refl lt
+backup_replays_checked M reads x s t come still r new turns (Ok q) f held (checking.AllFit came fits) =
+    checked.AllFit (backup_replays M reads x s t come still r new turns (Ok q) f held came)
+backup_replays_checked {S} M reads x s t come still r new turns (Ok q) f held (checking.SomeFit lt came apart) =
+    checked.SomeFit q refl lt
     (subst (λ refusal. calls.Unless {A = Replayed} refusal (Ok q) (Is x)
     (calls.Makes x (calls.ReplayedBy M q.moves q) Is))
     (sym (in_role Backup reads x s come r f refl))
-    (so_far M Backup reads x s t come still r new q f held came stuck))
+    (so_far M Backup reads x s t come still r new q f held came apart))
   where
     Is : Node S → Type 0
-    Is y = IsFollower Backup reads t still new y × checked.IsStuck M y
+    Is y = IsFollower Backup reads t still new y × checked.Diverges M y
 backup_replays_checked {S} M reads x s t come still r new turns (Err fault) f held a = go fault a.1
   where
     go : (fault : Fault) → checking.Refuses M s r.entries come fault
         → checked.Replays M turns x (Err fault) (IsFollower Backup reads t still new)
-    go fault (checking.NoMemory behind) =
-        checked.ReplaysAll (backup_replays M reads x s t come still r new turns (Err OutOfMemory) f held
+    go fault (checking.NoMemory behind fits) =
+        checked.AllFit (backup_replays M reads x s t come still r new turns (Err OutOfMemory) f held
         (refl, a.0, behind, a.2, a.3, a.4))
-    go fault (checking.FitsNowhere stuck) = checked.ReplaysNone (record {
+    go fault (checking.NoneFits apart) = checked.NoneFits (record {
       refused = refl;
       role_is = f.role_is;
       some = a.0;
-      stuck = is_stuck M Backup reads s come r x f stuck;
+      diverges = node_diverges M Backup reads s come r x f apart;
       stays = same_node Backup reads x s t come still r new f held a.2 a.3 a.4;
     })
 
@@ -86,21 +86,21 @@ backup_replays_checked {S} M reads x s t come still r new turns (Err fault) f he
 pub drains_on_checked : {S : Type 0} (M : Machine S) (reads : Reads) (x : Node S) (s t : S)
     (come still : Option (List ℕ)) (r new : Receiving) (turns : ℕ) (a : Replayed)
     → IsFollower Draining reads s come r x → new ≡ record r { entries = new.entries }
-    → checking.AnswersAny M s r.entries come turns (Ok a) t new.entries still → a.why ≢ End
+    → checking.AnswersUntrusted M s r.entries come turns (Ok a) t new.entries still → a.why ≢ End
     → checked.Drains M turns x (Ok (drained_by a)) (IsFollower Draining reads t still new)
-drains_on_checked M reads x s t come still r new turns a f held (checking.InAll came) left =
-    checked.DrainsAll (drains_on M reads x s t come still r new turns a f held came left)
-drains_on_checked M reads x s t come still r new turns a f held (checking.SoFar lt came stuck) left =
-    let h = so_far M Draining reads x s t come still r new a f held came stuck in
-    checked.DrainsSome (drained_by a) refl lt
+drains_on_checked M reads x s t come still r new turns a f held (checking.AllFit came fits) left =
+    checked.AllFit (drains_on M reads x s t come still r new turns a f held came left)
+drains_on_checked M reads x s t come still r new turns a f held (checking.SomeFit lt came apart) left =
+    let h = so_far M Draining reads x s t come still r new a f held came apart in
+    checked.SomeFit (drained_by a) refl lt
     (allowed M reads x s come r a.moves (drained_by a)
-    (λ y. IsFollower Draining reads t still new y × checked.IsStuck M y) f (record {
+    (λ y. IsFollower Draining reads t still new y × checked.Diverges M y) f (record {
       y = h.y;
       done = record { z = h.y; replayed = h.done; after = stays_draining h.y a.why left };
       after = h.after;
     }))
 
--- where it is stuck, something is left
+-- where it diverges, something is left
 not_at_end : (empty none made : Bool) → cond empty (Some End) (cond none None (Some Wait)) ≡ None
     → cond empty End (cond none (cond made Turns Memory) Wait) ≡ End → ⊥
 not_at_end true none made ready end = absurd cc
@@ -111,31 +111,31 @@ not_at_end false false made ready end = absurd cc
 pub drained_checked : {S : Type 0} (M : Machine S) (reads : Reads) (x : Node S) (s t : S)
     (come still : Option (List ℕ)) (r new : Receiving) (turns : ℕ) (a : Replayed)
     (Is : Node S → Type 0) → IsFollower Draining reads s come r x → new ≡ record r { entries = new.entries }
-    → checking.AnswersAny M s r.entries come turns (Ok a) t new.entries still → a.why ≡ End
+    → checking.AnswersUntrusted M s r.entries come turns (Ok a) t new.entries still → a.why ≡ End
     → ((y : Node S) → y.role ≡ Draining → y.replayed ≡ length y.held → IsFollower Draining reads t still new y → Is (goes_live y))
     → checked.Drains M turns x (Ok (drained_by a)) Is
-drained_checked M reads x s t come still r new turns a Is f held (checking.InAll came) all lives =
-    checked.DrainsAll (drained M reads x s t come still r new turns a Is f held came all lives)
-drained_checked M reads x s t come still r new turns a Is f held (checking.SoFar lt came stuck) all lives =
+drained_checked M reads x s t come still r new turns a Is f held (checking.AllFit came fits) all lives =
+    checked.AllFit (drained M reads x s t come still r new turns a Is f held came all lives)
+drained_checked M reads x s t come still r new turns a Is f held (checking.SomeFit lt came apart) all lives =
     absurd (not_at_end (length new.entries == 0) (is_none (replaying.wanted M t new.entries still)) (a.moves == a.moves)
-    stuck.ready (sym came.why ∙ all))
+    apart.ready (sym came.why ∙ all))
 
 pub not_drained_checked : {S : Type 0} (M : Machine S) (reads : Reads) (x : Node S) (s t : S)
     (come still : Option (List ℕ)) (r new : Receiving) (turns : ℕ) (fault : Fault)
     → IsFollower Draining reads s come r x → new ≡ record r { entries = new.entries }
-    → checking.AnswersAny M s r.entries come turns (Err fault) t new.entries still
+    → checking.AnswersUntrusted M s r.entries come turns (Err fault) t new.entries still
     → checked.Drains M turns x (Err fault) (IsFollower Draining reads t still new)
 not_drained_checked {S} M reads x s t come still r new turns fault f held a = go fault a.1
   where
     go : (fault : Fault) → checking.Refuses M s r.entries come fault
         → checked.Drains M turns x (Err fault) (IsFollower Draining reads t still new)
-    go fault (checking.NoMemory behind) =
-        checked.DrainsAll (not_drained M reads x s t come still r new turns OutOfMemory f held
+    go fault (checking.NoMemory behind fits) =
+        checked.AllFit (not_drained M reads x s t come still r new turns OutOfMemory f held
         (refl, a.0, behind, a.2, a.3, a.4))
-    go fault (checking.FitsNowhere stuck) = checked.DrainsNone (record {
+    go fault (checking.NoneFits apart) = checked.NoneFits (record {
       refused = refl;
       role_is = f.role_is;
       some = a.0;
-      stuck = is_stuck M Draining reads s come r x f stuck;
+      diverges = node_diverges M Draining reads s come r x f apart;
       stays = same_node Draining reads x s t come still r new f held a.2 a.3 a.4;
     })

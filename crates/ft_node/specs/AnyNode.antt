@@ -19,7 +19,7 @@ use Rattle.pair_protocol.specs.Node.{Node, Primary, Backup, Joining, Draining, A
 use Rattle.recorder.specs.Recording.{IsDue}
 use Rattle.ft_node.specs.Joined.{Joined}
 use Rattle.ft_node.specs.Pages.{PagesGoOn, SamePages}
-use Rattle.ft_node.specs.Roles.{AreOfOutstanding, HasImage, IsPrimary, IsFollower, IsJoining, IsAlone, IsHalted}
+use Rattle.ft_node.specs.Roles.{HasImage, IsPrimary, IsFollower, IsJoining, IsAlone, IsHalted}
 use Rattle.ft_node.specs.declared.ran.PartCame.{PartCame}
 use Rattle.ft_node.specs.declared.ran.PartCame.TheVariants as came
 use Rattle.ft_node.specs.declared.node.Node as code
@@ -108,11 +108,10 @@ MayHold (node.Draining d) e = ⊥
 MayHold (node.Alone a) e = ⊥
 MayHold (node.Halted h) e = ⊥
 
--- a primary's coverage has room for the note of each operation, wherever the guest goes: few operations are outstanding,
--- and only those have notes
+-- a primary's coverage has room for the note of each operation, wherever the guest goes, since few operations are
+-- outstanding
 abbrev pub MayRun : {B S : Type 0} {H : Type 0} → (B → S) → Machine S → code.Node B H → Type 0
-MayRun state M (node.Primary p) =
-    IsFrugal M (state p.recorder.board) × AreOfOutstanding M (state p.recorder.board) p.coverage
+MayRun state M (node.Primary p) = IsFrugal M (state p.recorder.board)
 MayRun state M (node.Backup b) = Unit {0}
 MayRun state M (node.Joining j) = Unit {0}
 MayRun state M (node.Draining d) = Unit {0}

@@ -12,9 +12,9 @@ use Rattle.ft_node.specs.Calls as calls
 use Rattle.ft_node.specs.declared.ran.Drained as ran
 use Rattle.ft_node.specs.declared.ran.Ran.{Ran}
 
--- what a replaying node holds does not fit its machine: it waits for no bytes, and no move can be made
-abbrev pub IsStuck : {S : Type 0} → Machine S → Node S → Type 0
-IsStuck M x = checking.IsStuck M x.machine (drop x.replayed x.held) x.fetched
+-- what a replaying node holds is not of its machine's run: it waits for no bytes, and no move can be made
+abbrev pub Diverges : {S : Type 0} → Machine S → Node S → Type 0
+Diverges M x = checking.Diverges M x.machine (drop x.replayed x.held) x.fetched
 
 -- a node in this role cannot move, is refused and stays
 pub record Refuses {A S : Type 0} (M : Machine S) (role : Role) (turns : ℕ) (x : Node S) (result : Result A Fault)
@@ -22,25 +22,24 @@ pub record Refuses {A S : Type 0} (M : Machine S) (role : Role) (turns : ℕ) (x
   pub refused : result ≡ Err Malformed
   pub role_is : x.role ≡ role
   pub some : 0 < turns
-  pub stuck : IsStuck M x
+  pub diverges : Diverges M x
   pub stays : Is x
 
--- moves of a backup: the row's, of this many turns; the row's, of as many as it moved, and then it is stuck; or none,
--- since it is stuck
-pub data Replays {S : Type 0} (M : Machine S) (turns : ℕ) (x : Node S) (result : Result replayer.Replayed Fault)
-    (Is : Node S → Type 0) : Type 0 where
-  ReplaysAll : calls.Replays M turns x result Is → Replays M turns x result Is
-  ReplaysSome : (r : replayer.Replayed) → result ≡ Ok r → r.moves < turns
-      → calls.Replays M r.moves x result (λ y. Is y × IsStuck M y) → Replays M turns x result Is
-  ReplaysNone : Refuses M Backup turns x result Is → Replays M turns x result Is
+-- moves of a node in this role by the entries that it holds: the row's, of this many turns; the row's, of as many as it
+-- moved, and then it diverges; or none, since it diverges
+pub data MovesBy {A S : Type 0} (M : Machine S) (role : Role) (turns : ℕ) (x : Node S) (result : Result A Fault)
+    (moves : A → ℕ) (Row : ℕ → (Node S → Type 0) → Type 0) (Is : Node S → Type 0) : Type 0 where
+  AllFit : Row turns Is → MovesBy M role turns x result moves Row Is
+  SomeFit : (a : A) → result ≡ Ok a → moves a < turns → Row (moves a) (λ y. Is y × Diverges M y)
+      → MovesBy M role turns x result moves Row Is
+  NoneFits : Refuses M role turns x result Is → MovesBy M role turns x result moves Row Is
 
--- moves of a draining node, in the same way
-pub data Drains {S : Type 0} (M : Machine S) (turns : ℕ) (x : Node S) (result : Result ran.Drained Fault)
-    (Is : Node S → Type 0) : Type 0 where
-  DrainsAll : calls.Drains M turns x result Is → Drains M turns x result Is
-  DrainsSome : (d : ran.Drained) → result ≡ Ok d → d.moves < turns
-      → calls.Drains M d.moves x result (λ y. Is y × IsStuck M y) → Drains M turns x result Is
-  DrainsNone : Refuses M Draining turns x result Is → Drains M turns x result Is
+-- those of a backup, and those of a draining node
+abbrev pub Replays : {S : Type 0} → Machine S → ℕ → Node S → Result replayer.Replayed Fault → (Node S → Type 0) → Type 0
+Replays M turns x result Is = MovesBy M Backup turns x result (λ r. r.moves) (λ n. calls.Replays M n x result) Is
+
+abbrev pub Drains : {S : Type 0} → Machine S → ℕ → Node S → Result ran.Drained Fault → (Node S → Type 0) → Type 0
+Drains M turns x result Is = MovesBy M Draining turns x result (λ d. d.moves) (λ n. calls.Drains M n x result) Is
 
 -- steps: the row's; or none, since a primary has no room to note one more operation, and stays
 pub record LacksRoom {S : Type 0} (M : Machine S) (x : Node S) (result : Result Ran Fault)

@@ -2,7 +2,7 @@
 ghost use Rattle.std.specs.Prelude.{◌≡◌, OnErr};
 ghost use Rattle.log_entry.specs.Standing.{IsOnTrace};
 ghost use Rattle.pair_protocol.specs.Node as protocol;
-ghost use Rattle.replayer.specs.Checking.{AnswersAny};
+ghost use Rattle.replayer.specs.Checking.{AnswersUntrusted};
 ghost use Rattle.replayer.specs.Replaying.{Answers, place_of};
 ghost use Rattle.ft_node.specs.Calls as calls;
 ghost use Rattle.ft_node.specs.Roles.{IsFollower};
@@ -25,7 +25,7 @@ pub struct Winner<B> {
 impl<B: Lockstep> Winner<B> {
     /// Makes at most `turns` moves from the entries that are held, as far as they fit.
     pub(crate) fn drain(&mut self, turns: u64) -> R<Replayed>
-        ensures answers { AnswersAny B.machine (B.state self.old.draining.replayer.board)
+        ensures answers { AnswersUntrusted B.machine (B.state self.old.draining.replayer.board)
             self.old.draining.receiver.entries self.old.draining.replayer.fetched turns result
             (B.state self.new.draining.replayer.board) self.new.draining.receiver.entries
             self.new.draining.replayer.fetched }

@@ -1,6 +1,6 @@
 -- What the calls of the hosts require: a primary's machine was run from boot, so few of its operations are outstanding,
 -- wherever it goes. A machine that begins elsewhere runs alike.
-use Rattle.ft_world.proofs.Words.{AreOfOutstanding, Copying, Course, Do, Guest, IsCopying, IsHost, IsMachine, IsNode, Lawful, Machine, MayRun, Move, Node, Reached, Reaches, Record, Running, Runs, Serving, Shows, ShowsSome, Station, Take, World, machine_of, nodes_stand, runs-append}
+use Rattle.ft_world.proofs.Words.{Copying, Course, Do, Guest, IsCopying, IsHost, IsMachine, IsNode, Lawful, Machine, MayRun, Move, Node, Reached, Reaches, Record, Running, Runs, Serving, Shows, ShowsSome, Station, Take, World, machine_of, nodes_stand, runs-append}
 use Rattle.std.proofs.Common.{◌≡◌, ◌++◌, [], ◌∷◌, List, Some, inl, subst, ℕ}
 use Rattle.std.specs.Prelude.{slice_get}
 use Rattle.guest_lockstep.specs.Outstanding.{IsFrugal}
@@ -33,10 +33,8 @@ may_run : {B H D S : Type 0} (state : B → S) (copied : B → Guest) (M : Machi
     slice_get c.world.nodes n ≡ Some x → IsNode state M c.copying h.drives node x → MayRun state M node
 may_run state copied M records old c n x (node.Primary p) h there is =
     let N = machine_of M c in
-    let r = serving_runs N c.copying c.world n x h.machine.lawful h.machine.copies h.reached there (inl is.role) in (
-      subst (λ s. IsFrugal M s) is.machine (frugal M c h.drives r.0 x.machine h.machine r.1),
-      subst (λ s. AreOfOutstanding M s p.coverage) is.machine is.covers.outstanding,
-    )
+    let r = serving_runs N c.copying c.world n x h.machine.lawful h.machine.copies h.reached there (inl is.role) in
+    subst (λ s. IsFrugal M s) is.machine (frugal M c h.drives r.0 x.machine h.machine r.1)
 may_run state copied M records old c n x (node.Backup b) h there is = tt
 may_run state copied M records old c n x (node.Joining j) h there is = tt
 may_run state copied M records old c n x (node.Draining d) h there is = tt

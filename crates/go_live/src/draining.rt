@@ -49,7 +49,7 @@ impl<B: Lockstep> Draining<B> {
 
     /// Makes at most `turns` moves, each of them a step or an entry, as the replayer's `replay`.
     pub fn drain(&mut self, turns: u64) -> R<Replayed>
-        ensures answers { checking.AnswersAny B.machine (B.state self.old.replayer.board) self.old.receiver.entries
+        ensures answers { checking.AnswersUntrusted B.machine (B.state self.old.replayer.board) self.old.receiver.entries
             self.old.replayer.fetched turns result (B.state self.new.replayer.board) self.new.receiver.entries
             self.new.replayer.fetched }
         ensures exactly { IsOnTrace B.machine (B.state self.old.replayer.board) self.old.receiver.entries

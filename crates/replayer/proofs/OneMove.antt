@@ -18,7 +18,7 @@ use Rattle.log_entry.specs.Standing.{owed, IsOnTrace, TakesFetched}
 use Rattle.log_entry.specs.declared.entry.Entry.{Entry}
 use Rattle.log_entry.specs.declared.entry.Entry.TheVariants as entry
 use Rattle.log_channel.proofs.SentEntries.{first_and_rest}
-use Rattle.replayer.specs.Checking.{IsStuck, bytes_after}
+use Rattle.replayer.specs.Checking.{Diverges, bytes_after}
 use Rattle.replayer.specs.Replaying.{Moves, Steps, Passes, TakesInput, ReadsSector, Replays, input_with, read_at, wanted, wanted_of, stop_at}
 use Rattle.replayer.specs.Standing.{StaysOn}
 use Rattle.replayer.proofs.Fronts.{not_behind, NextDoes, next_does, NextTakes, next_takes, next_reads}
@@ -228,13 +228,13 @@ mark_has_none fetched (entry.Written count number) bare = absurd cc
 mark_has_none fetched (entry.Read count drive sector number) bare = absurd cc
 
 -- the first entry allows neither a step nor a move at its count
-stuck_at : {S : Type 0} (M : Machine S) (s : S) (held : List Entry) (fetched : Option (List ℕ)) (e : Entry)
+diverges_at : {S : Type 0} (M : Machine S) (s : S) (held : List Entry) (fetched : Option (List ℕ)) (e : Entry)
     → stop_at M s held fetched ≡ None → slice_get held 0 ≡ Some e
     → (M.count s < count_of e → (t : S) (gives : Option Operation) → M.step s ≡ Some (t, gives) → ⊥)
     → (M.count s ≡ count_of e → (bare_of e ≡ None → ⊥)
     × ((input : Input) (t : S) → input_with fetched e ≡ Some input → Accepts M s input t → ⊥))
-    → IsStuck M s held fetched
-stuck_at {S} M s held fetched e ready first no_step no_entry = record { ready = ready; no_move = none }
+    → Diverges M s held fetched
+diverges_at {S} M s held fetched e ready first no_step no_entry = record { ready = ready; no_move = none }
   where
     none : (t : S) (left : List Entry) (still : Option (List ℕ)) → Moves M s held fetched t left still → ⊥
     none t left still (Steps {gives = gives} {e = f} {es = es} are later made) =
@@ -255,16 +255,16 @@ stuck_at {S} M s held fetched e ready first no_step no_entry = record { ready = 
 
 -- its count is past
 pub is_past : {S : Type 0} (M : Machine S) (s : S) (held : List Entry) (fetched : Option (List ℕ)) (e : Entry)
-    → stop_at M s held fetched ≡ None → slice_get held 0 ≡ Some e → count_of e < M.count s → IsStuck M s held fetched
+    → stop_at M s held fetched ≡ None → slice_get held 0 ≡ Some e → count_of e < M.count s → Diverges M s held fetched
 is_past M s held fetched e ready first past =
-    stuck_at M s held fetched e ready first (λ later t gives made. absurd (omega arith)) (λ at. absurd (omega arith))
+    diverges_at M s held fetched e ready first (λ later t gives made. absurd (omega arith)) (λ at. absurd (omega arith))
 
 -- the machine makes no step toward it
 pub no_step_toward : {S : Type 0} (M : Machine S) (s : S) (held : List Entry) (fetched : Option (List ℕ)) (e : Entry)
     → stop_at M s held fetched ≡ None → slice_get held 0 ≡ Some e → M.count s < count_of e → M.step s ≡ None
-    → IsStuck M s held fetched
+    → Diverges M s held fetched
 no_step_toward {S} M s held fetched e ready first later no_step =
-    stuck_at M s held fetched e ready first none (λ at. absurd (omega arith))
+    diverges_at M s held fetched e ready first none (λ at. absurd (omega arith))
   where
     none : M.count s < count_of e → (t : S) (gives : Option Operation) → M.step s ≡ Some (t, gives) → ⊥
     none l t gives made = let no : None ≡ Some (t, gives) = sym no_step ∙ made in cc
@@ -272,19 +272,19 @@ no_step_toward {S} M s held fetched e ready first later no_step =
 -- its input is not accepted
 pub not_accepted : {S : Type 0} (M : Machine S) (s : S) (held : List Entry) (fetched : Option (List ℕ)) (e : Entry)
     (input : Input) → stop_at M s held fetched ≡ None → slice_get held 0 ≡ Some e → M.count s ≡ count_of e
-    → input_with fetched e ≡ Some input → ((t : S) → Accepts M s input t → ⊥) → IsStuck M s held fetched
+    → input_with fetched e ≡ Some input → ((t : S) → Accepts M s input t → ⊥) → Diverges M s held fetched
 not_accepted {S} M s held fetched e input ready first at has refused =
-    stuck_at M s held fetched e ready first (λ later t gives made. absurd (omega arith)) (λ here. (
+    diverges_at M s held fetched e ready first (λ later t gives made. absurd (omega arith)) (λ here. (
       λ bare. let no : None ≡ Some input = sym (mark_has_none fetched e bare) ∙ has in cc,
       λ other t gives accepts. refused t
           (subst (λ i. Accepts M s i t) (same_Some other input (sym gives ∙ has)) accepts),
     ))
 
 -- the entries of a recorded run fit
-pub runs_fit : {S : Type 0} (M : Machine S) (s : S) (held : List Entry) (fetched : Option (List ℕ)) → Counts M
-    → IsOnTrace M s held fetched → IsStuck M s held fetched → ⊥
-runs_fit M s [] fetched counts on stuck = not_empty M s [] fetched stuck.ready refl
-runs_fit {S} M s (e ∷ es) fetched counts on stuck = elim (leb_tells (count_of e) (M.count s)) [
+pub runs_do_not_diverge : {S : Type 0} (M : Machine S) (s : S) (held : List Entry) (fetched : Option (List ℕ)) → Counts M
+    → IsOnTrace M s held fetched → Diverges M s held fetched → ⊥
+runs_do_not_diverge M s [] fetched counts on stuck = not_empty M s [] fetched stuck.ready refl
+runs_do_not_diverge {S} M s (e ∷ es) fetched counts on stuck = elim (leb_tells (count_of e) (M.count s)) [
   | inl p ↦ at_it (let le = p.1 in let before = not_before M s (e ∷ es) fetched e on refl in omega arith)
   | inr p ↦
       let may : MayStep M s = may_step M s (e ∷ es) fetched e counts on refl p.1 in

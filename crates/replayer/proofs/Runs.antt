@@ -15,12 +15,12 @@ use Rattle.i8080_words.specs.declared.refusal.Fault.TheVariants.{OutOfMemory}
 use Rattle.log_entry.specs.Entries.{count_of, last_count, read_of}
 use Rattle.log_entry.specs.Standing.{IsOnTrace}
 use Rattle.log_entry.specs.declared.entry.Entry.{Entry}
-use Rattle.replayer.specs.Checking.{AnswersAny, AnswersStretch, ComesToFit, InAll, SoFar, Refuses, NoMemory, FitsNowhere, why_after}
+use Rattle.replayer.specs.Checking.{AnswersUntrusted, AnswersStretch, CameOrDiverged, AllFit, SomeFit, Refuses, NoMemory, NoneFits, why_after}
 use Rattle.replayer.specs.Replaying.{Replays, NoMoves, Then, IsBehind, Ends, AllTurns, AtEnd, Waits, NeedsMemory, Came, Answers, wanted, wanted_of, stop_at, replay_end}
 use Rattle.replayer.specs.Standing.{StaysOnEach}
 use Rattle.replayer.specs.declared.replayer.Replayed.{Replayed}
 use Rattle.replayer.proofs.Below.{stays_below}
-use Rattle.replayer.proofs.OneMove.{runs_fit, still_on}
+use Rattle.replayer.proofs.OneMove.{runs_do_not_diverge, still_on}
 use Rattle.replayer.proofs.Standing.{stays_on}
 
 pub goes_on : {S : Type 0} (M : Machine S) (s t : S) (held now : List Entry) (fetched come : Option (List ℕ)) (n : ℕ)
@@ -46,10 +46,10 @@ nothing_more M s t u held left now fetched still come n same_state same_left sam
 
 -- what an answer says was replayed
 pub replayed : {S : Type 0} (M : Machine S) (s t : S) (held left : List Entry) (fetched still : Option (List ℕ))
-    (turns : ℕ) (r : Result Replayed Fault) → AnswersAny M s held fetched turns r t left still
+    (turns : ℕ) (r : Result Replayed Fault) → AnswersUntrusted M s held fetched turns r t left still
     → (n : ℕ) × Replays M s held fetched n t left still
-replayed M s t held left fetched still turns (Ok r) (InAll came) = (r.moves, came.replays)
-replayed M s t held left fetched still turns (Ok r) (SoFar lt came stuck) = (r.moves, came.replays)
+replayed M s t held left fetched still turns (Ok r) (AllFit came fits) = (r.moves, came.replays)
+replayed M s t held left fetched still turns (Ok r) (SomeFit lt came stuck) = (r.moves, came.replays)
 replayed M s t held left fetched still turns (Err fault) a =
     (0, nothing_more M s s t held held left fetched fetched still 0 a.2 a.3 a.4 NoMoves)
 
@@ -76,13 +76,13 @@ word false false other why e = sym (same_Some Wait why e)
 pub at_stop : {S : Type 0} (M : Machine S) (s t : S) (held left : List Entry) (fetched still : Option (List ℕ))
     (turns n : ℕ) (why : ReplayEnd) → n < turns → Replays M s held fetched n t left still
     → stop_at M t left still ≡ Some why
-    → AnswersAny M s held fetched turns (Ok (record { moves = n; why = why })) t left still
-at_stop {S} M s t held left fetched still turns n why lt before stop = InAll (record {
+    → AnswersUntrusted M s held fetched turns (Ok (record { moves = n; why = why })) t left still
+at_stop {S} M s t held left fetched still turns n why lt before stop = AllFit (record {
   replays = before;
   ends = ends (length left == 0) (is_none (wanted M t left still)) refl refl stop;
   why =
       word (length left == 0) (is_none (wanted M t left still)) (cond (n == turns) Turns Memory) why stop;
-})
+}) (λ lt d. let none : Some why ≡ None = sym stop ∙ d.ready in cc)
   where
     ends : (empty none : Bool) → (length left == 0) ≡ empty → is_none (wanted M t left still) ≡ none
         → cond empty (Some End) (cond none None (Some Wait)) ≡ Some why → Ends M turns n t left still
@@ -107,7 +107,7 @@ same_refusal M v t now left come still fault same_state same_left same_bytes why
 pub refused : {S : Type 0} (M : Machine S) (s v t : S) (held now left : List Entry)
     (fetched come still : Option (List ℕ)) (turns most n : ℕ) (fault : Fault) → n < turns → n ≡ 0
     → Replays M s held fetched n v now come → AnswersStretch M v now come most (Err fault) t left still
-    → AnswersAny M s held fetched turns (Err fault) t left still
+    → AnswersUntrusted M s held fetched turns (Err fault) t left still
 refused M s v t held now left fetched come still turns most n fault lt none before a =
     let here : (v ≡ s) × (now ≡ held) × (come ≡ fetched) = nothing_done M s held fetched v now come n none before in (
       omega arith,
@@ -171,9 +171,9 @@ came_all M s t held left fetched still turns n why all before is = record {
 pub all_turns : {S : Type 0} (M : Machine S) (s t : S) (held left : List Entry) (fetched still : Option (List ℕ))
     (turns n : ℕ) (why : ReplayEnd) → n ≡ turns → Replays M s held fetched n t left still
     → why ≡ unwrap_or (stop_at M t left still) Turns
-    → AnswersAny M s held fetched turns (Ok (record { moves = n; why = why })) t left still
+    → AnswersUntrusted M s held fetched turns (Ok (record { moves = n; why = why })) t left still
 all_turns M s t held left fetched still turns n why all before is =
-    InAll (came_all M s t held left fetched still turns n why all before is)
+    AllFit (came_all M s t held left fetched still turns n why all before is) (λ lt d. absurd (omega arith))
 
 -- ---- a stretch is refused after some moves
 
@@ -188,7 +188,7 @@ so_far M s t held left fetched still n before ready =
 pub stopped : {S : Type 0} (M : Machine S) (s v t : S) (held now left : List Entry)
     (fetched come still : Option (List ℕ)) (turns most n : ℕ) (fault : Fault) → n < turns → 0 < n
     → Replays M s held fetched n v now come → AnswersStretch M v now come most (Err fault) t left still
-    → AnswersAny M s held fetched turns (Ok (record { moves = n; why = why_after fault })) t left still
+    → AnswersUntrusted M s held fetched turns (Ok (record { moves = n; why = why_after fault })) t left still
 stopped {S} M s v t held now left fetched come still turns most n fault lt some before a =
     go fault (same_refusal M v t now left come still fault a.1 a.2 a.3 a.0)
   where
@@ -196,48 +196,48 @@ stopped {S} M s v t held now left fetched come still turns most n fault lt some 
     here = nothing_more M s v t held now left fetched come still n a.1 a.2 a.3 before
 
     go : (fault : Fault) → Refuses M t left still fault
-        → ComesToFit M s held fetched turns (record { moves = n; why = why_after fault }) t left still
-    go fault (NoMemory behind) = InAll (record {
+        → CameOrDiverged M s held fetched turns (record { moves = n; why = why_after fault }) t left still
+    go fault (NoMemory behind fits) = AllFit (record {
       replays = here;
       ends = NeedsMemory some lt behind;
       why = memory M t left still turns n lt behind;
-    })
-    go fault (FitsNowhere stuck) = SoFar lt (so_far M s t held left fetched still n here stuck.ready) stuck
+    }) (λ lt. fits)
+    go fault (NoneFits stuck) = SomeFit lt (so_far M s t held left fetched still n here stuck.ready) stuck
 
 -- ---- over the entries of a recorded run
 
 pub exactly : {S : Type 0} (M : Machine S) (s t : S) (held left : List Entry) (fetched still : Option (List ℕ))
     (turns : ℕ) (r : Result Replayed Fault) → Counts M → IsOnTrace M s held fetched
-    → AnswersAny M s held fetched turns r t left still → Answers M s held fetched turns r t left still
-exactly M s t held left fetched still turns (Ok r) counts on (InAll came) = came
-exactly M s t held left fetched still turns (Ok r) counts on (SoFar lt came stuck) =
-    absurd (runs_fit M t left still counts
+    → AnswersUntrusted M s held fetched turns r t left still → Answers M s held fetched turns r t left still
+exactly M s t held left fetched still turns (Ok r) counts on (AllFit came fits) = came
+exactly M s t held left fetched still turns (Ok r) counts on (SomeFit lt came stuck) =
+    absurd (runs_do_not_diverge M t left still counts
     (still_on M s t held left fetched still r.moves counts on came.replays) stuck)
 exactly {S} M s t held left fetched still turns (Err fault) counts on a =
     let why = go fault a.1 in (why.0, a.0, why.1, a.2, a.3, a.4)
   where
     go : (fault : Fault) → Refuses M s held fetched fault → (fault ≡ OutOfMemory) × IsBehind M s held
-    go fault (NoMemory behind) = (refl, behind)
-    go fault (FitsNowhere stuck) = absurd (runs_fit M s held fetched counts on stuck)
+    go fault (NoMemory behind fits) = (refl, behind)
+    go fault (NoneFits stuck) = absurd (runs_do_not_diverge M s held fetched counts on stuck)
 
 -- ---- what holds after a replay, whatever it returns
 
 pub stays_on_each : {S : Type 0} (M : Machine S) (s t : S) (held left : List Entry) (fetched still : Option (List ℕ))
-    (turns : ℕ) (r : Result Replayed Fault) → Counts M → AnswersAny M s held fetched turns r t left still
+    (turns : ℕ) (r : Result Replayed Fault) → Counts M → AnswersUntrusted M s held fetched turns r t left still
     → StaysOnEach M s held fetched t left still
 stays_on_each M s t held left fetched still turns r counts a = λ reads owes moves last stands.
     let before = replayed M s t held left fetched still turns r a in
     stays_on M reads s held fetched t last left still before.0 owes moves counts before.1 stands
 
 pub still_on_trace : {S : Type 0} (M : Machine S) (s t : S) (held left : List Entry) (fetched still : Option (List ℕ))
-    (turns : ℕ) (r : Result Replayed Fault) → Counts M → AnswersAny M s held fetched turns r t left still
+    (turns : ℕ) (r : Result Replayed Fault) → Counts M → AnswersUntrusted M s held fetched turns r t left still
     → IsOnTrace M s held fetched → IsOnTrace M t left still
 still_on_trace M s t held left fetched still turns r counts a on =
     let before = replayed M s t held left fetched still turns r a in
     still_on M s t held left fetched still before.0 counts on before.1
 
 pub below_last : {S : Type 0} (M : Machine S) (s t : S) (held left : List Entry) (fetched still : Option (List ℕ))
-    (turns : ℕ) (r : Result Replayed Fault) → Counts M → AnswersAny M s held fetched turns r t left still
+    (turns : ℕ) (r : Result Replayed Fault) → Counts M → AnswersUntrusted M s held fetched turns r t left still
     → IsOnTrace M s held fetched → M.count t ≤ last_count (M.count s) held
 below_last M s t held left fetched still turns r counts a on =
     let before = replayed M s t held left fetched still turns r a in

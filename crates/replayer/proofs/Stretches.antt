@@ -15,7 +15,7 @@ use Rattle.i8080_words.specs.declared.refusal.Fault.TheVariants.{Spent, Idle, Ma
 use Rattle.log_entry.specs.Entries.{count_of}
 use Rattle.log_entry.specs.declared.entry.Entry.{Entry}
 use Rattle.log_channel.proofs.SentEntries.{first_and_rest}
-use Rattle.replayer.specs.Checking.{AnswersStretch, IsStuck, Refuses, NoMemory, FitsNowhere, seen}
+use Rattle.replayer.specs.Checking.{AnswersStretch, Diverges, Refuses, NoMemory, NoneFits, seen}
 use Rattle.replayer.specs.Replaying.{Moves, Steps, Replays, NoMoves, Then, stop_at}
 use Rattle.replayer.proofs.OneMove.{no_step_toward}
 
@@ -78,14 +78,16 @@ refused_step {S} M s t held fetched e turns most ran fault counts ready first la
   where
     unmade : (step : Option (S × Option Operation)) → M.step s ≡ step
         → Refuses M s held fetched (seen (fault_of (cond (is_none step) (Some Idle) None)))
-    unmade None is = FitsNowhere (no_step_toward M s held fetched e ready first later is)
+    unmade None is = NoneFits (no_step_toward M s held fetched e ready first later is)
     unmade (Some made) is =
-        NoMemory (record { first = e; rest = drop 1 held; held_are = first_and_rest held e first; later = later })
+        let are : held ≡ e ∷ drop 1 held = first_and_rest held e first in
+        NoMemory (record { first = e; rest = drop 1 held; held_are = are; later = later })
+        (λ d. d.no_move made.0 held fetched (Steps are later is))
 
     cause : Refuses M s held fetched (seen (fault_of (step_refusal M s)))
     cause = elim (M.is_spent s) as (λ b. M.is_spent s ≡ b
         → Refuses M s held fetched (seen (fault_of (cond b (Some Spent) (cond (is_none (M.step s)) (Some Idle) None))))) [
-          | true ↦ λ spent. FitsNowhere (no_step_toward M s held fetched e ready first later (counts.spent s spent))
+          | true ↦ λ spent. NoneFits (no_step_toward M s held fetched e ready first later (counts.spent s spent))
           | false ↦ λ spent. unmade (M.step s) refl
         ] refl
 
@@ -98,5 +100,5 @@ one_move M s t held left fetched still turns some one = (omega arith, omega arit
 
 -- an entry that does not fit is a refusal, and nothing is done
 pub fits_nowhere : {S : Type 0} (M : Machine S) (s t : S) (held : List Entry) (fetched : Option (List ℕ)) (turns : ℕ)
-    → t ≡ s → IsStuck M s held fetched → AnswersStretch M s held fetched turns (Err Malformed) t held fetched
-fits_nowhere M s t held fetched turns same stuck = (FitsNowhere stuck, same, refl, refl)
+    → t ≡ s → Diverges M s held fetched → AnswersStretch M s held fetched turns (Err Malformed) t held fetched
+fits_nowhere M s t held fetched turns same stuck = (NoneFits stuck, same, refl, refl)

@@ -12,30 +12,31 @@ use Rattle.log_entry.specs.declared.entry.Entry.{Entry}
 use Rattle.replayer.specs.Replaying.{Moves, Replays, IsBehind, Came, stop_at}
 use Rattle.replayer.specs.declared.replayer.Replayed.{Replayed}
 
--- the entries do not fit: some entry is held, and it waits for no bytes, but no move by it can be made. Its count is
--- past, or the machine makes no step toward it, or does not accept its input
-pub record IsStuck {S : Type 0} (M : Machine S) (s : S) (held : List Entry) (fetched : Option (List ℕ)) : Type 0 where
+-- the entries are not of this machine's run: some entry is held, and it waits for no bytes, but no move by it can be made.
+-- Its count is past, or the machine makes no step toward it, or does not accept its input
+pub record Diverges {S : Type 0} (M : Machine S) (s : S) (held : List Entry) (fetched : Option (List ℕ)) : Type 0 where
   pub ready : stop_at M s held fetched ≡ None
   pub no_move : (t : S) (left : List Entry) (still : Option (List ℕ)) → Moves M s held fetched t left still → ⊥
 
--- why no move is made: a step that could be made runs out of memory, or the entries do not fit
+-- why no move is made: a step that could be made runs out of memory, or the entries fit at no move
 pub data Refuses {S : Type 0} (M : Machine S) (s : S) (held : List Entry) (fetched : Option (List ℕ))
     : Fault → Type 0 where
-  NoMemory : IsBehind M s held → Refuses M s held fetched OutOfMemory
-  FitsNowhere : IsStuck M s held fetched → Refuses M s held fetched Malformed
+  NoMemory : IsBehind M s held → (Diverges M s held fetched → ⊥) → Refuses M s held fetched OutOfMemory
+  NoneFits : Diverges M s held fetched → Refuses M s held fetched Malformed
 
--- an answer is that of a replay of this many turns, or of as many as the entries fit
-pub data ComesToFit {S : Type 0} (M : Machine S) (s : S) (held : List Entry) (fetched : Option (List ℕ)) (turns : ℕ)
+-- an answer is that of a replay of this many turns; or of as many as it made moves, since the entries fit no further
+pub data CameOrDiverged {S : Type 0} (M : Machine S) (s : S) (held : List Entry) (fetched : Option (List ℕ)) (turns : ℕ)
     (r : Replayed) (t : S) (left : List Entry) (still : Option (List ℕ)) : Type 0 where
-  InAll : Came M s held fetched turns r t left still → ComesToFit M s held fetched turns r t left still
-  SoFar : r.moves < turns → Came M s held fetched r.moves r t left still → IsStuck M t left still
-      → ComesToFit M s held fetched turns r t left still
+  AllFit : Came M s held fetched turns r t left still → (r.moves < turns → Diverges M t left still → ⊥)
+      → CameOrDiverged M s held fetched turns r t left still
+  SomeFit : r.moves < turns → Came M s held fetched r.moves r t left still → Diverges M t left still
+      → CameOrDiverged M s held fetched turns r t left still
 
 -- what a replay over any entries returns and leaves; if it is refused, nothing changes
-abbrev pub AnswersAny : {S : Type 0} → Machine S → S → List Entry → Option (List ℕ) → ℕ → Result Replayed Fault → S
+abbrev pub AnswersUntrusted : {S : Type 0} → Machine S → S → List Entry → Option (List ℕ) → ℕ → Result Replayed Fault → S
     → List Entry → Option (List ℕ) → Type 0
-AnswersAny M s held fetched turns (Ok r) t left still = ComesToFit M s held fetched turns r t left still
-AnswersAny M s held fetched turns (Err fault) t left still =
+AnswersUntrusted M s held fetched turns (Ok r) t left still = CameOrDiverged M s held fetched turns r t left still
+AnswersUntrusted M s held fetched turns (Err fault) t left still =
     (0 < turns) × Refuses M s held fetched fault × (t ≡ s) × (left ≡ held) × (still ≡ fetched)
 
 -- how a step that is refused is seen, and why a replay that has made moves makes no more if it is refused
@@ -61,7 +62,7 @@ AnswersStretch M s held fetched turns (Err fault) t left still =
 
 -- ---- laws
 
--- the entries of a recorded run always fit
-abbrev pub RunsFit : Type 0 → Type 0
-RunsFit S = (M : Machine S) (s : S) (held : List Entry) (fetched : Option (List ℕ)) → Counts M
-    → IsOnTrace M s held fetched → IsStuck M s held fetched → ⊥
+-- those of a recorded run never diverge
+abbrev pub RunsDoNotDiverge : Type 0 → Type 0
+RunsDoNotDiverge S = (M : Machine S) (s : S) (held : List Entry) (fetched : Option (List ℕ)) → Counts M
+    → IsOnTrace M s held fetched → Diverges M s held fetched → ⊥

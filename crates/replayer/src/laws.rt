@@ -1,5 +1,5 @@
 //! What follows from the definitions alone, for the crates above.
-ghost use Rattle.replayer.specs.Checking.{RunsFit};
+ghost use Rattle.replayer.specs.Checking.{RunsDoNotDiverge};
 ghost use Rattle.replayer.specs.Following.{FollowingIsRecording};
 ghost use Rattle.replayer.specs.Standing.{ReplaysKeepTo};
 
@@ -14,7 +14,7 @@ pub fn following_is_recording<S>()
     ensures { FollowingIsRecording S }
 {}
 
-/// The entries of a recorded run always fit, so a replay of them is never refused with `Malformed`.
-pub fn runs_fit<S>()
-    ensures { RunsFit S }
+/// The entries of a recorded run never diverge, so a replay of them is never refused with `Malformed`.
+pub fn runs_do_not_diverge<S>()
+    ensures { RunsDoNotDiverge S }
 {}

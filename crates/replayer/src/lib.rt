@@ -8,5 +8,5 @@ mod replay;
 mod replayer;
 
 pub use following::{Followed, follow};
-pub use laws::{following_is_recording, replays_keep_to_the_trace, runs_fit};
+pub use laws::{following_is_recording, replays_keep_to_the_trace, runs_do_not_diverge};
 pub use replayer::{Replayed, Replayer};

@@ -19,7 +19,7 @@ pub(crate) fn run<B: Lockstep>(
     receiver: &mut Receiver,
     turns: u64,
 ) -> R<Replayed>
-    ensures answers { checking.AnswersAny B.machine (B.state board.old) receiver.old.entries fetched.old turns result
+    ensures answers { checking.AnswersUntrusted B.machine (B.state board.old) receiver.old.entries fetched.old turns result
         (B.state board.new) receiver.new.entries fetched.new }
     ensures held { receiver.new ≡ record receiver.old { entries = receiver.new.entries } }
     ensures unchanged { OnErr result

@@ -63,7 +63,7 @@ impl<B: Lockstep> Replayer<B> {
     /// next one is a read whose bytes have not arrived, a step runs out of memory, or no move by the next one can be made,
     /// since it is not of this guest's run. If the first move is not made, it is refused with `OutOfMemory` or `Malformed`.
     pub fn replay(&mut self, receiver: &mut Receiver, turns: u64) -> R<Replayed>
-        ensures answers { checking.AnswersAny B.machine (B.state self.old.board) receiver.old.entries self.old.fetched
+        ensures answers { checking.AnswersUntrusted B.machine (B.state self.old.board) receiver.old.entries self.old.fetched
             turns result (B.state self.new.board) receiver.new.entries self.new.fetched }
         ensures exactly { IsOnTrace B.machine (B.state self.old.board) receiver.old.entries self.old.fetched
             → table.Answers B.machine (B.state self.old.board) receiver.old.entries self.old.fetched turns
