@@ -1,7 +1,8 @@
 //! The disk that both nodes share.
-ghost use Rattle.std.specs.Prelude.{◌≡◌, ◌+◌, Some, OnOk, OnErr, IfOk, IfErr};
+ghost use Rattle.std.specs.Prelude.{◌≡◌, Some, OnOk, OnErr, IfOk, IfErr};
 ghost use Rattle.disk_dcdd.specs.Address.{address_of};
 ghost use Rattle.shared_disk.specs.Arrivals.{GoesOn, after_put, read_at};
+ghost use Rattle.shared_disk.specs.Failing.{before_failures};
 ghost use Rattle.shared_disk.specs.Records as table;
 
 use crate::store::{Record, SectorStore};
@@ -48,7 +49,7 @@ impl<D: SectorStore> SharedDisk<D> {
         ensures refused { IfErr result
             (λ fault. fault ≡ table.refusal_at (D.records self.old) (address_of write.now)) }
         ensures unchanged { OnErr result (D.records self.new ≡ D.records self.old) }
-        ensures counted { D.failures self.new ≡ D.failures self.old + table.faults_in result }
+        ensures counted { D.may_fail self.old ≡ before_failures (table.faults_in result) (D.may_fail self.new) }
         ensures shared { OnOk result (GoesOn (D.records self.old) write.now (D.records self.new)) }
     {
         let address = write.address();
@@ -69,7 +70,7 @@ impl<D: SectorStore> SharedDisk<D> {
         ensures ok { IfOk result (λ read. read_at (D.records self.old) address ≡ Some read) }
         ensures refused { IfErr result (λ fault. fault ≡ table.refusal_at (D.records self.old) address) }
         ensures unchanged { D.records self.new ≡ D.records self.old }
-        ensures counted { D.failures self.new ≡ D.failures self.old + table.faults_in result }
+        ensures counted { D.may_fail self.old ≡ before_failures (table.faults_in result) (D.may_fail self.new) }
     {
         let found = self.store.read(address)?;
         let bytes = found.bytes;

@@ -1,7 +1,7 @@
 //! Records on a device that fails once.
-ghost use Rattle.std.specs.Prelude.{◌≡◌, ◌⊎◌, ◌+◌, ◌-◌, ◌==◌, false, true, IfErr, IfOk, OnErr, OnOk};
+ghost use Rattle.std.specs.Prelude.{◌≡◌, ◌⊎◌, IfErr, IfOk, OnErr, OnOk};
 ghost use Rattle.i8080_words.specs.declared.refusal.Fault.TheVariants.{DeviceFault};
-ghost use Rattle.shared_disk.specs.Failing.{Counts, Fails, FailsOnce, IsOnce, Refuses, failures_in};
+ghost use Rattle.shared_disk.specs.Failing.{Counts, Fails, FailsOnce, Refuses, before_failures, may_fail_in};
 ghost use Rattle.shared_disk.specs.Records as table;
 
 use crate::memory_store::MemoryStore;
@@ -17,7 +17,6 @@ pub struct FailOnce<D: SectorStore> {
     store: D,
     // How many accesses are left up to the one that fails, itself included; 0 if none will fail.
     left: u64,
-    failed: bool,
 }
 
 /// Records in memory, of which one read or write fails if the script says so: the disk of the program.
@@ -26,30 +25,26 @@ pub type Disk = FailOnce<MemoryStore>;
 impl<D: SectorStore> Model for FailOnce<D> {
     ghost Value = { FailsOnce D };
 
-    ghost view = { λ s. record { store = s.store; left = s.left; failed = s.failed } };
-
-    ghost invariant = { λ s. IsOnce (record { store = s.store; left = s.left; failed = s.failed }) };
+    ghost view = { λ s. record { store = s.store; left = s.left } };
 }
 
 impl<D: SectorStore> FailOnce<D> {
     /// A store whose access of this number fails, counted from 1; with 0 none does.
     pub fn new(store: D, access: u64) -> FailOnce<D>
-        ensures { result ≡ record { store = store; left = access; failed = false } }
+        ensures { result ≡ record { store = store; left = access } }
     {
         FailOnce {
             store,
             left: access,
-            failed: false,
         }
     }
 
     // The device fails: there is no further access to count.
     fn fail(&mut self) -> Fault
         ensures fault { result ≡ DeviceFault }
-        ensures failed { self.new ≡ record self.old { left = 0; failed = true } }
+        ensures failed { self.new ≡ record self.old { left = 0 } }
     {
         self.left = 0;
-        self.failed = true;
         Fault::DeviceFault
     }
 }
@@ -57,7 +52,7 @@ impl<D: SectorStore> FailOnce<D> {
 impl<D: SectorStore> SectorStore for FailOnce<D> {
     ghost records = { λ s. D.records s.store };
 
-    ghost failures = { failures_in D.failures };
+    ghost may_fail = { may_fail_in D.may_fail };
 
     fn has_whole_sectors(&self) {
         self.store.has_whole_sectors()
@@ -67,7 +62,8 @@ impl<D: SectorStore> SectorStore for FailOnce<D> {
         ensures ok { IfOk result (λ found. table.IsAt (D.records self.old.store) address found) }
         ensures refused { IfErr result (λ fault. fault ≡ table.refusal_at (D.records self.old.store) address) }
         ensures unchanged { D.records self.new.store ≡ D.records self.old.store }
-        ensures counted { failures_in D.failures self.new ≡ failures_in D.failures self.old + table.faults_in result }
+        ensures counted { may_fail_in D.may_fail self.old
+            ≡ before_failures (table.faults_in result) (may_fail_in D.may_fail self.new) }
         ensures counts { OnOk result (Counts self.old self.new) }
         ensures fails { OnErr result (Fails self.old self.new ⊎ Refuses self.old self.new) }
     {
@@ -85,7 +81,8 @@ impl<D: SectorStore> SectorStore for FailOnce<D> {
             ≡ table.with_record (D.records self.old.store) address content) }
         ensures refused { IfErr result (λ fault. fault ≡ table.refusal_at (D.records self.old.store) address) }
         ensures unchanged { OnErr result (D.records self.new.store ≡ D.records self.old.store) }
-        ensures counted { failures_in D.failures self.new ≡ failures_in D.failures self.old + table.faults_in result }
+        ensures counted { may_fail_in D.may_fail self.old
+            ≡ before_failures (table.faults_in result) (may_fail_in D.may_fail self.new) }
         ensures counts { OnOk result (Counts self.old self.new) }
         ensures fails { OnErr result (Fails self.old self.new ⊎ Refuses self.old self.new) }
     {

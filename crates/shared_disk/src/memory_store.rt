@@ -1,5 +1,5 @@
 //! Records in memory.
-ghost use Rattle.std.specs.Prelude.{◌≡◌, ◌⊎◌, IfErr, IfOk, IsOkUnless, length};
+ghost use Rattle.std.specs.Prelude.{◌≡◌, ◌⊎◌, Some, IfErr, IfOk, IsOkUnless, length};
 ghost use Rattle.disk_dcdd.specs.declared.sector.TheConstants.{SECTOR_BYTES};
 ghost use Rattle.i8080_words.specs.declared.refusal.Fault.TheVariants.{OutOfMemory, Unknown};
 ghost use Rattle.shared_disk.specs.Records as table;
@@ -102,7 +102,7 @@ fn has_all(bytes: &[u8; SECTOR_BYTES])
 impl SectorStore for MemoryStore {
     ghost records = { λ s. s };
 
-    ghost failures = { λ s. 0 };
+    ghost may_fail = { λ s. Some 0 };
 
     fn has_whole_sectors(&self) {
         let _ = &self.records;

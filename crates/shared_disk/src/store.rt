@@ -1,5 +1,6 @@
 //! Where a disk's records are kept.
-ghost use Rattle.std.specs.Prelude.{◌≡◌, ℕ, ◌+◌, List, OnOk, OnErr, IfOk, IfErr};
+ghost use Rattle.std.specs.Prelude.{◌≡◌, ℕ, List, Option, OnOk, OnErr, IfOk, IfErr};
+ghost use Rattle.shared_disk.specs.Failing.{before_failures};
 ghost use Rattle.shared_disk.specs.Records as table;
 ghost use Rattle.shared_disk.specs.declared.store.Record.{Record};
 
@@ -19,8 +20,8 @@ pub trait SectorStore: Drop {
     /// The record of each sector, by its index in a table of them all.
     ghost records: { Self → List Record };
 
-    /// How often the device has failed.
-    ghost failures: { Self → ℕ };
+    /// How often the device may still fail; `None` if nothing bounds that.
+    ghost may_fail: { Self → Option ℕ };
 
     /// A law: each record has as many bytes as a sector has.
     fn has_whole_sectors(&self)
@@ -31,7 +32,7 @@ pub trait SectorStore: Drop {
         ensures ok { IfOk result (λ found. table.IsAt (records self.old) address found) }
         ensures refused { IfErr result (λ fault. fault ≡ table.refusal_at (records self.old) address) }
         ensures unchanged { records self.new ≡ records self.old }
-        ensures counted { failures self.new ≡ failures self.old + table.faults_in result };
+        ensures counted { may_fail self.old ≡ before_failures (table.faults_in result) (may_fail self.new) };
 
     /// Puts a record into a sector.
     fn write(&mut self, address: SectorAddress, content: Record) -> R<()>
@@ -39,5 +40,5 @@ pub trait SectorStore: Drop {
         ensures ok { OnOk result (records self.new ≡ table.with_record (records self.old) address content) }
         ensures refused { IfErr result (λ fault. fault ≡ table.refusal_at (records self.old) address) }
         ensures unchanged { OnErr result (records self.new ≡ records self.old) }
-        ensures counted { failures self.new ≡ failures self.old + table.faults_in result };
+        ensures counted { may_fail self.old ≡ before_failures (table.faults_in result) (may_fail self.new) };
 }
