@@ -1,0 +1,5 @@
+pub mod FieldLaws
+pub mod KindLaws
+pub mod BodyLaws
+pub mod HeadLaws
+pub mod StreamLaws

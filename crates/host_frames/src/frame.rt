@@ -1,0 +1,88 @@
+//! What one frame says.
+
+use disk_dcdd::{SectorAddress, SectorWrite};
+use event_callbacks::PORTS;
+use pair_events::Role;
+use shared_disk::SectorRead;
+
+/// What one frame says. Hosts are named by their places at the switch, which passes frames on.
+#[derive(Clone, Copy)]
+pub enum Frame<'a> {
+    /// A packet of the log, an acknowledgement or a part of an image, to this host; the switch writes the sender in its
+    /// place. No bytes say only that the sender is there.
+    Packet { host: u8, bytes: &'a [u8] },
+    Transfer(Transfer),
+    Notice(Notice),
+}
+
+/// What passes between a host and a terminal or the disk. Numbers are at most `GREATEST_NUMBER`.
+#[derive(Clone, Copy)]
+pub enum Transfer {
+    /// A released byte of a port.
+    Byte { port: u8, number: u64, byte: u8 },
+    /// The key that was typed at a port as the one of this index.
+    Key { port: u8, index: u64, byte: u8 },
+    /// The terminal of a port has accepted so many bytes.
+    Accepted { port: u8, count: u64 },
+    /// A released write.
+    Write(SectorWrite),
+    /// The write of this number is on the disk.
+    Written(u64),
+    /// The device refused the write of this number.
+    Failed(u64),
+    /// A host asks for a sector.
+    Get(SectorAddress),
+    /// What the disk has there.
+    Sector(SectorRead),
+}
+
+/// What is said between a host and the arbiter or the switch. Generations are at least 1.
+#[derive(Clone, Copy)]
+pub enum Notice {
+    /// A host of this generation asks the arbiter.
+    Suspect(u32),
+    /// The host has won this generation.
+    Won(u32),
+    /// Another host has won this generation.
+    Lost(u32),
+    /// The stream of this host has ended.
+    Gone(u8),
+    /// A host that is alone may begin this generation with that spare.
+    Begin {
+        generation: u32,
+        host: u8,
+    },
+    /// A spare is to be the backup of this host, from so many steps on, for a machine of 1 to 4 drives.
+    Join {
+        generation: u32,
+        host: u8,
+        drives: u8,
+        count: u64,
+    },
+    Report(Report),
+    /// How many entries the log of this host has, and how many steps its machine has made.
+    Progress {
+        host: u8,
+        entries: u64,
+        count: u64,
+    },
+    /// The switch is there.
+    Tick,
+    /// The process is to end.
+    Stop,
+}
+
+/// What a host says of itself.
+#[derive(Clone, Copy)]
+pub struct Report {
+    /// 0 if it is a spare, and otherwise at least 1.
+    pub generation: u32,
+    /// None if it is a spare.
+    pub role: Option<Role>,
+    /// How many steps its machine has made.
+    pub count: u64,
+    /// How many keys of each port it has taken.
+    pub taken: [u64; PORTS],
+    /// How many of those the terminal need not keep any longer.
+    pub covered: [u64; PORTS],
+}
