@@ -212,6 +212,7 @@ fn conclude<B: Lockstep + Drop, D: SectorStore>(
     ensures lists { IfOk result (λ e. (e.primary ≡ primary.list) × (e.backup ≡ backup.guest.list)
         × (e.held ≡ last_or 0 backup.seat.core.known.backup.held_values)) }
     ensures boards { IfOk result (λ e. (e.primary_board ≡ primary.guest.board) × (e.backup_board ≡ backup.guest.board)) }
+    ensures waiting { IfOk result (λ e. e.waiting ≡ primary.guest.waiting) }
     ensures typed { IfOk result (λ e. (e.typed0.items ≡ primary.port0.typed.items)
         × (e.typed1.items ≡ primary.port1.typed.items)) }
     ensures there { (first : List Record) → KeepsSectors first (D.records disk.disk)
