@@ -2,7 +2,7 @@
 -- the run that it follows takes that sector there, so it was ready at the selected drive, and is a sector of the disk. If
 -- the answer has the number of the read, its bytes are those that the run takes, as in every world that actions reach; so
 -- they may be kept.
-use Rattle.ft_world.proofs.Words.{Applies, Backup, Course, Do, Draining, Entry, Fault, Fetched, GetsSector, Guest, Host, Input, Machine, Message, Move, Never, Node, NotDue, OfNode, OutOfMemory, Reads, Record, Replaying, Reply, Running, SectorAddress, SectorRead, Shows, Stays, Take, Unknown, Wants, World, acts_as, at_fetched, at_node, drop-at, entries, entry_of, faults_in, fetch_refusal, fetched_refusal, first-passed, has_sector, is-at-read, machine_of, next_read, node-passed, nodes_stand, read_address, refusal, replaying, role_refusal, sector_of, wanted, wanted_of}
+use Rattle.ft_world.proofs.Words.{Applies, Backup, Course, Do, Draining, Entry, Fault, Fetched, GetsSector, Guest, Host, Input, Machine, Message, Move, Never, Node, NotDue, OfNode, OutOfMemory, Reads, Record, Replaying, Reply, Running, SectorAddress, SectorRead, Shows, Stays, Take, Unknown, Wants, World, acts_as, at_fetched, at_node, before_failures, drop-at, entries, entry_of, faults_in, fetch_refusal, fetched_refusal, first-passed, has_sector, is-at-read, machine_of, next_read, node-passed, nodes_stand, read_address, refusal, replaying, role_refusal, sector_of, wanted, wanted_of}
 use Rattle.std.proofs.Common.{◌≡◌, ◌≤◌, ◌+◌, ◌∙◌, ◌++◌, [], ◌∷◌, Bool, Err, List, None, Ok, Option, Some, ap, arith, drop, false, inr, not, refl, subst, suc, sym, true, ℕ}
 use Rattle.std.specs.Option.{option_and_then}
 use Rattle.std.specs.Prelude.{IfErr, IsTrue, Result, if◌then◌else◌, is_none, slice_get, ◌==◌}
@@ -198,9 +198,9 @@ module _ {B H D S : Type 0} (state : B → S) (copied : B → Guest) (M : Machin
           reply = refl;
         }) a
 
-pub fetches_no_failure : {S : Type 0} (M : Machine S) (w : World S) (n failures : ℕ) (fault : Fault)
+pub fetches_no_failure : {S : Type 0} (M : Machine S) (w : World S) (n : ℕ) (may : Option ℕ) (fault : Fault)
     (result : Result Reply Fault) → result ≡ Err fault → AsksNode w n (fetch_refusal M) Never (Wants M) (Err fault) →
-    failures ≡ failures + faults_in result
-fetches_no_failure M w n failures fault result is a =
-    asked_no_failure w n failures (λ x. not (acts_as x (Backup ∷ Draining ∷ []))) (λ x. is_none (wanted M x)) (Wants M) fault
+    may ≡ before_failures (faults_in result) may
+fetches_no_failure M w n may fault result is a =
+    asked_no_failure w n may (λ x. not (acts_as x (Backup ∷ Draining ∷ []))) (λ x. is_none (wanted M x)) (Wants M) fault
     result is a

@@ -1,7 +1,7 @@
 -- A sector is read at the track of the selected drive's head, by a node that serves. Its machine was run from boot, so
 -- it is a sector of the disk; what is read is what the writes that arrived have left there.
-use Rattle.ft_world.proofs.Words.{Accepts, Alone, Applies, AreMessages, Course, DeviceFails, Does, Event, Fault, GetsSector, Guest, IsDisk, IsRead, IsUnder, Machine, MayNeedMemory, Message, NeedsMemory, Never, Node, NotDue, OfNode, Primary, Record, Reply, Row, Running, SectorAddress, SectorRead, Serving, Shows, ShowsSome, Spare, Unknown, World, WrongRole, acts_as, at_node, fault_if, faults_in, first-passed, first_of, get_refusal, has_sector, is_disk, is_on_disk, is_role, machine_of, no_sector, node-passed, read_of, record_at, refusal, reply_of, same_some, sector_record, serves, serving, with_read}
-use Rattle.std.proofs.Common.{◌≡◌, ◌<◌, ◌+◌, ◌≤◌, [], ◌∷◌, ◌∙◌, Bool, Err, List, None, Ok, Some, ap, arith, cond, false, inl, inr, ltb-true, not, refl, subst, sym, true, ℕ}
+use Rattle.ft_world.proofs.Words.{Accepts, Alone, Applies, AreMessages, Course, DeviceFails, Does, Event, Fault, GetsSector, Guest, IsDisk, IsRead, IsUnder, Machine, MayNeedMemory, Message, NeedsMemory, Never, Node, NotDue, OfNode, Primary, Record, Reply, Row, Running, SectorAddress, SectorRead, Serving, Shows, ShowsSome, Spare, Unknown, World, WrongRole, acts_as, at_node, before_failures, fault_if, faults_in, first-passed, first_of, get_refusal, has_sector, is_disk, is_on_disk, is_role, machine_of, no_sector, node-passed, read_of, record_at, refusal, reply_of, same_some, sector_record, serves, serving, with_read}
+use Rattle.std.proofs.Common.{◌≡◌, ◌<◌, ◌≤◌, [], ◌∷◌, ◌∙◌, Bool, Err, List, None, Ok, Some, ap, arith, cond, false, inl, inr, ltb-true, not, refl, subst, sym, true, ℕ}
 use Rattle.std.specs.Option.{option_map}
 use Rattle.std.specs.Prelude.{IsTrue, Option, Result, is_none, length, nat_le, nat_lt, slice_get}
 use Rattle.std.proofs.lemmas.Bool.{and_parts, le-leb, lt-leb}
@@ -75,20 +75,20 @@ no_place {S} role due (Some x) fault e = go (is_role x.role Spare) e
     go true e = same_fault Unknown fault e refl
     go false e = no_role_or_drive (role x) (due x) fault e
 
-pub asked_no_failure : {S : Type 0} (w : World S) (n failures : ℕ) (role due : Node S → Bool)
+pub asked_no_failure : {S : Type 0} (w : World S) (n : ℕ) (may : Option ℕ) (role due : Node S → Bool)
     (says : SectorAddress → Node S → Type 0) (fault : Fault) (result : Result Reply Fault) → result ≡ Err fault →
-    AsksNode w n (not_asking role due) Never says (Err fault) → failures ≡ failures + faults_in result
-asked_no_failure w n failures role due says fault result is a =
+    AsksNode w n (not_asking role due) Never says (Err fault) → may ≡ before_failures (faults_in result) may
+asked_no_failure w n may role due says fault result is a =
     let none : faults_in result ≡ 0 = ap faults_in is
     ∙ no_place role due (slice_get w.nodes n) fault (node_asked_not w n (not_asking role due) fault a) in
-    omega (arith, none)
+    ap (λ k. before_failures k may) (sym none)
 
-pub gets_no_failure : {S : Type 0} (M : Machine S) (w : World S) (n sector failures : ℕ) (fault : Fault)
+pub gets_no_failure : {S : Type 0} (M : Machine S) (w : World S) (n sector : ℕ) (may : Option ℕ) (fault : Fault)
     (result : Result Reply Fault) → result ≡ Err fault →
     AsksNode w n (get_refusal M) Never (IsUnder M sector) (Err fault) →
-    failures ≡ failures + faults_in result
-gets_no_failure M w n sector failures fault result is a =
-    asked_no_failure w n failures (λ x. not (acts_as x (Primary ∷ Alone ∷ []))) (λ x. is_none (M.selected x.machine))
+    may ≡ before_failures (faults_in result) may
+gets_no_failure M w n sector may fault result is a =
+    asked_no_failure w n may (λ x. not (acts_as x (Primary ∷ Alone ∷ []))) (λ x. is_none (M.selected x.machine))
     (IsUnder M sector) fault result is a
 
 -- What is read.

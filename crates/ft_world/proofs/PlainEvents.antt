@@ -1,14 +1,7 @@
 -- An event that leaves the disk as it was, and that changes nothing if it is refused.
-use Rattle.ft_world.proofs.Words.{Event, Fault, Guest, Happens, HasApplied, Machine, PagesAfter, Record, Reply, Running, SparesAfter, Stays, TellsStale, failures_told}
-use Rattle.std.proofs.Common.{◌≡◌, ℕ, ◌+◌, Bool, Err, List, Ok, Result, ap, arith, ◌∙◌, sym}
+use Rattle.ft_world.proofs.Words.{Event, Fault, Guest, Happens, HasApplied, Machine, PagesAfter, Record, Reply, Running, SparesAfter, Stays, TellsStale, before_failures, failures_told}
+use Rattle.std.proofs.Common.{◌≡◌, ℕ, Bool, Err, List, Ok, Option, Result, ap, ◌∙◌, sym}
 use Rattle.std.specs.Prelude.{IfErr, OnErr}
-
--- no failure is counted
-not_counted : {D : Type 0} (failures : D → ℕ) (old new : D) → new ≡ old → failures new ≡ failures old + 0
-not_counted failures old new same =
-    let e = ap failures same in
-    let n = failures old in
-    (grind (arith, e))
 
 -- what holds of a refusal holds whatever its reason is
 pub refused_so : {A : Type 0} (r : Result A Fault) (T : Type 0) → OnErr r T → IfErr r (λ fault. T)
@@ -17,15 +10,15 @@ refused_so (Err fault) T so = so
 
 -- the event has happened, and the disk has told of no failure
 pub with_the_disk : {B H D S : Type 0} {state : B → S} {copied : B → Guest} {M : Machine S} {records : D → List Record}
-    {failures : D → ℕ} {writes : S → ℕ → Bool} {stale : B → ℕ → Bool} {old new : Running B H D} {e : Event}
+    {may_fail : D → Option ℕ} {writes : S → ℕ → Bool} {stale : B → ℕ → Bool} {old new : Running B H D} {e : Event}
     {answer : Result Reply Fault} → Happens state copied M records old e answer new → new.disk ≡ old.disk
     → failures_told e answer ≡ 0 → IfErr answer (λ fault. Stays records e fault old new)
     → SparesAfter e answer old.hosts new.hosts → TellsStale stale e answer old.hosts new.hosts
     → PagesAfter state M writes stale e answer old.hosts new.hosts
-    → HasApplied state copied M records failures writes stale old e answer new
-with_the_disk {failures = failures} {writes} {stale} {old} {new} row disk none unchanged spares told pages = record {
+    → HasApplied state copied M records may_fail writes stale old e answer new
+with_the_disk {may_fail = may_fail} {writes} {stale} {old} {new} row disk none unchanged spares told pages = record {
   row = row;
-  counted = not_counted failures old.disk new.disk disk ∙ ap (λ n. failures old.disk + n) (sym none);
+  counted = sym (ap may_fail disk) ∙ ap (λ n. before_failures n (may_fail new.disk)) (sym none);
   unchanged = unchanged;
   spares = spares;
   told_stale = told;

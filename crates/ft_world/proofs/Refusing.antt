@@ -1,5 +1,5 @@
 -- What a refused event changes, if anything: a node that lost is halted, and a disk that failed keeps its records and may
--- have counted the failure.
+-- fail once less.
 use Rattle.ft_world.proofs.Words.{Asking, Copying, DeviceFault, DiskFails, Except, Fault, GetsSector, Guest, Host, IsAt, IsHost, IsNode, IsStation, IsUnder, Joining, Lost, Machine, Message, Never, Node, NodeHalts, NotWhole, OutOfMemory, PutsWrite, Record, Reply, Running, SectorAddress, SectorWrite, ShowsSome, Station, Stays, Suspects, SuspectsOf, Unless, WithStation, Won, WrongRole, address_of, fault_if, first_of, get_refusal, halts, is_role, machine_of, winner_of, write_of}
 use Rattle.std.proofs.Common.{◌≡◌, ◌∷◌, ◌<◌, ◌∙◌, ◌≢◌, [], Bool, Err, List, None, Ok, Option, Result, Some, ap, false, inl, inr, not, refl, subst, sym, true, ℕ}
 use Rattle.std.specs.Prelude.{IfErr, slice_get, slice_set, ◌⊎◌}

@@ -43,6 +43,7 @@ pub use Rattle.pair_protocol.specs.Rows.{AtNode, Does, MayNeedMemory, OfNode, dr
 pub use Rattle.pair_protocol.specs.Settled.{Settled, Settles, count_in, highest, is_backup, list_of}
 pub use Rattle.pair_protocol.specs.World.{Released, SectorRecord, Winner, World, accepted, accepted_after, accepted_in, latest, no_terminal, opening, record_after, sector_record, terminal, terminal_in, winner_in, with_arrival, with_host, with_key, with_message, with_node, with_pair, with_put, with_read, with_told, with_winner}
 pub use Rattle.shared_disk.specs.Arrivals.{IsGreatest, after_meeting, after_put, read_of, record_of, written_at, read_address}
+pub use Rattle.shared_disk.specs.Failing.{before_failures}
 pub use Rattle.shared_disk.specs.Records.{IsAt, boot_record, faults_in, record_at, refusal_at, with_record}
 pub use Rattle.shared_disk.specs.declared.disk.SectorRead.{SectorRead}
 pub use Rattle.shared_disk.specs.declared.store.Record.{Record}

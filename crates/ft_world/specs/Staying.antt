@@ -52,7 +52,7 @@ abbrev pub Except : Fault → Fault → Type 0 → Type 0 → Type 0
 Except reason fault changes same = (fault ≡ reason → changes) × (fault ≢ reason → same)
 
 -- a refused event leaves everything as it was, except that a node that asked the arbiter and lost is halted, and that a
--- disk that failed may have counted the failure
+-- disk that failed may fail once less
 abbrev pub Stays : {B H D : Type 0} → (D → List Record) → Event → Fault → Running B H D → Running B H D → Type 0
 Stays records (event.Suspect n) fault old new = Except Lost fault (NodeHalts n old new) (new ≡ old)
 Stays records (event.Put m) fault old new = Except DeviceFault fault (DiskFails records old new) (new ≡ old)

@@ -1,5 +1,6 @@
 //! The events at terminals and at the disk, and the answers that nodes get.
-ghost use Rattle.std.specs.Prelude.{◌≡◌, ◌+◌, IfErr, OnErr, OnOk};
+ghost use Rattle.std.specs.Prelude.{◌≡◌, IfErr, OnErr, OnOk};
+ghost use Rattle.shared_disk.specs.Failing.{before_failures};
 ghost use Rattle.shared_disk.specs.Records.{faults_in};
 ghost use Rattle.ft_world.specs.Applies.{Happens, ShowsSome};
 ghost use Rattle.ft_world.specs.Freshened.{PagesKeep};
@@ -103,7 +104,7 @@ impl<B: Copies<H> + Drop, D: SectorStore, H: Drop> Pair<B, D, H> {
         requires shown { ShowsSome B.state B.copied B.machine D.records (running_of self.old) }
         ensures row { Happens B.state B.copied B.machine D.records (running_of self.old) (happens.Put message) result
             (running_of self.new) }
-        ensures counted { D.failures self.new.disk ≡ D.failures self.old.disk + faults_in result }
+        ensures counted { D.may_fail self.old.disk ≡ before_failures (faults_in result) (D.may_fail self.new.disk) }
         ensures unchanged { IfErr result (λ fault. Stays D.records (happens.Put message) fault (running_of self.old)
             (running_of self.new)) }
         ensures pages { OnOk result (PagesKeep B.stale self.old.hosts.items self.new.hosts.items) }
@@ -137,7 +138,7 @@ impl<B: Copies<H> + Drop, D: SectorStore, H: Drop> Pair<B, D, H> {
         requires shown { ShowsSome B.state B.copied B.machine D.records (running_of self.old) }
         ensures row { Happens B.state B.copied B.machine D.records (running_of self.old) (happens.Get node sector) result
             (running_of self.new) }
-        ensures counted { D.failures self.new.disk ≡ D.failures self.old.disk + faults_in result }
+        ensures counted { D.may_fail self.old.disk ≡ before_failures (faults_in result) (D.may_fail self.new.disk) }
         ensures unchanged { IfErr result (λ fault. Stays D.records (happens.Get node sector) fault (running_of self.old)
             (running_of self.new)) }
         ensures pages { OnOk result (PagesKeep B.stale self.old.hosts.items self.new.hosts.items) }

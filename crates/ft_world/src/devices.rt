@@ -1,8 +1,9 @@
 //! What an event does at the terminals, and at the disk with the answer that it sends.
-ghost use Rattle.std.specs.Prelude.{◌≡◌, ◌<◌, ◌+◌, IfErr, OnOk, ok_or, slice_get, slice_set};
+ghost use Rattle.std.specs.Prelude.{◌≡◌, ◌<◌, IfErr, OnOk, ok_or, slice_get, slice_set};
 ghost use Rattle.disk_dcdd.specs.Completion.{answered};
 ghost use Rattle.event_callbacks.specs.declared.devices.TheConstants.{PORTS};
 ghost use Rattle.i8080_words.specs.declared.refusal.Fault.TheVariants.{OutOfMemory, Unknown};
+ghost use Rattle.shared_disk.specs.Failing.{before_failures};
 ghost use Rattle.shared_disk.specs.Records.{faults_in};
 ghost use Rattle.terminals.specs.Screen.{after_telling};
 ghost use Rattle.ft_world.specs.Devices as table;
@@ -51,7 +52,7 @@ pub(crate) fn put<D: SectorStore>(
     ensures row { table.PutsWrite messages.old.items (D.records disk.old) write.now result messages.new.items
         (D.records disk.new) }
     ensures untouched { IfErr result (λ fault. fault ≡ OutOfMemory → disk.new ≡ disk.old) }
-    ensures counted { D.failures disk.new ≡ D.failures disk.old + faults_in result }
+    ensures counted { D.may_fail disk.old ≡ before_failures (faults_in result) (D.may_fail disk.new) }
 {
     messages.reserve(1)?;
     disk.put(write)?;
@@ -142,7 +143,7 @@ pub(crate) fn get<D: SectorStore>(
     ensures row { table.GetsSector messages.old.items (D.records disk.old) address result messages.new.items
         (D.records disk.new) }
     ensures untouched { IfErr result (λ fault. fault ≡ OutOfMemory → disk.new ≡ disk.old) }
-    ensures counted { D.failures disk.new ≡ D.failures disk.old + faults_in result }
+    ensures counted { D.may_fail disk.old ≡ before_failures (faults_in result) (D.may_fail disk.new) }
 {
     messages.reserve(1)?;
     let mut read = Box::new(alloc, nothing_read())?;

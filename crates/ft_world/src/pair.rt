@@ -1,9 +1,10 @@
 //! A pair with everything that it shares, how it begins, and the events that happen in it.
-ghost use Rattle.std.specs.Prelude.{◌≡◌, ◌+◌, [], ◌∷◌, ◌++◌, false, true, length, IfErr, IfOk, OnErr, OnOk};
+ghost use Rattle.std.specs.Prelude.{◌≡◌, [], ◌∷◌, ◌++◌, false, true, length, IfErr, IfOk, OnErr, OnOk};
 ghost use Rattle.i8080_words.specs.declared.refusal.Fault.TheVariants.{OutOfMemory};
 ghost use Rattle.pair_protocol.specs.Copying.{Copying};
 ghost use Rattle.pair_protocol.specs.Grows.{Grows};
 ghost use Rattle.pair_protocol.specs.World.{with_host};
+ghost use Rattle.shared_disk.specs.Failing.{before_failures};
 ghost use Rattle.shared_disk.specs.Records.{faults_in, refusal_at};
 ghost use Rattle.ft_world.specs.Applies.{IsFaithful, IsSectorOf, Runs, Shows, ShowsSome, failures_over};
 ghost use Rattle.ft_world.specs.Beginning.{MayBegin, MayBeginSome, beginning};
@@ -52,9 +53,10 @@ impl<B: Copies<H> + Drop, D: SectorStore, H: Drop> Pair<B, D, H> {
         store: D,
     ) -> Pair<B, D, H>
         requires may { MayBeginSome B.state B.copied B.machine D.records primary backup store }
-        ensures { (C : Copying B.State) → MayBegin B.state B.copied B.machine C D.records primary backup store
+        ensures shows { (C : Copying B.State) → MayBegin B.state B.copied B.machine C D.records primary backup store
             → Shows B.state B.copied B.machine D.records (running_of result)
             (beginning B.machine C reads (B.state primary) (D.records store)) }
+        ensures disk { result.disk ≡ store }
     {
         Pair {
             hosts: room.begin(alloc, reads, primary, backup),
@@ -70,7 +72,7 @@ impl<B: Copies<H> + Drop, D: SectorStore, H: Drop> Pair<B, D, H> {
     /// An event happens.
     pub(crate) fn apply(&mut self, alloc: Global, event: Event) -> R<Reply>
         requires shown { ShowsSome B.state B.copied B.machine D.records (running_of self.old) }
-        ensures { HasApplied B.state B.copied B.machine D.records D.failures B.writes B.stale (running_of self.old) event result
+        ensures { HasApplied B.state B.copied B.machine D.records D.may_fail B.writes B.stale (running_of self.old) event result
             (running_of self.new) }
     {
         match event {
@@ -93,7 +95,7 @@ impl<B: Copies<H> + Drop, D: SectorStore, H: Drop> Pair<B, D, H> {
     fn apply_at_device(&mut self, alloc: Global, event: Event) -> R<Reply>
         requires shown { ShowsSome B.state B.copied B.machine D.records (running_of self.old) }
         requires beyond { is_at_node event ≡ false }
-        ensures { HasApplied B.state B.copied B.machine D.records D.failures B.writes B.stale (running_of self.old) event result
+        ensures { HasApplied B.state B.copied B.machine D.records D.may_fail B.writes B.stale (running_of self.old) event result
             (running_of self.new) }
     {
         match event {
@@ -113,7 +115,7 @@ impl<B: Copies<H> + Drop, D: SectorStore, H: Drop> Pair<B, D, H> {
     fn apply_with_copies(&mut self, alloc: Global, event: Event) -> R<Reply>
         requires shown { ShowsSome B.state B.copied B.machine D.records (running_of self.old) }
         requires beyond { is_read_or_copy event ≡ true }
-        ensures { HasApplied B.state B.copied B.machine D.records D.failures B.writes B.stale (running_of self.old) event result
+        ensures { HasApplied B.state B.copied B.machine D.records D.may_fail B.writes B.stale (running_of self.old) event result
             (running_of self.new) }
     {
         match event {
@@ -135,10 +137,10 @@ impl<B: Copies<H> + Drop, D: SectorStore, H: Drop> Pair<B, D, H> {
         ensures ok { IfOk result (λ answers. (c : Course B.State)
             → Shows B.state B.copied B.machine D.records (running_of self.old) c
             → Runs B.state B.copied B.machine D.records c events.now answers.items (running_of self.new)) }
-        ensures each { IfOk result (λ answers. HaveApplied B.state B.copied B.machine D.records D.failures B.writes B.stale
+        ensures each { IfOk result (λ answers. HaveApplied B.state B.copied B.machine D.records D.may_fail B.writes B.stale
             (running_of self.old) events.now answers.items (running_of self.new)) }
-        ensures counted { IfOk result (λ answers. D.failures self.new.disk
-            ≡ D.failures self.old.disk + failures_over events.now answers.items) }
+        ensures counted { IfOk result (λ answers. D.may_fail self.old.disk
+            ≡ before_failures (failures_over events.now answers.items) (D.may_fail self.new.disk)) }
         ensures spares { SparesLeft self.old.hosts.items self.new.hosts.items }
         ensures full { IfErr result (λ fault. fault ≡ OutOfMemory) }
         ensures unchanged { OnErr result (running_of self.new ≡ running_of self.old) }
@@ -158,7 +160,7 @@ impl<B: Copies<H> + Drop, D: SectorStore, H: Drop> Pair<B, D, H> {
             → IsSectorOf (machine_of B.machine c) c.world address read) }
         ensures refused { IfErr result (λ fault. fault ≡ refusal_at (D.records self.old.disk) address) }
         ensures kept { D.records self.new.disk ≡ D.records self.old.disk }
-        ensures counted { D.failures self.new.disk ≡ D.failures self.old.disk + faults_in result }
+        ensures counted { D.may_fail self.old.disk ≡ before_failures (faults_in result) (D.may_fail self.new.disk) }
         ensures others { running_of self.new ≡ record (running_of self.old) { disk = self.new.disk } }
     {
         self.disk.get(address)

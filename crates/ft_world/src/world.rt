@@ -34,13 +34,14 @@ impl<B: Copies<H> + Drop, D: SectorStore, H: Drop> Model for World<B, D, H> {
 }
 
 impl<B: Copies<H> + Drop, D: SectorStore, H: Drop> World<B, D, H> {
-    ghost use Rattle.std.specs.Prelude.{◌≡◌, ◌+◌, [], ◌∷◌, ◌++◌, length, IfErr, IfOk, OnErr, OnOk, option_map, slice_get};
+    ghost use Rattle.std.specs.Prelude.{◌≡◌, [], ◌∷◌, ◌++◌, length, IfErr, IfOk, OnErr, OnOk, option_map, slice_get};
     ghost use Rattle.disk_dcdd.specs.declared.address.SectorAddress.{SectorAddress};
     ghost use Rattle.i8080_words.specs.declared.refusal.Fault.TheVariants.{OutOfMemory};
     ghost use Rattle.pair_protocol.specs.Copying.{Copying};
     ghost use Rattle.pair_protocol.specs.Grows.{Grows};
     ghost use Rattle.pair_protocol.specs.World.{accepted, terminal, winner_in, with_host};
     ghost use Rattle.pair_protocol.specs.Settled.{Settled, highest};
+    ghost use Rattle.shared_disk.specs.Failing.{before_failures};
     ghost use Rattle.shared_disk.specs.Records.{faults_in, refusal_at};
     ghost use Rattle.ft_world.specs.Applies.{Happens, IsFaithful, IsSectorOf, Runs, Shows};
     ghost use Rattle.ft_world.specs.Applies.{failures_over, failures_told};
@@ -73,6 +74,7 @@ impl<B: Copies<H> + Drop, D: SectorStore, H: Drop> World<B, D, H> {
         ensures faithful { OnOk result ((C : Copying B.State)
             → MayBegin B.state B.copied B.machine C D.records primary backup store
             → IsFaithful B.machine (beginning B.machine C reads (B.state primary) (D.records store))) }
+        ensures disk { IfOk result (λ world. world.disk ≡ store) }
         ensures full { IfErr result (λ refused. refused ≡ (primary, backup, store, OutOfMemory)) }
     {
         let Ok(room) = Room::new(alloc) else {
@@ -96,6 +98,7 @@ impl<B: Copies<H> + Drop, D: SectorStore, H: Drop> World<B, D, H> {
             (beginning B.machine C reads (B.state primary) (D.records store)) }
         ensures faithful { (C : Copying B.State) → MayBegin B.state B.copied B.machine C D.records primary backup store
             → IsFaithful B.machine (beginning B.machine C reads (B.state primary) (D.records store)) }
+        ensures disk { result.disk ≡ store }
     {
         World {
             pair: Pair::begin(alloc, room, reads, primary, backup, store),
@@ -104,11 +107,12 @@ impl<B: Copies<H> + Drop, D: SectorStore, H: Drop> World<B, D, H> {
 
     /// An event happens: the reply, or why it is refused, and the world after it are the event's row, whatever world of
     /// the protocol this one showed. A refused event leaves everything as it was, except that a node that asked the
-    /// arbiter and lost is halted, and that a disk that failed may have counted the failure. A whole node that asks the
+    /// arbiter and lost is halted, and that a disk that failed may fail once less. A whole node that asks the
     /// arbiter in a generation that nobody has won has won it, unless there is no memory for its request.
     pub fn apply(&mut self, alloc: Global, event: Event) -> R<Reply>
         ensures row { Happens B.state B.copied B.machine D.records self.old event result self.new }
-        ensures counted { D.failures self.new.disk ≡ D.failures self.old.disk + failures_told event result }
+        ensures counted { D.may_fail self.old.disk
+            ≡ before_failures (failures_told event result) (D.may_fail self.new.disk) }
         ensures unchanged { IfErr result (λ fault. Stays D.records event fault self.old self.new) }
         ensures spares { SparesAfter event result self.old.hosts self.new.hosts }
         ensures stale { TellsStale B.stale event result self.old.hosts self.new.hosts }
@@ -123,10 +127,10 @@ impl<B: Copies<H> + Drop, D: SectorStore, H: Drop> World<B, D, H> {
     pub fn run(&mut self, alloc: Global, events: &[Event]) -> R<Vec<R<Reply>>>
         ensures ok { IfOk result (λ answers. (c : Course B.State) → Shows B.state B.copied B.machine D.records self.old c
             → Runs B.state B.copied B.machine D.records c events.now answers.items self.new) }
-        ensures each { IfOk result (λ answers. HaveApplied B.state B.copied B.machine D.records D.failures B.writes B.stale
+        ensures each { IfOk result (λ answers. HaveApplied B.state B.copied B.machine D.records D.may_fail B.writes B.stale
             self.old events.now answers.items self.new) }
-        ensures counted { IfOk result (λ answers. D.failures self.new.disk
-            ≡ D.failures self.old.disk + failures_over events.now answers.items) }
+        ensures counted { IfOk result (λ answers. D.may_fail self.old.disk
+            ≡ before_failures (failures_over events.now answers.items) (D.may_fail self.new.disk)) }
         ensures spares { SparesLeft self.old.hosts self.new.hosts }
         ensures full { IfErr result (λ fault. fault ≡ OutOfMemory) }
         ensures unchanged { OnErr result (self.new ≡ self.old) }
@@ -173,7 +177,7 @@ impl<B: Copies<H> + Drop, D: SectorStore, H: Drop> World<B, D, H> {
             → IsSectorOf (machine_of B.machine c) c.world address read) }
         ensures refused { IfErr result (λ fault. fault ≡ refusal_at (D.records self.old.disk) address) }
         ensures kept { D.records self.new.disk ≡ D.records self.old.disk }
-        ensures counted { D.failures self.new.disk ≡ D.failures self.old.disk + faults_in result }
+        ensures counted { D.may_fail self.old.disk ≡ before_failures (faults_in result) (D.may_fail self.new.disk) }
         ensures others { self.new ≡ record self.old { disk = self.new.disk } }
     {
         self.pair.sector(address)

@@ -21,14 +21,14 @@ returns-in_err-address-clause-row g c = λ course h.
 pub returns-in_err-station-clause-counted : goal.returns-in_err-station-clause-counted
 returns-in_err-station-clause-counted g c =
     fetches_no_failure g.B.Lockstep.machine c.requires.shown.course.world c.args.node
-    (g.D.SectorStore.failures c.args.self.now.disk) c.in_err-station.field-0.0 c.from_residual.result
+    (g.D.SectorStore.may_fail c.args.self.now.disk) c.in_err-station.field-0.0 c.from_residual.result
     (handed_on c.from_residual.result c.in_err-station.field-0.0 c.from_residual.ensures.1)
     (asks_nobody c.requires.shown.shows c.in_err-station.ensures.absent.0 c.in_err-station.ensures.absent.1)
 
 pub returns-in_err-address-clause-counted : goal.returns-in_err-address-clause-counted
 returns-in_err-address-clause-counted g c =
     fetches_no_failure g.B.Lockstep.machine c.requires.shown.course.world c.args.node
-    (g.D.SectorStore.failures c.args.self.now.disk) c.in_err-address.field-0.0 c.from_residual-in_err-address.result
+    (g.D.SectorStore.may_fail c.args.self.now.disk) c.in_err-address.field-0.0 c.from_residual-in_err-address.result
     (handed_on c.from_residual-in_err-address.result c.in_err-address.field-0.0
     c.from_residual-in_err-address.ensures.1)
     (asks_node c.requires.shown.shows c.in_ok-station.ensures.found c.in_err-address.ensures)
