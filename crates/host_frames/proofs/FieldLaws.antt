@@ -1,23 +1,22 @@
 -- What follows a tag: what is written is read again, and what is read is written just so and is in range.
-use Rattle.std.proofs.Common.{◌≡◌, ℕ, zero, suc, ◌+◌, ◌<◌, ◌≤◌, ◌^◌, Bool, true, false, cond, eqb, ltb, List, [], ◌∷◌, ◌++◌, length, get_or, take, drop, Option, Some, None, refl, sym, ap, subst, ◌∙◌, arith}
+use Rattle.std.proofs.Common.{◌≡◌, ℕ, zero, suc, ◌<◌, ◌≤◌, ◌^◌, Bool, true, false, eqb, ltb, List, [], ◌∷◌, ◌++◌, length, take, drop, Option, Some, None, refl, sym, ap, ◌∙◌, arith}
 use Rattle.std.specs.Prelude.{◌&&◌, slice_index}
 use Rattle.std.specs.Int.{w32, from_be_bytes}
 use Rattle.std.proofs.lemmas.Bool.{eqb-true, ltb-true, ltb-false, le-ltb, lt-ltb}
 use Rattle.std.proofs.lemmas.List.{take-append-drop, length-take}
 use Rattle.std.proofs.lemmas.Nat.{be_bytes_4, from_be_bytes-to_be_bytes_4}
-use Rattle.std.proofs.lemmas.Option.{same_Some, none-some}
+use Rattle.std.proofs.lemmas.Option.{same_Some}
 use Rattle.byteorder.specs.Endian.{big_bytes}
 use Rattle.clone_state.proofs.Codecs.{both_again, by_again, bytes_again, code_again, numbers_again, one_again, only_again}
 use Rattle.clone_state.proofs.Spellings.{Spells, both_spells, by_spells, bytes_spells, number_spells, one_spells, only_spells, weaker}
-use Rattle.clone_state.specs.Codec.{Again, both, by, bytes, number, one, only}
+use Rattle.clone_state.specs.Codec.{Again, both, bytes, number, one, only}
 use Rattle.disk_dcdd.specs.declared.address.SectorAddress.{SectorAddress}
-use Rattle.log_entry.specs.Numbers.{IsBytes, generation_from}
 use Rattle.log_entry.proofs.GenerationLaws.{generation_again, generation_takes}
 use Rattle.log_entry.proofs.ReadingLaws.{IsBytes-take, not_refused}
 use Rattle.pair_events.specs.declared.reply.Role.{Role}
 use Rattle.pair_events.specs.declared.reply.Role.TheVariants.{Primary, Backup, Joining, Draining, Alone, Halted}
 use Rattle.host_frames.specs.Frames.{are_numbers, is_drives, is_generation, is_number, is_port, is_standing, role_code}
-use Rattle.host_frames.specs.Reading.{address, begin, content, drives, generation, is_role, join, key, port, port_count, progress, report, role, role_of, standing, two_numbers, word, word_at}
+use Rattle.host_frames.specs.Reading.{address, begin, content, drives, generation, is_role, join, key, port, port_count, progress, report, role, role_of, standing, two_numbers, word}
 
 -- ---- tests
 

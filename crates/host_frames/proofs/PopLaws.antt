@@ -6,7 +6,7 @@ use Rattle.i8080_words.specs.declared.refusal.Fault.{Fault}
 use Rattle.i8080_words.specs.declared.refusal.Fault.TheVariants.{OutOfMemory}
 use Rattle.log_entry.specs.Numbers.{IsBytes}
 use Rattle.host_frames.specs.Frames.{framed}
-use Rattle.host_frames.specs.Stream.{BeginsWhole, IsBody, IsPartial, Refuses, head_of}
+use Rattle.host_frames.specs.Stream.{IsBody, IsPartial, Refuses, head_of}
 use Rattle.host_frames.proofs.HeadLaws.{HasHead, framed_as, none_head, partial_head, whole_head}
 use Rattle.host_frames.proofs.StreamLaws.{short_is_partial}
 

@@ -1,10 +1,10 @@
 -- Frames come out of a stream as they were, however it is cut.
-use Rattle.std.proofs.Common.{◌≡◌, ℕ, zero, suc, ◌+◌, ◌*◌, ◌/◌, ◌%◌, ◌-◌, ◌<◌, ◌≤◌, true, List, [], ◌∷◌, ◌++◌, map, length, replicate, refl, sym, ap, subst, ◌∙◌, inl, inr, ◌⊎◌, arith, append_assoc, append-nil}
+use Rattle.std.proofs.Common.{◌≡◌, ℕ, ◌+◌, ◌/◌, ◌%◌, ◌-◌, ◌<◌, ◌≤◌, true, List, [], ◌∷◌, ◌++◌, map, length, replicate, refl, sym, ap, ◌∙◌, arith, append_assoc, append-nil}
 use Rattle.std.specs.List.{AllByRecursion}
 use Rattle.std.proofs.lemmas.List.{length-append, length-replicate, nil_from_length}
-use Rattle.host_frames.specs.Frames.{Said, Packet, Transfers, Tells, IsBodyOf, body_of, framed, is_frame, spelling}
+use Rattle.host_frames.specs.Frames.{Said, body_of, framed, is_frame}
 use Rattle.host_frames.specs.Laws.{ComesOut, IsNeverMalformed, IsShort, LosesNothing, OneFront, StandApart, StaysMalformed}
-use Rattle.host_frames.specs.Stream.{BeginsNone, BeginsWhole, Fed, Begins, Takes, Gave, IsBody, IsPartial, stream_of}
+use Rattle.host_frames.specs.Stream.{BeginsNone, Fed, Begins, Takes, Gave, IsPartial, stream_of}
 use Rattle.host_frames.proofs.BodyLaws.{body_within, one_body}
 use Rattle.host_frames.proofs.HeadLaws.{HasHead, framed_as, nothing_is_partial}
 

@@ -1,5 +1,5 @@
 -- What the field of a `FrameBuffer` means, and what holds of every one.
-use Rattle.std.specs.Prelude.{◌≡◌, ◌≤◌, ℕ, List, length}
+use Rattle.std.specs.Prelude.{◌≡◌, ℕ, List}
 use Rattle.log_entry.specs.Numbers.{IsBytes}
 use Rattle.host_frames.specs.declared.buffer.TheConstants.{BUFFER_BYTES}
 use Rattle.host_frames.specs.declared.buffer.FrameBuffer.TheInside.{Inside}

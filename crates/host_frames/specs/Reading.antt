@@ -1,5 +1,5 @@
 -- What follows a tag, in the order of its bytes, and the frame that a body is read as.
-use Rattle.std.specs.Prelude.{ℕ, ◌==◌, nat_lt, Bool, ◌&&◌, if◌then◌else◌, List, [], ◌∷◌, length, take, drop, slice_index, Option, Some, None}
+use Rattle.std.specs.Prelude.{ℕ, ◌==◌, nat_lt, Bool, if◌then◌else◌, List, [], ◌∷◌, length, take, drop, slice_index, Option, Some, None}
 use Rattle.std.specs.Int.{w32, from_be_bytes}
 use Rattle.byteorder.specs.Endian.{big_bytes}
 use Rattle.clone_state.specs.Codec.{Codec, both, by, bytes, number, one, only, read_all}

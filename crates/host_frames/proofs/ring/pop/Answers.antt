@@ -1,5 +1,4 @@
 -- Each exit gives what the head of the pending bytes says.
-use Rattle.std.proofs.Common.{arith}
 use Rattle.std.proofs.lemmas.Result.{err_from_is_err_and}
 use Rattle.host_frames.proofs.PopLaws.{gives, no_memory, refused, waits, waits_longer}
 use Rattle.host_frames.proofs.ring.pop.Goals as goal
