@@ -3,3 +3,4 @@ pub mod KindLaws
 pub mod BodyLaws
 pub mod HeadLaws
 pub mod StreamLaws
+pub mod PopLaws

@@ -1,8 +1,7 @@
 -- Frames come out of a stream as they were, however it is cut.
-use Rattle.std.proofs.Common.{◌≡◌, ℕ, zero, suc, ◌+◌, ◌*◌, ◌/◌, ◌%◌, ◌-◌, ◌<◌, ◌≤◌, min, true, List, [], ◌∷◌, ◌++◌, map, length, take, drop, replicate, refl, sym, ap, subst, ◌∙◌, inl, inr, ◌⊎◌, arith, append_assoc, append-nil}
+use Rattle.std.proofs.Common.{◌≡◌, ℕ, zero, suc, ◌+◌, ◌*◌, ◌/◌, ◌%◌, ◌-◌, ◌<◌, ◌≤◌, true, List, [], ◌∷◌, ◌++◌, map, length, replicate, refl, sym, ap, subst, ◌∙◌, inl, inr, ◌⊎◌, arith, append_assoc, append-nil}
 use Rattle.std.specs.List.{AllByRecursion}
-use Rattle.std.proofs.lemmas.List.{length-append, length-drop, length-replicate, length-take-le, nil_from_length, take-append-drop}
-use Rattle.log_entry.specs.Numbers.{IsBytes}
+use Rattle.std.proofs.lemmas.List.{length-append, length-replicate, nil_from_length}
 use Rattle.host_frames.specs.Frames.{Said, Packet, Transfers, Tells, IsBodyOf, body_of, framed, is_frame, spelling}
 use Rattle.host_frames.specs.Laws.{ComesOut, IsNeverMalformed, IsShort, LosesNothing, OneFront, StandApart, StaysMalformed}
 use Rattle.host_frames.specs.Stream.{BeginsNone, BeginsWhole, Fed, Begins, Takes, Gave, IsBody, IsPartial, stream_of}
@@ -84,52 +83,6 @@ short_is_partial xs n h few =
       same = ap (λ bs. bs ++ zeros) h.same ∙ sym (framed_as body h.high h.low (whole ∙ is.is) h.small);
     }
 
--- what is read of the bytes after the head, into as many places as the head says, and what is left of them
-pub whole_gives : (xs : List ℕ) (n rest count : ℕ) (middle places body left : List ℕ) → HasHead xs n → 4 + n ≤ length xs
-    → rest ≡ length xs - 4 → middle ≡ drop (length xs - rest) xs → length places ≡ n
-    → count ≡ min (length places) (length middle) → body ≡ take count middle ++ drop count places → left ≡ drop count middle
-    → IsBody body × (xs ≡ framed body ++ left)
-whole_gives xs n rest count middle places body left h many r m l c b t =
-    let size : length xs ≡ 4 + length h.rest = ap length h.same ∙ omega arith in
-    let four : length xs - rest ≡ 4 = omega (arith, size, many, r) in
-    let after : middle ≡ h.rest = m ∙ ap (λ k. drop k xs) four ∙ ap (drop 4) h.same in
-    let all : count ≡ n = omega (arith, c, l, ap length after, size, many) in
-    let past : drop count places ≡ [] =
-    nil_from_length (drop count places) (omega (arith, length-drop count places, l, all))
-    in
-    let front : body ≡ take n h.rest =
-    b ∙ ap (λ bs. take count middle ++ bs) past ∙ append-nil (take count middle)
-    ∙ ap (λ k. take k middle) all ∙ ap (take n) after
-    in
-    let back : left ≡ drop n h.rest = t ∙ ap (λ k. drop k middle) all ∙ ap (drop n) after in
-    let whole : length body ≡ n = ap length front ∙ length-take-le n h.rest (omega (arith, size, many)) in
-    let is = h.is_length in
-    let some : 0 < n = is.some in
-    let most : n ≤ 4092 = is.most in
-    let joined : body ++ left ≡ h.rest =
-    ap (λ bs. bs ++ left) front ∙ ap (λ bs. take n h.rest ++ bs) back ∙ take-append-drop n h.rest
-    in (
-      record { some = omega (arith, whole, some); most = omega (arith, whole, most) },
-      h.same ∙ ap (λ bs. 0x46 ∷ 0x52 ∷ h.high ∷ h.low ∷ bs) (sym joined)
-          ∙ ap (λ bs. bs ++ left) (sym (framed_as body h.high h.low (whole ∙ is.is) h.small)),
-    )
-
-pub whole_begins : (xs : List ℕ) (n : ℕ) → HasHead xs n → 4 + n ≤ length xs → BeginsWhole xs
-whole_begins xs n h many =
-    let size : length xs ≡ 4 + length h.rest = ap length h.same ∙ omega arith in
-    let whole : length (take n h.rest) ≡ n = length-take-le n h.rest (omega (arith, size, many)) in
-    let is = h.is_length in
-    let some : 0 < n = is.some in
-    let most : n ≤ 4092 = is.most in
-    record {
-      body = take n h.rest;
-      rest = drop n h.rest;
-      is_body = record { some = omega (arith, whole, some); most = omega (arith, whole, most) };
-      same =
-          h.same ∙ ap (λ bs. 0x46 ∷ 0x52 ∷ h.high ∷ h.low ∷ bs) (sym (take-append-drop n h.rest))
-          ∙ ap (λ bs. bs ++ drop n h.rest) (sym (framed_as (take n h.rest) h.high h.low (whole ∙ is.is) h.small));
-    }
-
 -- ---- whole streams
 
 stream-append : (cs bs : List (List ℕ)) → stream_of (cs ++ bs) ≡ stream_of cs ++ stream_of bs
@@ -193,10 +146,3 @@ pub never_malformed : IsNeverMalformed
 never_malformed frames taken more pending given all fed e n =
     never given frames pending more all
     (sym (append_assoc (stream_of given) pending more) ∙ ap (λ bs. bs ++ more) (sym (loses_nothing taken pending given fed)) ∙ e) n
-
--- ---- bytes
-
-pub IsBytes-append : (xs ys : List ℕ) → IsBytes xs → IsBytes ys → IsBytes (xs ++ ys)
-IsBytes-append [] ys h k i = k i
-IsBytes-append (x ∷ xs) ys h k zero = h 0
-IsBytes-append (x ∷ xs) ys h k (suc i) = IsBytes-append xs ys (λ j. h (suc j)) k i

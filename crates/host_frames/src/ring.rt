@@ -1,5 +1,6 @@
 //! The first frame of the bytes in a ring.
-ghost use Rattle.std.specs.Prelude.{◌≡◌, ◌-◌, ◌≤◌, ◌++◌, length, min, take, IfOk, IfSome};
+ghost use Rattle.std.specs.Prelude.{◌≡◌, ◌+◌, ◌-◌, ◌≤◌, ◌++◌, drop, length, min, take, IfErr, IfOk, IfSome, OnErr, OnOk};
+ghost use Rattle.i8080_words.specs.declared.refusal.Fault.TheVariants.{OutOfMemory};
 ghost use Rattle.log_entry.specs.Numbers.{IsBytes};
 ghost use Rattle.host_frames.specs.Stream as stream;
 
@@ -32,11 +33,26 @@ pub(crate) fn pop(pending: &mut HeapCircularBuffer<u8>, alloc: Global) -> R<Opti
     if pending.len() < HEAD + length {
         return Ok(None);
     }
-    let mut body = vec![in alloc; 0; length]?;
+    let body = pop_body(pending, alloc, length)?;
+    Ok(Some(body))
+}
+
+// The body of this length after the head of a frame. It leaves the ring, with the head.
+fn pop_body(pending: &mut HeapCircularBuffer<u8>, alloc: Global, count: usize) -> R<Vec<u8>>
+    requires whole { HEAD + count ≤ length pending.old.items }
+    requires bytes { IsBytes pending.old.items }
+    ensures ok { IfOk result (λ body. body.items ≡ take count (drop 4 pending.old.items)) }
+    ensures rest { OnOk result (pending.new.items ≡ drop count (drop 4 pending.old.items)) }
+    ensures err { OnErr result (pending.new.items ≡ pending.old.items) }
+    ensures full { IfErr result (λ fault. fault ≡ OutOfMemory) }
+    ensures places { pending.new.capacity ≡ pending.old.capacity }
+    ensures bytes_left { IsBytes pending.new.items }
+{
+    let mut body = vec![in alloc; 0; count]?;
     let rest = pending.len() - HEAD;
     pending.truncate_front(rest);
     pending.read_into(&mut body);
-    Ok(Some(body))
+    Ok(body)
 }
 
 // The length of the first body; none if the head of its frame has not come yet. `Malformed` if no frame begins so.

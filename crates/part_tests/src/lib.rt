@@ -18,6 +18,8 @@ mod entries;
 #[cfg(test)]
 mod follows;
 #[cfg(test)]
+mod frames;
+#[cfg(test)]
 mod lines;
 #[cfg(test)]
 mod logs;
