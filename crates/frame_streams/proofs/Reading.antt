@@ -1,14 +1,14 @@
 -- What was read and handed on: nothing, one frame, a piece, and some after others.
-use Rattle.std.proofs.Common.{ℕ, ◌≡◌, Option, Some, None, List, [], ◌∷◌, ◌++◌, map, append-nil, append_assoc, refl, sym, ap, ◌∙◌, subst}
+use Rattle.std.proofs.Common.{ℕ, ◌≡◌, Option, Some, None, List, [], ◌∷◌, ◌++◌, append-nil, append_assoc, refl, sym, ap, ◌∙◌, subst, inl, inr}
 use Rattle.std.specs.Global.{Vec}
-use Rattle.std.specs.Io.KnownBytes.{Consumes}
+use Rattle.std.specs.Io.KnownBytes.{Consumes, Keeps}
 use Rattle.std.specs.List.{AllByRecursion}
 use Rattle.std.proofs.KnownBytes.{Consumes-nil, Consumes-trans}
-use Rattle.std.proofs.lemmas.List.{map-append}
 use Rattle.rtrb.specs.Ring.{SameProducer, sent}
 use Rattle.host_frames.specs.Frames.{framed}
-use Rattle.host_frames.specs.Stream.{IsBody, stream_of}
-use Rattle.frame_streams.specs.Reading.{EndsWith, Reads, contents_of}
+use Rattle.host_frames.specs.Stream.{IsBody, Refuses, stream_of}
+use Rattle.i8080_words.specs.declared.refusal.Fault.{Fault}
+use Rattle.frame_streams.specs.Reading.{EndsWith, Reads, contents_of, end_of}
 use Rattle.frame_streams.specs.declared.reader.FrameReader.{FrameReader}
 use Rattle.frame_streams.specs.declared.reader.StreamEnd.{StreamEnd}
 
@@ -26,10 +26,28 @@ all_both : (xs ys : List (Vec ℕ)) → AllByRecursion IsBody (contents_of xs) �
 all_both [] ys p q = q
 all_both (x ∷ xs) ys p q = (p.0, all_both xs ys p.1 q)
 
+-- a read that kept the bytes took none
+pub keeps_consumed : (a b : Option (List ℕ)) → Keeps a b → Consumes a b []
+keeps_consumed None b p = tt
+keeps_consumed (Some xs) None p = absurd p
+keeps_consumed (Some xs) (Some ys) p = sym p
+
+-- a frame that is refused is the reason to end
+pub refused_so : (fault : Fault) (left : Option (List ℕ)) (pending : List ℕ) → Refuses fault pending
+    → EndsWith (Some (end_of fault)) left pending
+refused_so fault left pending why = elim why [
+  | inl p ↦ subst (λ f. EndsWith (Some (end_of f)) left pending) (sym p.0) p.1
+  | inr p ↦ subst (λ f. EndsWith (Some (end_of f)) left pending) (sym p.0) p.1
+]
+
 module _ {S : Type 0} (left : S → Option (List ℕ)) where
-  same_on : (a b c : FrameReader S) → SameProducer a.bodies b.bodies → SameProducer b.bodies c.bodies
+  pub same_on : (a b c : FrameReader S) → SameProducer a.bodies b.bodies → SameProducer b.bodies c.bodies
       → SameProducer a.bodies c.bodies
   same_on a b c p q = ((q.0.0 ∙ p.0.0, q.0.1 ∙ p.0.1, q.0.2 ∙ p.0.2, q.0.3 ∙ p.0.3), q.1 ∙ p.1)
+
+  pub consumed_none : (a b : FrameReader S) → b.source ≡ a.source → Consumes (left a.source) (left b.source) []
+  consumed_none a b source =
+      subst (λ s. Consumes (left a.source) (left s) []) (sym source) (Consumes-nil (left a.source))
 
   -- nothing was taken and nothing handed on
   pub of_none : (end : Option StreamEnd) (a b : FrameReader S) → Consumes (left a.source) (left b.source) []
@@ -49,8 +67,7 @@ module _ {S : Type 0} (left : S → Option (List ℕ)) where
   pub none_yet : (a b : FrameReader S) → b.source ≡ a.source → b.pending ≡ a.pending → sent b.bodies ≡ sent a.bodies
       → SameProducer a.bodies b.bodies → Reads left None a b
   none_yet a b source pending bodies same =
-      of_none None a b (subst (λ s. Consumes (left a.source) (left s) []) (sym source) (Consumes-nil (left a.source)))
-      pending bodies tt same
+      of_none None a b (consumed_none a b source) pending bodies tt same
 
   -- one frame was handed on
   pub of_one : (a b : FrameReader S) (body : Vec ℕ) → b.source ≡ a.source → IsBody body.items
@@ -59,7 +76,7 @@ module _ {S : Type 0} (left : S → Option (List ℕ)) where
   of_one a b body source is pending bodies same = record {
     taken = [];
     bodies = body ∷ [];
-    consumed = subst (λ s. Consumes (left a.source) (left s) []) (sym source) (Consumes-nil (left a.source));
+    consumed = consumed_none a b source;
     handed = bodies;
     whole = (is, tt);
     stream = append-nil a.pending ∙ pending ∙ ap (λ l. l ++ b.pending) (sym (append-nil (framed body.items)));

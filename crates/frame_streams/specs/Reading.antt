@@ -1,9 +1,10 @@
 -- What the reading thread has taken from its stream, and handed on.
-use Rattle.std.specs.Prelude.{◌≡◌, ℕ, true, false, List, ◌++◌, map, Option, None, Some, Result, Ok, Err}
-use Rattle.std.specs.Bool.{Bool}
+use Rattle.std.specs.Prelude.{◌≡◌, ℕ, Bool, true, false, List, ◌++◌, map, Option, None, Some, Result, Ok, Err}
 use Rattle.std.specs.Global.{Vec}
 use Rattle.std.specs.Io.KnownBytes.{Consumes, IsAtEnd}
 use Rattle.std.specs.List.{AllByRecursion}
+use Rattle.i8080_words.specs.declared.refusal.Fault.{Fault}
+use Rattle.i8080_words.specs.declared.refusal.Fault.TheVariants.{OutOfMemory}
 use Rattle.rtrb.specs.Ring.{SameProducer, sent}
 use Rattle.host_frames.specs.Stream.{BeginsNone, BeginsWhole, IsBody, IsPartial, stream_of}
 use Rattle.frame_streams.specs.declared.reader.FrameReader.{FrameReader}
@@ -16,6 +17,11 @@ EndsWith (Some StreamEnd.Closed) left pending = IsAtEnd left × IsPartial pendin
 EndsWith (Some StreamEnd.Malformed) left pending = BeginsNone pending
 EndsWith (Some StreamEnd.OutOfMemory) left pending = BeginsWhole pending
 EndsWith _ left pending = Unit {0}
+
+-- how a stream ends whose next frame is refused so
+abbrev pub end_of : Fault → StreamEnd
+end_of OutOfMemory = StreamEnd.OutOfMemory
+end_of _ = StreamEnd.Malformed
 
 -- the bodies of frames, as bytes
 abbrev pub contents_of : List (Vec ℕ) → List (List ℕ)

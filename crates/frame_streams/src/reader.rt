@@ -3,7 +3,7 @@ ghost use Rattle.std.specs.Prelude.{◌≡◌, ◌<◌, ◌≤◌, ◌++◌, Non
 ghost use Rattle.std.specs.Io.KnownBytes.{Consumes};
 ghost use Rattle.rtrb.specs.Ring.{ProducerLooked, known_free};
 ghost use Rattle.host_frames.specs.Stream.{IsPartial};
-ghost use Rattle.frame_streams.specs.Reading.{Reads};
+ghost use Rattle.frame_streams.specs.Reading.{HandsNext, Reads, end_of};
 
 use host_frames::{FrameBuffer, streams_stand_apart};
 use i8080_words::Fault;
@@ -115,8 +115,7 @@ impl<S: Read> FrameReader<S> {
                 Ok(true)
             }
             Ok(None) => Ok(false),
-            Err(Fault::Malformed) => Err(StreamEnd::Malformed),
-            Err(_) => Err(StreamEnd::OutOfMemory),
+            Err(fault) => Err(end_of(fault)),
         }
     }
 
@@ -155,5 +154,15 @@ impl<S: Read> FrameReader<S> {
             Err(error) if error.kind() == ErrorKind::Interrupted => None,
             Err(_) => Some(StreamEnd::Failed),
         }
+    }
+}
+
+// Why no more frames are read, if the next one is refused.
+fn end_of(fault: Fault) -> StreamEnd
+    ensures { result ≡ end_of fault }
+{
+    match fault {
+        Fault::OutOfMemory => StreamEnd::OutOfMemory,
+        _ => StreamEnd::Malformed,
     }
 }

@@ -13,8 +13,8 @@ use std::time::Duration;
 /// How many frames are written at once, at most.
 const MOST_AT_ONCE: usize = 64;
 
-/// How long it rests if nobody wakes it.
-const REST: Duration = Duration::from_millis(50);
+/// How many milliseconds it rests if nobody wakes it.
+const REST: u64 = 50;
 
 /// A stream, and the spelled frames that are to be written to it.
 #[derive(Drop)]
@@ -52,7 +52,7 @@ impl<W: Write> FrameWriter<W> {
             if is_over {
                 return Ok(());
             }
-            wake.park_timeout(rt, REST);
+            wake.park_timeout(rt, Duration::from_millis(REST));
         }
         Err(io::Error::from(ErrorKind::TimedOut))
     }
