@@ -1,0 +1,168 @@
+//! The thread that reads frames from a stream.
+ghost use Rattle.std.specs.Prelude.{◌≡◌, ◌<◌, ◌≤◌, ◌++◌, None, Some, IsTrue, length, take};
+ghost use Rattle.std.specs.Io.KnownBytes.{Consumes};
+ghost use Rattle.rtrb.specs.Ring.{ProducerLooked, known_free};
+ghost use Rattle.host_frames.specs.Stream.{IsPartial};
+ghost use Rattle.frame_streams.specs.Reading.{HandsNext, Reads, end_of};
+
+use host_frames::{FrameBuffer, streams_stand_apart};
+use i8080_words::Fault;
+use rtrb::Producer;
+use std::alloc::Global;
+use std::io::{ErrorKind, Read};
+use std::thread::{self, Parker};
+use std::time::{Clock, Duration};
+
+/// How many bytes are read at once, at most.
+const PIECE_BYTES: usize = 4096;
+
+/// Why no more frames are read.
+#[derive(Debug, Clone, Copy, PartialEq, Eq)]
+pub enum StreamEnd {
+    /// Whoever wrote the stream has closed it.
+    Closed,
+    /// A read failed.
+    Failed,
+    /// What came is no stream of frames.
+    Malformed,
+    OutOfMemory,
+    /// Nobody takes frames any more.
+    Abandoned,
+}
+
+/// A stream, what has come of its next frame, and where the bodies of its frames go.
+#[derive(Drop)]
+pub struct FrameReader<S> {
+    pub source: S,
+    pub pending: FrameBuffer,
+    pub bodies: Producer<Vec<u8>>,
+}
+
+/// Reads frames until the stream ends, fails or is none of frames, and hands their bodies on through the ring; waits while the
+/// ring is full. Wakes whoever takes them, also when it ends: the ring is dropped then, which its other end can see.
+pub fn read_frames<C: Clock, S: Read + Drop>(
+    clock: &C,
+    alloc: Global,
+    mut reader: FrameReader<S>,
+    wake: &Parker,
+) -> (FrameReader<S>, StreamEnd)
+    ensures { Reads S.remaining (Some result.1) reader result.0 }
+{
+    let end = reader.read_all(clock, alloc, wake);
+    (reader, end)
+}
+
+impl<S: Read> FrameReader<S> {
+    // Reads frames until there is a reason to end.
+    #[tactic(auto, using(crate::proofs::Reading::none_yet, crate::proofs::Reading::and_then))]
+    fn read_all<C: Clock>(&mut self, clock: &C, alloc: Global, wake: &Parker) -> StreamEnd
+        ensures { Reads S.remaining (Some result) self.old self.new }
+    {
+        for _ in 0..u64::MAX {
+            let end = self.turn(clock, alloc, wake);
+            if let Some(end) = end {
+                return end;
+            }
+        }
+        StreamEnd::Failed
+    }
+
+    // Hands on the frames that are whole, and reads a piece more.
+    #[tactic(auto, using(crate::proofs::Reading::and_then))]
+    fn turn<C: Clock>(&mut self, clock: &C, alloc: Global, wake: &Parker) -> Option<StreamEnd>
+        ensures { Reads S.remaining result self.old self.new }
+    {
+        let end = self.hand_on(clock, alloc, wake);
+        if end.is_some() {
+            return end;
+        }
+        self.read_piece()
+    }
+
+    // Hands on the frames that are whole.
+    #[tactic(auto, using(crate::proofs::Reading::none_yet, crate::proofs::Reading::and_then))]
+    fn hand_on<C: Clock>(&mut self, clock: &C, alloc: Global, wake: &Parker) -> Option<StreamEnd>
+        ensures reads { Reads S.remaining result self.old self.new }
+        ensures part { result ≡ None → IsPartial self.new.pending }
+    {
+        for _ in 0..u64::MAX {
+            let next = self.hand_next(clock, alloc, wake);
+            match next {
+                Ok(true) => {}
+                Ok(false) => return None,
+                Err(end) => return Some(end),
+            }
+        }
+        Some(StreamEnd::Failed)
+    }
+
+    // Hands on the next frame, if it is whole.
+    fn hand_next<C: Clock>(
+        &mut self,
+        clock: &C,
+        alloc: Global,
+        wake: &Parker,
+    ) -> Result<bool, StreamEnd>
+        ensures { HandsNext S.remaining result self.old self.new }
+    {
+        if !self.waits_for_room(clock) {
+            return Err(StreamEnd::Abandoned);
+        }
+        match self.pending.next(alloc) {
+            Ok(Some(body)) => {
+                self.bodies.push_reserved(body);
+                wake.unpark();
+                Ok(true)
+            }
+            Ok(None) => Ok(false),
+            Err(fault) => Err(end_of(fault)),
+        }
+    }
+
+    // Waits until the ring takes one more body. Returns false if nobody takes them.
+    fn waits_for_room<C: Clock>(&mut self, clock: &C) -> bool
+        ensures source { self.new.source ≡ self.old.source }
+        ensures pending { self.new.pending ≡ self.old.pending }
+        ensures looked { ProducerLooked self.old.bodies self.new.bodies }
+        ensures room { IsTrue result → 0 < known_free self.new.bodies }
+    {
+        for _ in 0..u64::MAX {
+            if !self.bodies.is_full() {
+                return true;
+            }
+            if self.bodies.is_abandoned() {
+                return false;
+            }
+            thread::sleep(clock, Duration::from_micros(100));
+        }
+        false
+    }
+
+    // Reads a piece, for which there is room. A read that was interrupted is made again by the next turn.
+    fn read_piece(&mut self) -> Option<StreamEnd>
+        requires { IsPartial self.old.pending }
+        ensures { Reads S.remaining result self.old self.new }
+    {
+        streams_stand_apart();
+        let mut piece = [0u8; PIECE_BYTES];
+        match self.source.read(&mut piece) {
+            Ok(0) => Some(StreamEnd::Closed),
+            Ok(count) => {
+                self.pending.feed(&piece[..count]);
+                None
+            }
+            Err(error) if error.kind() == ErrorKind::Interrupted => None,
+            Err(_) => Some(StreamEnd::Failed),
+        }
+    }
+}
+
+// Why no more frames are read, if the next one is refused.
+fn end_of(fault: Fault) -> StreamEnd
+    ensures { result ≡ end_of fault }
+{
+    match fault {
+        Fault::OutOfMemory => StreamEnd::OutOfMemory,
+        _ => StreamEnd::Malformed,
+    }
+}
