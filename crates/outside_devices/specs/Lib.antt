@@ -1,0 +1,4 @@
+pub mod Terminal
+pub mod Ring
+pub mod Held
+pub mod Calls
