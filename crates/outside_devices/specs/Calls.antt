@@ -1,5 +1,5 @@
 -- What each call answers, and what it leaves: over the terminals, the arbiter's askings and the disk's records alone.
-use Rattle.std.specs.Prelude.{◌≡◌, ℕ, ◌+◌, ◌<◌, ◌≤◌, ◌==◌, ◌&&◌, Bool, nat_le, nat_lt, if◌then◌else◌, List, [], ◌∷◌, length, slice_index_or, slice_set, Option, Some, None, Result, Ok, Err}
+use Rattle.std.specs.Prelude.{◌≡◌, ℕ, ◌+◌, ◌==◌, ◌&&◌, Bool, nat_lt, ok_or, if◌then◌else◌, List, slice_index_or, slice_set, Some, Result, Ok, Err}
 use Rattle.arbiter_core.specs.Winners.{IsAnswer, after_asking, winner_of}
 use Rattle.arbiter_core.specs.declared.arbiter.Asking.{Asking}
 use Rattle.arbiter_core.specs.declared.arbiter.Won.{Won}
@@ -28,6 +28,10 @@ typed_answer terminals port = if nat_lt port PORTS then typing_answer (terminal_
 abbrev pub typed_after : List KeptTerminal → ℕ → ℕ → List KeptTerminal
 typed_after terminals port byte =
     if nat_lt port PORTS then slice_set terminals port (after_typing (terminal_at terminals port) byte) else terminals
+
+-- the key of an index
+abbrev pub key_answer : List KeptTerminal → ℕ → ℕ → Result ℕ Fault
+key_answer terminals port index = ok_or (key_of (terminal_at terminals port) index) Unknown
 
 -- a byte arrives: whether it is accepted
 abbrev pub is_accepted : List KeptTerminal → ℕ → ℕ → Bool → Bool

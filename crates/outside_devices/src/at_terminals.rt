@@ -21,7 +21,7 @@ pub(crate) fn type_key(terminals: &mut [BoundedTerminal; PORTS], port: u8, byte:
 
 /// The key that was typed at an index.
 pub(crate) fn key_at(terminals: &[BoundedTerminal; PORTS], port: u8, index: u64) -> R<u8>
-    ensures { result ≡ ok_or (key_of (calls.terminal_at terminals.now port) index) Unknown }
+    ensures { result ≡ calls.key_answer terminals.now port index }
 {
     if port as usize >= PORTS {
         return Err(Fault::Unknown);

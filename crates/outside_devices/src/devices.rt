@@ -33,11 +33,11 @@ impl<D: SectorStore> Model for OutsideDevices<D> {
     ghost Value = { Held };
 
     ghost view = { λ o. record {
-        terminals = o.terminals;
-        askings = o.arbiter;
-        records = D.records o.disk;
-        failures = D.failures o.disk;
-        hosts = o.hosts;
+      terminals = o.terminals;
+      askings = o.arbiter;
+      records = D.records o.disk;
+      failures = D.failures o.disk;
+      hosts = o.hosts;
     } };
 }
 
@@ -71,7 +71,7 @@ impl<D: SectorStore> OutsideDevices<D> {
     /// The key that was typed at an index at the terminal of a port, to be sent to a host. `Unknown` if there is no such
     /// port, if no key was typed at the index, or if it is forgotten, since a host told that it is covered.
     pub fn key(&self, port: u8, index: u64) -> R<u8>
-        ensures { result ≡ ok_or (key_of (calls.terminal_at self.now.terminals port) index) Unknown }
+        ensures { result ≡ calls.key_answer self.now.terminals port index }
     {
         at_terminals::key_at(&self.terminals, port, index)
     }
@@ -89,7 +89,7 @@ impl<D: SectorStore> OutsideDevices<D> {
     pub fn arrive(&mut self, port: u8, number: u64, byte: u8, room: bool) -> Option<u8>
         ensures shown { result ≡ (if calls.is_accepted self.old.terminals port number room then Some byte else None) }
         ensures after { self.new ≡ record self.old {
-            terminals = calls.arrived_after self.old.terminals port number room;
+          terminals = calls.arrived_after self.old.terminals port number room;
         } }
     {
         let is_accepted = at_terminals::arrive(&mut self.terminals, port, number, room);
@@ -127,7 +127,7 @@ impl<D: SectorStore> OutsideDevices<D> {
     pub fn read(&mut self, address: SectorAddress) -> R<SectorRead>
         ensures read { calls.Reads self.old.records address result self.new.records }
         ensures counted { self.new.failures ≡ self.old.failures + faults_in result }
-        ensures others { self.new ≡ record self.old { failures = self.new.failures } }
+        ensures others { self.new ≡ record self.old { records = self.new.records; failures = self.new.failures } }
     {
         self.disk.get(address)
     }

@@ -3,7 +3,9 @@
 
 mod at_terminals;
 mod devices;
+mod laws;
 mod terminal;
 
 pub use devices::OutsideDevices;
+pub use laws::{calls_are_steps, runs_go_on};
 pub use terminal::{BoundedTerminal, KEYS};
