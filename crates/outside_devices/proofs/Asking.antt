@@ -7,8 +7,8 @@ use Rattle.arbiter_core.proofs.FirstAskers.{first_wins}
 use Rattle.host_law.specs.Outside as outside
 use Rattle.pair_protocol.proofs.Keeps.Arbiter.{winner-push}
 use Rattle.pair_protocol.proofs.Traces.Lists.{bool_cases}
-use Rattle.outside_devices.proofs.Words.{AreWinners, Asking, Asks, AsksArbiter, Fault, HasLost, HasWon, Held, IsAnswer, Lost, Machine, OutOfMemory, Outside, Shows, Winner, Won, after_asking, answering, taking, winner_in, winner_of, with_first}
-use Rattle.outside_devices.specs.Steps.{ArbiterMakes, Makes, Wins, asked}
+use Rattle.outside_devices.proofs.Words.{AreWinners, Asking, AsksArbiter, Fault, HasLost, HasWon, Held, IsAnswer, Lost, Machine, OutOfMemory, Outside, Shows, Winner, Won, after_asking, answering, winner_in, winner_of, with_first}
+use Rattle.outside_devices.specs.Steps.{ArbiterMakes, Makes, Wins}
 
 -- the law's winners, as the arbiter keeps them
 abbrev asking_of : Winner → Asking

@@ -1,5 +1,5 @@
 -- TEMPORARY
-use Rattle.std.proofs.Common.{◌≡◌, [], ◌∷◌, ◌++◌, ◌∙◌, Bool, List, None, Some, ap, cond, false, refl, subst, sym, true, ℕ}
+use Rattle.std.proofs.Common.{◌≡◌, [], ◌∷◌, ◌++◌, ◌∙◌, Bool, List, Some, ap, cond, false, refl, subst, sym, true, ℕ}
 use Rattle.std.specs.Prelude.{if◌then◌else◌, Option, is_some, nat_lt}
 use Rattle.disk_dcdd.specs.Address.{same_address}
 use Rattle.i8080_words.specs.declared.refusal.Fault.TheVariants.{Unknown}

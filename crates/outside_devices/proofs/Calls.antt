@@ -1,15 +1,13 @@
 -- Each call is a step of whatever outside the devices show.
-use Rattle.std.proofs.Common.{◌≡◌, ◌+◌, ◌≤◌, ◌<◌, [], ◌∷◌, ◌++◌, ◌∙◌, Bool, List, Ok, arith, cond, false, length, ltb-true, refl, subst, sym, true, ℕ}
-use Rattle.std.specs.Prelude.{◌==◌}
+use Rattle.std.proofs.Common.{◌≡◌, ◌∙◌, Bool, List, Ok, arith, false, ltb-true, refl, subst, sym, true, ℕ}
 use Rattle.std.proofs.lemmas.List.{append-nil}
 use Rattle.event_callbacks.specs.declared.operations.Operation.TheVariants.{Byte}
-use Rattle.host_law.specs.Frame.{TellsKeys}
 use Rattle.host_law.specs.Outside as outside
 use Rattle.pair_protocol.specs.World.{Released}
 use Rattle.outside_devices.proofs.Asking.{arbiter_makes}
 use Rattle.outside_devices.proofs.Records.{disk_makes}
 use Rattle.outside_devices.proofs.Terminals.{arrived_are, arrived_next, key_kept, key_typed, not_arrived, there, told_are, typed_are, typed_there}
-use Rattle.outside_devices.proofs.Words.{AreTerminals, Carries, Held, KeptTerminal, Machine, Outside, OutsideStep, Shows, Terminal, accepted_in, arrived_after, is_accepted, taking, terminal_at, terminal_in, typed_answer}
+use Rattle.outside_devices.proofs.Words.{AreTerminals, Carries, Held, KeptTerminal, Machine, Outside, Shows, Terminal, accepted_in, is_accepted, terminal_at, typed_answer}
 use Rattle.outside_devices.specs.Steps.{CallsMake, HostsMake, TakesByte, TerminalsMake, TypesKey}
 
 module _ {S : Type 0} (M : Machine S) (drives : ℕ) (held : Held) (o : Outside) (h : Shows M drives held o) where

@@ -1,5 +1,5 @@
 -- The disk has the record of the greatest number for each sector, and is read there; if it fails, its records stay.
-use Rattle.std.proofs.Common.{◌≡◌, [], ◌∷◌, ◌++◌, ◌∙◌, List, None, Option, Some, Err, Ok, ap, refl, subst, sym, ℕ}
+use Rattle.std.proofs.Common.{◌≡◌, [], ◌∷◌, ◌++◌, ◌∙◌, List, None, Option, Some, ap, refl, subst, sym, ℕ}
 use Rattle.std.specs.Option.{option_map}
 use Rattle.std.specs.Prelude.{IsSome}
 use Rattle.std.proofs.lemmas.Option.{same_Some}
@@ -8,8 +8,8 @@ use Rattle.host_law.specs.Outside as outside
 use Rattle.pair_protocol.specs.World.{Released, SectorRead}
 use Rattle.shared_disk.specs.declared.disk.SectorRead as device
 use Rattle.outside_devices.proofs.Borrowed.{disk_put, not_put}
-use Rattle.outside_devices.proofs.Words.{AsksSector, Carries, Fault, Held, IsDisk, IsThere, Machine, Outside, OutsideStep, Puts, Reads, Record, SectorAddress, SectorWrite, Shows, address_of, after_put, answering, read_of, record_at, sector_record, taking}
-use Rattle.outside_devices.specs.Steps.{DiskMakes, Makes}
+use Rattle.outside_devices.proofs.Words.{AsksSector, Carries, Held, IsDisk, IsThere, Machine, Outside, OutsideStep, Record, SectorAddress, SectorWrite, Shows, address_of, after_put, answering, read_of, record_at, sector_record}
+use Rattle.outside_devices.specs.Steps.{DiskMakes}
 
 there_is : (o : Option Record) → IsSome o → (r : Record) × (o ≡ Some r)
 there_is (Some r) s = (r, refl)

@@ -4,7 +4,7 @@ use Rattle.std.specs.Prelude.{◌==◌}
 use Rattle.host_law.specs.Outside as outside
 use Rattle.outside_devices.proofs.Terminals.{nothing_yet}
 use Rattle.outside_devices.proofs.Words.{Act, Frame, Held, IsDisk, Machine, Outside, OutsideRun, OutsideStep, Record, Shows, admitted_after, at_boot, at_first, sent, taken}
-use Rattle.outside_devices.specs.Ran.{GoesOn, IsRun, OutsideRan}
+use Rattle.outside_devices.specs.Ran.{GoesOn, OutsideRan}
 use Rattle.outside_devices.specs.Steps.{Makes}
 
 taken-one : (acts : List Act) (act : Act) → taken (acts ++ act ∷ []) ≡ taken acts ++ act.takes

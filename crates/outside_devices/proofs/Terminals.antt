@@ -1,11 +1,11 @@
 -- A terminal keeps the same of a whole one after each call: a key, a byte that it accepts, keys that are covered.
-use Rattle.std.proofs.Common.{◌≡◌, ◌+◌, ◌-◌, ◌≤◌, ◌<◌, [], ◌∷◌, ◌++◌, ◌∙◌, Bool, List, None, Option, Some, Err, Ok, Result, ap, arith, cond, drop, false, length, length-append, length-drop, ltb-true, max, refl, subst, suc, sym, true, zero, ℕ}
+use Rattle.std.proofs.Common.{◌≡◌, ◌+◌, ◌-◌, ◌≤◌, ◌<◌, [], ◌∷◌, ◌++◌, ◌∙◌, Bool, List, None, Option, Some, Err, Ok, ap, arith, cond, drop, false, length, length-append, length-drop, ltb-true, max, refl, subst, suc, sym, true, zero, ℕ}
 use Rattle.std.specs.Prelude.{◌==◌, ◌&&◌, is_none, nat_lt, ok_or, slice_get, slice_set}
 use Rattle.std.proofs.lemmas.Bool.{le-ltb, ltb-false}
-use Rattle.std.proofs.lemmas.List.{append-nil, drop-append-le, drop-drop, length-set, set_past}
+use Rattle.std.proofs.lemmas.List.{drop-append-le, drop-drop, length-set, set_past}
 use Rattle.circular_buffer.proofs.Places.{slice_get-drop}
 use Rattle.pair_protocol.proofs.Promises.OneMore.{accepted-one, terminal-set}
-use Rattle.outside_devices.proofs.Words.{AreTerminals, Arrival, Fault, IsTerminal, KeptTerminal, PORTS, Terminal, Unknown, accepted_after, accepted_in, after_arrival, after_telling, answered, arrived_after, blank, comes_next, covered_of, is_accepted, key_answer, key_of, next_key, no_terminal, terminal_at, terminal_in, told_after, typed_after, typed_answer, typing_answer, typing_refusal, with_key}
+use Rattle.outside_devices.proofs.Words.{AreTerminals, Fault, IsTerminal, KeptTerminal, PORTS, Terminal, Unknown, accepted_after, accepted_in, after_arrival, after_telling, answered, arrived_after, blank, comes_next, covered_of, is_accepted, key_answer, key_of, next_key, no_terminal, terminal_at, terminal_in, told_after, typed_after, typed_answer, typing_answer, typing_refusal, with_key}
 
 -- ---- one terminal
 

@@ -1,5 +1,5 @@
 -- What the calls are in the law: of whatever outside the devices show, each call is a step with these frames.
-use Rattle.std.specs.Prelude.{◌≡◌, ℕ, ◌≤◌, Bool, true, IsTrue, if◌then◌else◌, nat_lt, Option, Some, None, is_none, List, [], ◌∷◌, ◌++◌, length, slice_get, Ok, Err}
+use Rattle.std.specs.Prelude.{◌≡◌, ℕ, ◌≤◌, Bool, IsTrue, if◌then◌else◌, nat_lt, Some, is_none, List, [], ◌∷◌, ◌++◌, length, slice_get, Ok, Err}
 use Rattle.arbiter_core.specs.declared.arbiter.Asking.{Asking}
 use Rattle.arbiter_core.specs.declared.arbiter.Won.{Won}
 use Rattle.disk_dcdd.specs.Address.{address_of, has_sector}
