@@ -1,4 +1,3 @@
-pub mod Borrowed
 pub mod Words
 pub mod Terminals
 pub mod Asking

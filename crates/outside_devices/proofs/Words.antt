@@ -15,8 +15,7 @@ pub use Rattle.pair_protocol.specs.World.{Arrival, SectorRecord, Terminal, Winne
 pub use Rattle.shared_disk.specs.Arrivals.{after_put, read_at, read_of}
 pub use Rattle.shared_disk.specs.Records.{IsAt, IsThere, record_at, refusal_at}
 pub use Rattle.shared_disk.specs.declared.store.Record.{Record}
-pub use Rattle.outside_devices.specs.Borrowed.{AreWinners, IsDisk}
 pub use Rattle.outside_devices.specs.Calls.{Asks, Puts, Reads, admitted_after, arrived_after, is_accepted, key_answer, terminal_at, told_after, typed_after, typed_answer}
 pub use Rattle.outside_devices.specs.Held.{Held, at_boot}
-pub use Rattle.outside_devices.specs.Shown.{AreTerminals, IsTerminal, Shows}
+pub use Rattle.outside_devices.specs.Shown.{AreTerminals, AreWinners, IsDisk, IsTerminal, Shows}
 pub use Rattle.outside_devices.specs.Terminal.{KeptTerminal, after_arrival, after_telling, answered, blank, comes_next, covered_of, key_of, next_key, typing_answer, typing_refusal, with_key}

@@ -2,7 +2,6 @@ pub mod Terminal
 pub mod Ring
 pub mod Held
 pub mod Calls
-pub mod Borrowed
 pub mod Shown
 pub mod Steps
 pub mod Ran

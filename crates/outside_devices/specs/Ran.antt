@@ -4,10 +4,9 @@ use Rattle.guest_lockstep.specs.Machine.{Machine}
 use Rattle.shared_disk.specs.declared.store.Record.{Record}
 use Rattle.host_law.specs.Frame.{Act, Frame, sent, taken}
 use Rattle.host_law.specs.Outside.{Outside, OutsideRun, at_first}
-use Rattle.outside_devices.specs.Borrowed.{IsDisk}
 use Rattle.outside_devices.specs.Calls.{admitted_after}
 use Rattle.outside_devices.specs.Held.{Held, at_boot}
-use Rattle.outside_devices.specs.Shown.{Shows}
+use Rattle.outside_devices.specs.Shown.{IsDisk, Shows}
 use Rattle.outside_devices.specs.Steps.{Makes}
 
 -- a run of an outside that counts this many hosts
