@@ -5,3 +5,5 @@ pub mod Straying
 pub mod Flying
 pub mod Joining
 pub mod Waiting
+pub mod Keeping
+pub mod Accepting

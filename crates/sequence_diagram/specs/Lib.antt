@@ -1,13 +1,16 @@
 pub mod Aims
 pub mod Arrows
+pub mod Bars
 pub mod Columns
 pub mod Escapes
 pub mod Geometry
+pub mod Keeping
 pub mod Keys
 pub mod Lines
 pub mod Marks
 pub mod Messages
 pub mod Places
 pub mod Runs
+pub mod Screens
 pub mod Waits
 pub mod Words

@@ -7,7 +7,7 @@ use crate::lifelines::draw_columns;
 use crate::moment::Moment;
 use crate::place::Place;
 use crate::plan::Plan;
-use crate::screens::Accepted;
+use crate::screens::{Accepted, accepted_in};
 use crate::strokes::{draw_loss, draw_stroke, draw_waits};
 use crate::texts::draw_texts;
 use crate::ways::{Way, ways_of};
@@ -41,7 +41,7 @@ fn draw_run(
     draw_strokes(drawing, plan, moments)?;
     draw_losses(alloc, drawing, plan, moments)?;
     draw_words(drawing, plan, moments)?;
-    draw_foot(drawing, plan, moments)
+    draw_foot(alloc, drawing, plan, moments)
 }
 
 // Draws what has arrived.
@@ -83,14 +83,20 @@ fn draw_words(drawing: &mut Drawing, plan: &Plan, moments: &[Moment]) -> Result<
 }
 
 // Draws what is below the columns.
-fn draw_foot(drawing: &mut Drawing, plan: &Plan, moments: &[Moment]) -> Result<(), AllocError> {
+fn draw_foot(
+    alloc: Global,
+    drawing: &mut Drawing,
+    plan: &Plan,
+    moments: &[Moment],
+) -> Result<(), AllocError> {
     let y = plan.bottom.saturating_add(FOOT);
-    draw_screens(drawing, plan, moments, y)?;
+    draw_screens(alloc, drawing, plan, moments, y)?;
     draw_legend(drawing, y.saturating_add(FOOT))
 }
 
 // Says what the terminals have accepted.
 fn draw_screens(
+    alloc: Global,
     drawing: &mut Drawing,
     plan: &Plan,
     moments: &[Moment],
@@ -99,14 +105,22 @@ fn draw_screens(
     let mut x = 40u64;
     for place in plan.columns.places.as_slice() {
         if let Place::Terminal(port) = *place {
-            drawing.words(
-                "screen",
-                Point { x, y },
-                Side::Right,
-                &Accepted { moments, port },
-            )?;
+            draw_screen(alloc, drawing, moments, port, Point { x, y })?;
             x = x.saturating_add(WIDTH / 2);
         }
     }
     Ok(())
+}
+
+// Says what a terminal has accepted.
+fn draw_screen(
+    alloc: Global,
+    drawing: &mut Drawing,
+    moments: &[Moment],
+    port: u8,
+    at: Point,
+) -> Result<(), AllocError> {
+    let bytes = accepted_in(alloc, moments, port)?;
+    let bytes = &bytes;
+    drawing.words("screen", at, Side::Right, &Accepted { port, bytes })
 }
