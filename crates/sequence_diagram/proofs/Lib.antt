@@ -7,3 +7,4 @@ pub mod Joining
 pub mod Waiting
 pub mod Keeping
 pub mod Accepting
+pub mod Folding

@@ -3,13 +3,16 @@ pub mod Arrows
 pub mod Bars
 pub mod Columns
 pub mod Escapes
+pub mod Folds
 pub mod Geometry
 pub mod Keeping
 pub mod Keys
 pub mod Lines
+pub mod Losses
 pub mod Marks
 pub mod Messages
 pub mod Places
+pub mod Plans
 pub mod Runs
 pub mod Screens
 pub mod Waits

@@ -1,5 +1,6 @@
 //! Where everything of a run is in its picture.
-ghost use Rattle.std.specs.Prelude.{◌≤◌};
+ghost use Rattle.std.specs.Prelude.{◌≡◌, ◌≤◌};
+ghost use Rattle.sequence_diagram.specs.Plans.{width_in, x_in};
 
 use crate::columns::Columns;
 use crate::geometry::{BOTTOM, MOST, column_x, line_y};
@@ -35,13 +36,16 @@ impl Plan {
 
     /// How many columns there are.
     pub fn width(&self) -> u64
-        ensures { result ≤ MOST }
+        ensures exact { result ≡ width_in self.now.columns.places.items }
+        ensures within { result ≤ MOST }
     {
         (self.columns.places.len() as u64).min(MOST)
     }
 
     /// Where the column of a place is.
-    pub fn x(&self, place: Place) -> u64 {
+    pub fn x(&self, place: Place) -> u64
+        ensures { result ≡ x_in self.now.columns.places.items place }
+    {
         let column = self.columns.column(place) as u64;
         column_x(self.width(), column.min(MOST))
     }
