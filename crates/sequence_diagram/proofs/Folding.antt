@@ -20,18 +20,25 @@ module _ {A : Type 0} (Notes : ℕ → A → A → Type 0) (none : A) (moments :
   one_more place before after so_far same notes = record {
     noted = OneNoted so_far.noted notes;
     shared = λ k low high. elim (cases_eq k place) [
-        inl is ↦ subst (λ p. line_at of p ≡ line_at of first) (sym is) same
-        | inr other ↦ so_far.shared k low (omega (arith, high, other)) ];
+      | inl is ↦ subst (λ p. line_at of p ≡ line_at of first) (sym is) same
+      | inr other ↦ so_far.shared k low (omega (arith, high, other))
+    ];
   }
 
   -- the next event is of another line, or there is none
   pub of_line : (place : ℕ) (all : A) → SoFar place all → (line_at of place ≡ line_at of first → ⊥)
       → AreOfLine Notes none moments of first all
   of_line place all so_far other = record {
-    end = place; noted = so_far.noted; shared = so_far.shared; ends = λ within. other;
+    end = place;
+    noted = so_far.noted;
+    shared = so_far.shared;
+    ends = λ within. other;
   }
 
   pub of_last_line : (place : ℕ) (all : A) → SoFar place all → length moments ≤ place → AreOfLine Notes none moments of first all
   of_last_line place all so_far past = record {
-    end = place; noted = so_far.noted; shared = so_far.shared; ends = λ within same. absurd (omega (arith, past, within));
+    end = place;
+    noted = so_far.noted;
+    shared = so_far.shared;
+    ends = λ within same. absurd (omega (arith, past, within));
   }

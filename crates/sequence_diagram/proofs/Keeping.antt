@@ -16,11 +16,13 @@ module _ (moments : List Moment) (place : ℕ) (address : SectorAddress) where
       → (newest' ≡ newest) ⊎ IsOne address newest' found → IsNewest moments (place + 1) address newest'
   newest_more newest newest' found so_far here least counted one = record {
     none_newer = λ k before. elim (cases_eq k place) [
-        inl same ↦ (found, (subst (λ p. HasArrival moments p found) (sym same) here, counted))
-        | inr other ↦ let was = so_far.none_newer k (omega arith) in
-            (was.0, (was.1.0, at_most_more address newest newest' was.0 least was.1.1)) ];
+      | inl same ↦ (found, (subst (λ p. HasArrival moments p found) (sym same) here, counted))
+      | inr other ↦ let was = so_far.none_newer k (omega arith) in
+          (was.0, (was.1.0, at_most_more address newest newest' was.0 least was.1.1))
+    ];
     is_one = λ some. elim one [
-        inl same ↦ let was = so_far.is_one (subst (λ n. 0 < n) same some) in
-            (was.0, (omega (arith, was.1.0), (was.1.1.0, (was.1.1.1.0, subst (λ n. IsOne address n was.1.1.0) (sym same) was.1.1.1.1))))
-        | inr it ↦ (place, (omega arith, (found, (here, it)))) ];
+      | inl same ↦ let was = so_far.is_one (subst (λ n. 0 < n) same some) in
+          (was.0, (omega (arith, was.1.0), (was.1.1.0, (was.1.1.1.0, subst (λ n. IsOne address n was.1.1.0) (sym same) was.1.1.1.1))))
+      | inr it ↦ (place, (omega arith, (found, (here, it))))
+    ];
   }

@@ -15,5 +15,6 @@ pub mod Places
 pub mod Plans
 pub mod Runs
 pub mod Screens
+pub mod Svg
 pub mod Waits
 pub mod Words

@@ -1,4 +1,8 @@
 //! A run as a picture: columns, arrows, what is said of them, and below it what the terminals have accepted.
+ghost use Rattle.std.specs.Prelude.{IfOk, string_bytes};
+ghost use Rattle.sequence_diagram.specs.Geometry.{width_of};
+ghost use Rattle.sequence_diagram.specs.Plans.{height_over, width_in};
+ghost use Rattle.sequence_diagram.specs.Svg.{HasSize, IsPicture};
 
 use crate::drawing::{Drawing, Side};
 use crate::geometry::{Point, WIDTH, picture_width};
@@ -17,16 +21,32 @@ use std::alloc::{AllocError, Global};
 const FOOT: u64 = 22;
 
 /// The run as the text of an SVG file.
-pub fn draw(alloc: Global, moments: &[Moment]) -> Result<String, AllocError> {
+pub fn draw(alloc: Global, moments: &[Moment]) -> Result<String, AllocError>
+    ensures { IfOk result (λ picture. IsPicture moments.now (string_bytes picture)) }
+{
     let plan = Plan::of(alloc, moments)?;
     draw_plan(alloc, &plan, moments)
 }
 
-fn draw_plan(alloc: Global, plan: &Plan, moments: &[Moment]) -> Result<String, AllocError> {
+fn draw_plan(alloc: Global, plan: &Plan, moments: &[Moment]) -> Result<String, AllocError>
+    ensures { IfOk result (λ picture. HasSize (width_of (width_in plan.now.columns.places.items)) (height_over plan.now.bottom)
+        (string_bytes picture)) }
+{
+    let width = picture_width(plan.width());
     let height = plan.bottom.saturating_add(FOOT * 2 + LEGEND);
-    let mut drawing = Drawing::new(alloc, picture_width(plan.width()), height, STYLE)?;
+    let mut drawing = Drawing::new(alloc);
+    draw_page(&mut drawing, width, height)?;
     draw_run(alloc, &mut drawing, plan, moments)?;
-    drawing.finish()
+    drawing.finish(alloc, width, height, STYLE)
+}
+
+// Draws what is below everything.
+fn draw_page(drawing: &mut Drawing, width: u64, height: u64) -> Result<(), AllocError> {
+    let end = Point {
+        x: width,
+        y: height,
+    };
+    drawing.rect("page", Point { x: 0, y: 0 }, end)
 }
 
 // Draws all of it.

@@ -57,15 +57,13 @@ fn byte_for(port: u8, cargo: Option<Cargo>) -> Option<u8>
     ensures { result ≡ byte_for port cargo }
 {
     match cargo {
-        Some(Cargo::Byte {
-            port: other, byte, ..
-        }) => {
-            if other == port {
-                Some(byte)
-            } else {
-                None
-            }
-        }
+        Some(
+            Cargo::Byte {
+                port: other,
+                byte,
+                ..
+            },
+        ) => { if other == port { Some(byte) } else { None } }
         _ => None,
     }
 }
