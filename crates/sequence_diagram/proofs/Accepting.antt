@@ -1,5 +1,5 @@
--- What a terminal has accepted after one event more, and how its bytes are said.
-use Rattle.std.proofs.Common.{◌≡◌, ℕ, suc, ◌+◌, ◌-◌, ◌<◌, ◌==◌, true, false, arith, List, ◌∷◌, ◌++◌, drop, length, nat_lt, take, Option, subst, sym}
+-- What a terminal has accepted after one event more.
+use Rattle.std.proofs.Common.{◌≡◌, ℕ, suc, ◌+◌, arith, List, ◌++◌, Option, subst, sym}
 use Rattle.sequence_diagram.specs.Screens.{HasAccepted, IsAcceptedAt, bytes_of}
 use Rattle.sequence_diagram.specs.declared.moment.Moment.{Moment}
 

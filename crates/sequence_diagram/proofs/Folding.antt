@@ -1,5 +1,5 @@
 -- The events of a line, one after another.
-use Rattle.std.proofs.Common.{◌≡◌, ◌⊎◌, ℕ, ◌+◌, ◌<◌, ◌≤◌, arith, inl, inr, List, length, subst, sym}
+use Rattle.std.proofs.Common.{◌≡◌, ℕ, ◌+◌, ◌<◌, ◌≤◌, arith, inl, inr, List, length, subst, sym}
 use Rattle.std.proofs.lemmas.Bool.{cases_eq}
 use Rattle.sequence_diagram.specs.Folds.{AreNoted, AreOfLine}
 use Rattle.sequence_diagram.specs.Folds.AreNoted.{NoneNoted, OneNoted}

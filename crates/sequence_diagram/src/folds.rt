@@ -1,7 +1,7 @@
 //! What many events on one line have done: parts of a copy, or keys of a terminal.
-ghost use Rattle.std.specs.Prelude.{◌≡◌, Some, slice_get};
+ghost use Rattle.std.specs.Prelude.{◌≡◌, Some};
 ghost use Rattle.std.specs.Fmt.{WritesOnOk};
-ghost use Rattle.sequence_diagram.specs.Folds.{AreOfLine, HasNotedPart, NotesKey, counted_part, keys_text, many_keys, many_parts, no_keys, no_parts, noted_key, parts_text, sent_part};
+ghost use Rattle.sequence_diagram.specs.Folds.{AreOfLine, HasNotedPart, NotesKey, counted_part, keys_text, many_keys, many_parts, no_keys, no_parts, parts_text, sent_part};
 
 use crate::cargo::write_number_and;
 use crate::exchanges::{Exchange, exchange_of};

@@ -1,7 +1,7 @@
 //! The ways of messages across a picture, and where on its own way a lost one may end without touching them.
-ghost use Rattle.std.specs.Prelude.{◌≡◌, ◌∷◌, []};
+ghost use Rattle.std.specs.Prelude.{◌≡◌};
 ghost use Rattle.std.specs.List.{list_any};
-ghost use Rattle.sequence_diagram.specs.Losses.{end_of_loss, first_free, is_free, is_near, touches, x_after, x_at};
+ghost use Rattle.sequence_diagram.specs.Losses.{end_of_loss, is_free, is_near, touches, x_after, x_at};
 
 use crate::flights::flight_to;
 use crate::geometry::Point;
