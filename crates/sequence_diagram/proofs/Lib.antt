@@ -8,3 +8,4 @@ pub mod Waiting
 pub mod Keeping
 pub mod Accepting
 pub mod Folding
+pub mod Sizing

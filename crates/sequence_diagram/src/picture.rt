@@ -21,14 +21,21 @@ use std::alloc::{AllocError, Global};
 const FOOT: u64 = 22;
 
 /// The run as the text of an SVG file.
+#[tactic(auto, using(crate::proofs::Sizing::is_picture))]
 pub fn draw(alloc: Global, moments: &[Moment]) -> Result<String, AllocError>
     ensures { IfOk result (λ picture. IsPicture moments.now (string_bytes picture)) }
 {
     let plan = Plan::of(alloc, moments)?;
-    draw_plan(alloc, &plan, moments)
+    draw_plan(alloc, &plan, moments, STYLE)
 }
 
-fn draw_plan(alloc: Global, plan: &Plan, moments: &[Moment]) -> Result<String, AllocError>
+// The run in a style.
+fn draw_plan(
+    alloc: Global,
+    plan: &Plan,
+    moments: &[Moment],
+    style: &str,
+) -> Result<String, AllocError>
     ensures { IfOk result (λ picture. HasSize (width_of (width_in plan.now.columns.places.items)) (height_over plan.now.bottom)
         (string_bytes picture)) }
 {
@@ -37,7 +44,7 @@ fn draw_plan(alloc: Global, plan: &Plan, moments: &[Moment]) -> Result<String, A
     let mut drawing = Drawing::new(alloc);
     draw_page(&mut drawing, width, height)?;
     draw_run(alloc, &mut drawing, plan, moments)?;
-    drawing.finish(alloc, width, height, STYLE)
+    drawing.finish(alloc, width, height, style)
 }
 
 // Draws what is below everything.
