@@ -5,3 +5,7 @@ pub mod Straying
 pub mod Flying
 pub mod Joining
 pub mod Waiting
+pub mod Keeping
+pub mod Accepting
+pub mod Folding
+pub mod Sizing

@@ -33,13 +33,16 @@ is_news (Ok (reply.Ran steps count why)) = true
 is_news (Ok (reply.Held held)) = true
 is_news answer = false
 
--- how many operations wait before an event
+-- how many operations wait after an event, and before one
 abbrev operations_of : Option Wait → ℕ
 operations_of (Some wait) = wait.operations
 operations_of None = 0
 
+abbrev pub operations_at : List Wait → ℕ → ℕ
+operations_at waits place = operations_of (slice_get waits place)
+
 abbrev pub operations_before : List Wait → ℕ → ℕ
-operations_before waits place = if place == 0 then 0 else operations_of (slice_get waits (place - 1))
+operations_before waits place = if place == 0 then 0 else operations_at waits (place - 1)
 
 -- what waits is told after such an event, if it is not as many operations as before it
 abbrev told_if : Bool → ℕ → Option Wait → Option Wait

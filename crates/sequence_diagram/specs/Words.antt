@@ -1,5 +1,5 @@
 -- What is said of events and of messages, in words.
-use Rattle.std.specs.Prelude.{ℕ, zero, suc, ◌==◌, Bool, true, false, if◌then◌else◌, List, [], ◌∷◌, ◌++◌, Option, Some, None, Result, Ok, Err, codes}
+use Rattle.std.specs.Prelude.{ℕ, zero, suc, ◌==◌, nat_lt, Bool, true, false, if◌then◌else◌, List, [], ◌∷◌, ◌++◌, Option, Some, None, Result, Ok, Err, codes}
 use Rattle.std.specs.Char.{is_ascii_alphanumeric}
 use Rattle.std.specs.Fmt.{decimal}
 use Rattle.event_callbacks.specs.declared.operations.OpId.{OpId}
@@ -235,6 +235,13 @@ outcome_by happened (Ok answer) look = came_text happened answer look
 
 abbrev pub outcome_text : Moment → List ℕ
 outcome_text moment = outcome_by moment.event moment.answer moment.look
+
+-- what the disk has done with a write that arrived, by the newest one of its sector before it
+abbrev pub kept_text : ℕ → ℕ → List ℕ
+kept_text number newest =
+    if nat_lt number newest then codes "keeps newer write" ␣ decimal newest
+    else if newest == number then codes "has write" ␣ decimal newest ++ codes " already"
+    else codes "stores write" ␣ decimal number
 
 -- what goes without saying
 abbrev pub is_plain : Result Reply Fault → Bool

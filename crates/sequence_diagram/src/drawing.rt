@@ -1,6 +1,7 @@
 //! The elements of an SVG picture, one after another.
-ghost use Rattle.std.specs.Prelude.{◌≡◌, ◌++◌, OnOk, string_bytes};
+ghost use Rattle.std.specs.Prelude.{◌≡◌, ◌++◌, IfOk, OnOk, string_bytes};
 ghost use Rattle.sequence_diagram.specs.Escapes.{escaped, escaped_all};
+ghost use Rattle.sequence_diagram.specs.Svg.{head_text, svg_text};
 
 use crate::geometry::Point;
 use std::alloc::{AllocError, Global};
@@ -33,35 +34,30 @@ impl Side {
 }
 
 impl Drawing {
-    /// An empty picture of this size, with this style.
-    pub fn new(alloc: Global, width: u64, height: u64, style: &str) -> Result<Drawing, AllocError> {
-        let mut drawing = Drawing {
+    /// A picture without elements.
+    pub fn new(alloc: Global) -> Drawing {
+        Drawing {
             text: String::new(alloc),
             words: String::new(alloc),
-        };
-        drawing.begin(width, height, style)?;
-        Ok(drawing)
+        }
     }
 
-    // Begins the text of a picture: its size, its style and its page.
-    fn begin(&mut self, width: u64, height: u64, style: &str) -> Result<(), AllocError> {
-        writeln!(
-            self.text,
-            "<svg xmlns=\"http://www.w3.org/2000/svg\" viewBox=\"0 0 {width} {height}\" width=\"{width}\" height=\"{height}\">"
-        )?;
-        self.text.push_str(style)?;
-        let end = Point {
-            x: width,
-            y: height,
-        };
-        self.rect("page", Point { x: 0, y: 0 }, end)
-    }
-
-    /// The whole picture, as the text of an SVG file.
-    pub fn finish(self) -> Result<String, AllocError> {
-        let Drawing { mut text, .. } = self;
-        text.push_str("</svg>\n")?;
-        Ok(text)
+    /// The whole picture, as the text of an SVG file of this size in pixels, with this style.
+    pub fn finish(
+        &self,
+        alloc: Global,
+        width: u64,
+        height: u64,
+        style: &str,
+    ) -> Result<String, AllocError>
+        ensures { IfOk result (λ picture. string_bytes picture ≡ svg_text width height style.now (string_bytes self.now.text)) }
+    {
+        let mut picture = String::new(alloc);
+        begin(&mut picture, width, height)?;
+        picture.push_str(style)?;
+        picture.push_str(&self.text)?;
+        picture.push_str("</svg>\n")?;
+        Ok(picture)
     }
 
     /// A line from one point to another.
@@ -136,6 +132,16 @@ impl Drawing {
             side.anchor()
         )
     }
+}
+
+// Begins the text of a picture.
+fn begin(text: &mut String, width: u64, height: u64) -> Result<(), AllocError>
+    ensures { OnOk result (string_bytes text.new ≡ string_bytes text.old ++ head_text width height) }
+{
+    writeln!(
+        text,
+        "<svg xmlns=\"http://www.w3.org/2000/svg\" viewBox=\"0 0 {width} {height}\" width=\"{width}\" height=\"{height}\">"
+    )
 }
 
 // Appends letters as they are written between two tags.

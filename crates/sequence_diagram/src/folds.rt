@@ -1,10 +1,14 @@
 //! What many events on one line have done: parts of a copy, or keys of a terminal.
+ghost use Rattle.std.specs.Prelude.{◌≡◌, Some};
+ghost use Rattle.std.specs.Fmt.{WritesOnOk};
+ghost use Rattle.sequence_diagram.specs.Folds.{AreOfLine, HasNotedPart, NotesKey, counted_part, keys_text, many_keys, many_parts, no_keys, no_parts, parts_text, sent_part};
 
 use crate::cargo::write_number_and;
 use crate::exchanges::{Exchange, exchange_of};
 use crate::flights::{Flight, flight_to};
 use crate::lines::Lines;
 use crate::moment::Moment;
+use i8080_words::R;
 use pair_events::{Event, Reply};
 use std::fmt;
 
@@ -28,7 +32,10 @@ pub struct Keys {
 }
 
 /// The parts on the line that an event begins.
-pub fn parts_from(moments: &[Moment], lines: &Lines, first: usize) -> Parts {
+#[tactic(auto, using(crate::proofs::Folding::of_line, crate::proofs::Folding::of_last_line))]
+pub fn parts_from(moments: &[Moment], lines: &Lines, first: usize) -> Parts
+    ensures { AreOfLine (HasNotedPart moments.now) no_parts moments.now lines.now.of.items first result }
+{
     let mut parts = Parts {
         sent: 0,
         came: 0,
@@ -46,7 +53,10 @@ pub fn parts_from(moments: &[Moment], lines: &Lines, first: usize) -> Parts {
 }
 
 /// The keys on the line that an event begins.
-pub fn keys_from(moments: &[Moment], lines: &Lines, first: usize) -> Keys {
+#[tactic(auto, using(crate::proofs::Folding::of_line, crate::proofs::Folding::of_last_line))]
+pub fn keys_from(moments: &[Moment], lines: &Lines, first: usize) -> Keys
+    ensures { AreOfLine (NotesKey moments.now) no_keys moments.now lines.now.of.items first result }
+{
     let mut keys = Keys {
         typed: 0,
         taken: 0,
@@ -63,11 +73,23 @@ pub fn keys_from(moments: &[Moment], lines: &Lines, first: usize) -> Keys {
 
 impl Parts {
     // Notes one more event of the line.
-    fn note(&mut self, moments: &[Moment], place: usize) {
+    fn note(&mut self, moments: &[Moment], place: usize)
+        ensures { HasNotedPart moments.now place self.old self.new }
+    {
         let Some(moment) = moments.get(place) else {
             return;
         };
-        match (moment.event, moment.answer) {
+        self.count(moment.event, moment.answer);
+        if self.flight.is_none() {
+            self.flight = flight_to(moments, place);
+        }
+    }
+
+    // Counts the part that an event has sent or brought.
+    fn count(&mut self, event: Event, answer: R<Reply>)
+        ensures { self.new ≡ counted_part event answer self.old }
+    {
+        match (event, answer) {
             (Event::SendPart { index, .. }, Ok(_)) => self.note_sent(index),
             (_, Ok(Reply::New)) => self.came = self.came.saturating_add(1),
             (_, Ok(Reply::Whole)) => {
@@ -76,12 +98,11 @@ impl Parts {
             }
             _ => {}
         }
-        if self.flight.is_none() {
-            self.flight = flight_to(moments, place);
-        }
     }
 
-    fn note_sent(&mut self, index: u64) {
+    fn note_sent(&mut self, index: u64)
+        ensures { self.new ≡ sent_part index self.old }
+    {
         self.sent = self.sent.saturating_add(1);
         if self.index.is_none() {
             self.index = Some(index);
@@ -91,7 +112,9 @@ impl Parts {
 
 impl Keys {
     // Notes one more event of the line.
-    fn note(&mut self, moments: &[Moment], place: usize) {
+    fn note(&mut self, moments: &[Moment], place: usize)
+        ensures { NotesKey moments.now place self.old self.new }
+    {
         let Some(moment) = moments.get(place) else {
             return;
         };
@@ -106,6 +129,8 @@ impl Keys {
 }
 
 impl fmt::Display for Parts {
+    ghost output = { λ parts. Some (parts_text parts) };
+
     fn fmt<W: fmt::Write>(&self, f: &mut fmt::Formatter<W>) -> fmt::Result {
         let count = if self.flight.is_some() {
             self.came
@@ -120,11 +145,15 @@ impl fmt::Display for Parts {
     }
 }
 
-fn write_parts<W: fmt::Write>(f: &mut fmt::Formatter<W>, count: u64) -> fmt::Result {
+fn write_parts<W: fmt::Write>(f: &mut fmt::Formatter<W>, count: u64) -> fmt::Result
+    ensures { WritesOnOk W.write_str_gives f.old result (many_parts count) f.new }
+{
     write!(f, "{count} parts of the copy")
 }
 
 impl fmt::Display for Keys {
+    ghost output = { λ keys. Some (keys_text keys.typed keys.taken) };
+
     fn fmt<W: fmt::Write>(&self, f: &mut fmt::Formatter<W>) -> fmt::Result {
         match (self.typed, self.taken) {
             (typed, 0) => write_number_and(f, "types", typed, " keys"),
@@ -134,6 +163,8 @@ impl fmt::Display for Keys {
     }
 }
 
-fn write_keys<W: fmt::Write>(f: &mut fmt::Formatter<W>, typed: u64, taken: u64) -> fmt::Result {
+fn write_keys<W: fmt::Write>(f: &mut fmt::Formatter<W>, typed: u64, taken: u64) -> fmt::Result
+    ensures { WritesOnOk W.write_str_gives f.old result (many_keys typed taken) f.new }
+{
     write!(f, "{typed} keys typed, {taken} taken")
 }

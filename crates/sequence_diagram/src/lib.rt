@@ -3,6 +3,7 @@
 
 mod aims;
 mod arrows;
+mod bars;
 mod cargo;
 mod columns;
 mod drawing;
@@ -10,6 +11,7 @@ mod exchanges;
 mod flights;
 mod folds;
 mod geometry;
+mod kept;
 mod legend;
 mod lifelines;
 mod lines;

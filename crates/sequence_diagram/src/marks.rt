@@ -1,7 +1,8 @@
 //! The count of a machine on the line of its node, and how much of its output waits beside it.
 ghost use Rattle.std.specs.Prelude.{◌≡◌};
-ghost use Rattle.sequence_diagram.specs.Marks.{is_news, look_after, operations_before, told_wait};
+ghost use Rattle.sequence_diagram.specs.Marks.{is_news, look_after, told_wait};
 
+use crate::bars::operations_before;
 use crate::drawing::{Drawing, Side};
 use crate::geometry::Point;
 use crate::moment::{Look, Moment};
@@ -114,17 +115,4 @@ fn is_news(moment: &Moment) -> bool
     ensures { result ≡ is_news moment.now.answer }
 {
     matches!(moment.answer, Ok(Reply::Ran { .. } | Reply::Held { .. }))
-}
-
-// How many operations wait before an event.
-fn operations_before(waits: &[Wait], place: usize) -> usize
-    ensures { result ≡ operations_before waits.now place }
-{
-    if place == 0 {
-        return 0;
-    }
-    match waits.get(place - 1) {
-        Some(wait) => wait.operations,
-        None => 0,
-    }
 }

@@ -1,4 +1,8 @@
 //! A run as a picture: columns, arrows, what is said of them, and below it what the terminals have accepted.
+ghost use Rattle.std.specs.Prelude.{IfOk, string_bytes};
+ghost use Rattle.sequence_diagram.specs.Geometry.{width_of};
+ghost use Rattle.sequence_diagram.specs.Plans.{height_over, width_in};
+ghost use Rattle.sequence_diagram.specs.Svg.{HasSize, IsPicture};
 
 use crate::drawing::{Drawing, Side};
 use crate::geometry::{Point, WIDTH, picture_width};
@@ -7,7 +11,7 @@ use crate::lifelines::draw_columns;
 use crate::moment::Moment;
 use crate::place::Place;
 use crate::plan::Plan;
-use crate::screens::Accepted;
+use crate::screens::{Accepted, accepted_in};
 use crate::strokes::{draw_loss, draw_stroke, draw_waits};
 use crate::texts::draw_texts;
 use crate::ways::{Way, ways_of};
@@ -17,16 +21,39 @@ use std::alloc::{AllocError, Global};
 const FOOT: u64 = 22;
 
 /// The run as the text of an SVG file.
-pub fn draw(alloc: Global, moments: &[Moment]) -> Result<String, AllocError> {
+#[tactic(auto, using(crate::proofs::Sizing::is_picture))]
+pub fn draw(alloc: Global, moments: &[Moment]) -> Result<String, AllocError>
+    ensures { IfOk result (λ picture. IsPicture moments.now (string_bytes picture)) }
+{
     let plan = Plan::of(alloc, moments)?;
-    draw_plan(alloc, &plan, moments)
+    draw_plan(alloc, &plan, moments, STYLE)
 }
 
-fn draw_plan(alloc: Global, plan: &Plan, moments: &[Moment]) -> Result<String, AllocError> {
+// The run in a style.
+fn draw_plan(
+    alloc: Global,
+    plan: &Plan,
+    moments: &[Moment],
+    style: &str,
+) -> Result<String, AllocError>
+    ensures { IfOk result (λ picture. HasSize (width_of (width_in plan.now.columns.places.items)) (height_over plan.now.bottom)
+        (string_bytes picture)) }
+{
+    let width = picture_width(plan.width());
     let height = plan.bottom.saturating_add(FOOT * 2 + LEGEND);
-    let mut drawing = Drawing::new(alloc, picture_width(plan.width()), height, STYLE)?;
+    let mut drawing = Drawing::new(alloc);
+    draw_page(&mut drawing, width, height)?;
     draw_run(alloc, &mut drawing, plan, moments)?;
-    drawing.finish()
+    drawing.finish(alloc, width, height, style)
+}
+
+// Draws what is below everything.
+fn draw_page(drawing: &mut Drawing, width: u64, height: u64) -> Result<(), AllocError> {
+    let end = Point {
+        x: width,
+        y: height,
+    };
+    drawing.rect("page", Point { x: 0, y: 0 }, end)
 }
 
 // Draws all of it.
@@ -41,7 +68,7 @@ fn draw_run(
     draw_strokes(drawing, plan, moments)?;
     draw_losses(alloc, drawing, plan, moments)?;
     draw_words(drawing, plan, moments)?;
-    draw_foot(drawing, plan, moments)
+    draw_foot(alloc, drawing, plan, moments)
 }
 
 // Draws what has arrived.
@@ -83,14 +110,20 @@ fn draw_words(drawing: &mut Drawing, plan: &Plan, moments: &[Moment]) -> Result<
 }
 
 // Draws what is below the columns.
-fn draw_foot(drawing: &mut Drawing, plan: &Plan, moments: &[Moment]) -> Result<(), AllocError> {
+fn draw_foot(
+    alloc: Global,
+    drawing: &mut Drawing,
+    plan: &Plan,
+    moments: &[Moment],
+) -> Result<(), AllocError> {
     let y = plan.bottom.saturating_add(FOOT);
-    draw_screens(drawing, plan, moments, y)?;
+    draw_screens(alloc, drawing, plan, moments, y)?;
     draw_legend(drawing, y.saturating_add(FOOT))
 }
 
 // Says what the terminals have accepted.
 fn draw_screens(
+    alloc: Global,
     drawing: &mut Drawing,
     plan: &Plan,
     moments: &[Moment],
@@ -99,14 +132,22 @@ fn draw_screens(
     let mut x = 40u64;
     for place in plan.columns.places.as_slice() {
         if let Place::Terminal(port) = *place {
-            drawing.words(
-                "screen",
-                Point { x, y },
-                Side::Right,
-                &Accepted { moments, port },
-            )?;
+            draw_screen(alloc, drawing, moments, port, Point { x, y })?;
             x = x.saturating_add(WIDTH / 2);
         }
     }
     Ok(())
+}
+
+// Says what a terminal has accepted.
+fn draw_screen(
+    alloc: Global,
+    drawing: &mut Drawing,
+    moments: &[Moment],
+    port: u8,
+    at: Point,
+) -> Result<(), AllocError> {
+    let bytes = accepted_in(alloc, moments, port)?;
+    let bytes = &bytes;
+    drawing.words("screen", at, Side::Right, &Accepted { port, bytes })
 }

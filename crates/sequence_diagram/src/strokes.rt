@@ -4,6 +4,7 @@ ghost use Rattle.sequence_diagram.specs.Geometry.{beside};
 
 use crate::aims::aim_of;
 use crate::arrows::departure_from;
+use crate::bars::{Bar, bar_from};
 use crate::drawing::Drawing;
 use crate::exchanges::{Exchange, exchange_of};
 use crate::flights::{Flight, flight_to};
@@ -142,29 +143,25 @@ pub fn beside(x: u64, other: u64, distance: u64) -> u64
 
 /// Marks where output waits, beside the line of its node.
 pub fn draw_waits(drawing: &mut Drawing, plan: &Plan) -> Result<(), AllocError> {
-    let mut begun: Option<Point> = None;
-    for (place, wait) in plan.waits.iter().enumerate() {
-        let x = plan.x(Place::Node(wait.node)).saturating_sub(WAITS);
-        let at = Point {
-            x,
-            y: plan.y(place),
-        };
-        match begun {
-            Some(from) if wait.operations == 0 => {
-                draw_wait(drawing, from, at.y)?;
-                begun = None;
-            }
-            None if wait.operations > 0 => begun = Some(at),
-            _ => {}
+    let waits = plan.waits.as_slice();
+    for place in 0..waits.len() {
+        if let Some(bar) = bar_from(waits, place) {
+            draw_bar(drawing, plan, place, bar)?;
         }
     }
-    match begun {
-        Some(from) => draw_wait(drawing, from, plan.bottom),
-        None => Ok(()),
-    }
+    Ok(())
 }
 
-// Marks that output waits, down from a point.
-fn draw_wait(drawing: &mut Drawing, from: Point, y: u64) -> Result<(), AllocError> {
-    drawing.line("waits", from, Point { x: from.x, y })
+// Marks that output waits, from an event on.
+fn draw_bar(drawing: &mut Drawing, plan: &Plan, place: usize, bar: Bar) -> Result<(), AllocError> {
+    let x = plan.x(Place::Node(bar.node)).saturating_sub(WAITS);
+    let bottom = match bar.end {
+        Some(end) => plan.y(end),
+        None => plan.bottom,
+    };
+    let from = Point {
+        x,
+        y: plan.y(place),
+    };
+    drawing.line("waits", from, Point { x, y: bottom })
 }

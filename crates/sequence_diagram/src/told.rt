@@ -1,16 +1,13 @@
-//! What is said of an event that takes what happened before it into account: which byte a key is, whether a message was sent, and what the
-//! disk had already.
+//! What is said of an event that takes what happened before it into account: which byte a key is, and whether a message was sent.
 ghost use Rattle.std.specs.Prelude.{◌≡◌};
 ghost use Rattle.sequence_diagram.specs.Arrows.{IsStray};
 ghost use Rattle.sequence_diagram.specs.Keys.{HasByte, typed_at};
 ghost use Rattle.sequence_diagram.specs.Messages.{unknown_at};
 
 use crate::arrows::sent_before;
-use crate::cargo::{write_key, write_number, write_number_and};
-use crate::flights::cargo_to;
-use crate::moment::{Cargo, Moment, delivered};
+use crate::cargo::write_key;
+use crate::moment::{Moment, delivered};
 use crate::notes::{Named, Note, Reason};
-use disk_dcdd::SectorAddress;
 use i8080_words::Fault;
 use pair_events::{Event, Reply};
 use std::fmt::{self, Display};
@@ -34,20 +31,6 @@ pub struct Why<'a> {
 pub struct Refused<'a> {
     pub moments: &'a [Moment],
     pub place: usize,
-}
-
-/// What the disk has done with the write that the event at a place of a run brought, if it has answered it.
-#[derive(Clone, Copy)]
-pub struct Kept<'a> {
-    pub moments: &'a [Moment],
-    pub place: usize,
-}
-
-// A write that arrived at the disk.
-#[derive(Clone, Copy)]
-struct Arrival {
-    number: u64,
-    address: SectorAddress,
 }
 
 impl Display for Told<'_> {
@@ -147,50 +130,4 @@ fn unknown_at(moments: &[Moment], place: usize) -> Option<u64>
         Err(Fault::Unknown) => delivered(moment.event),
         _ => None,
     }
-}
-
-impl Display for Kept<'_> {
-    fn fmt<W: fmt::Write>(&self, f: &mut fmt::Formatter<W>) -> fmt::Result {
-        let Some(arrival) = arrival_at(self.moments, self.place) else {
-            return Ok(());
-        };
-        let newest = newest_before(self.moments, self.place, arrival.address);
-        if newest > arrival.number {
-            return write_number(f, "keeps newer write", newest);
-        }
-        if newest == arrival.number {
-            return write_number_and(f, "has write", newest, " already");
-        }
-        write_number(f, "stores write", arrival.number)
-    }
-}
-
-// The write that the event at a place of a run brought to the disk, if the disk has answered it.
-fn arrival_at(moments: &[Moment], place: usize) -> Option<Arrival> {
-    let moment = moments.get(place)?;
-    match (moment.event, moment.answer) {
-        (Event::Put { .. }, Ok(_)) => write_to(moments, place),
-        _ => None,
-    }
-}
-
-// The write that an event has brought.
-fn write_to(moments: &[Moment], place: usize) -> Option<Arrival> {
-    match cargo_to(moments, place) {
-        Some(Cargo::Write { number, address }) => Some(Arrival { number, address }),
-        _ => None,
-    }
-}
-
-// The greatest number of a write of a sector that arrived before a place of a run; 0 if there is none.
-fn newest_before(moments: &[Moment], place: usize, address: SectorAddress) -> u64 {
-    let mut newest = 0u64;
-    for before in 0..place {
-        if let Some(arrival) = arrival_at(moments, before) {
-            if arrival.address == address {
-                newest = newest.max(arrival.number);
-            }
-        }
-    }
-    newest
 }

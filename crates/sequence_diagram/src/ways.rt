@@ -1,4 +1,7 @@
 //! The ways of messages across a picture, and where on its own way a lost one may end without touching them.
+ghost use Rattle.std.specs.Prelude.{◌≡◌};
+ghost use Rattle.std.specs.List.{list_any};
+ghost use Rattle.sequence_diagram.specs.Losses.{end_of_loss, is_free, is_near, touches, x_after, x_at};
 
 use crate::flights::flight_to;
 use crate::geometry::Point;
@@ -48,7 +51,9 @@ fn way_to(plan: &Plan, moments: &[Moment], place: usize) -> Option<Way> {
 
 impl Way {
     // Whether it passes so near to a point that it would touch a cross there.
-    fn touches(&self, at: Point) -> bool {
+    fn touches(&self, at: Point) -> bool
+        ensures { result ≡ touches at self.now }
+    {
         let above = at.y.saturating_sub(CLEAR);
         let below = at.y.saturating_add(CLEAR);
         if below < self.from.y || self.to.y < above {
@@ -62,7 +67,9 @@ impl Way {
     }
 
     // How far right it is at a height, or at its end that is nearer to that height.
-    fn x_at(&self, y: u64) -> u64 {
+    fn x_at(&self, y: u64) -> u64
+        ensures { result ≡ x_at self.now y }
+    {
         let height = self.to.y.saturating_sub(self.from.y).max(1);
         let down = y.saturating_sub(self.from.y).min(height);
         let aside = self.from.x.abs_diff(self.to.x).saturating_mul(down) / height;
@@ -75,18 +82,24 @@ impl Way {
 }
 
 /// How far right a lost message ends that leaves at a point for a column.
-pub fn end_of_loss(plan: &Plan, ways: &[Way], from: Point, aim: u64) -> u64 {
-    for reach in &REACHES {
+pub fn end_of_loss(plan: &Plan, ways: &[Way], from: Point, aim: u64) -> u64
+    ensures { result ≡ end_of_loss plan.now.columns.places.items ways.now from aim }
+{
+    let mut rest: &[u64] = &REACHES;
+    'reaches: while let [reach, after @ ..] = rest {
         let x = x_after(from.x, aim, *reach);
         if is_free(plan, ways, Point { x, y: from.y }) {
             return x;
         }
+        rest = after;
     }
     x_after(from.x, aim, 80)
 }
 
 // How far right one is after so many hundredths of a way.
-fn x_after(from: u64, aim: u64, hundredths: u64) -> u64 {
+fn x_after(from: u64, aim: u64, hundredths: u64) -> u64
+    ensures { result ≡ x_after from aim hundredths }
+{
     let reach = from.abs_diff(aim).saturating_mul(hundredths) / 100;
     if from < aim {
         from.saturating_add(reach)
@@ -96,20 +109,36 @@ fn x_after(from: u64, aim: u64, hundredths: u64) -> u64 {
 }
 
 // Whether a cross touches no way and no column.
-fn is_free(plan: &Plan, ways: &[Way], at: Point) -> bool {
-    for way in ways {
-        if way.touches(at) {
-            return false;
-        }
-    }
-    !is_at_column(plan, at.x)
+fn is_free(plan: &Plan, ways: &[Way], at: Point) -> bool
+    ensures { result ≡ is_free plan.now.columns.places.items ways.now at }
+{
+    !touches_any(ways, at) && !is_at_column(plan, at.x)
 }
 
-fn is_at_column(plan: &Plan, x: u64) -> bool {
-    for place in plan.columns.places.as_slice() {
+// Whether one of some ways would touch a cross.
+fn touches_any(ways: &[Way], at: Point) -> bool
+    ensures { result ≡ list_any (touches at) ways.now }
+{
+    let mut rest = ways;
+    'ways: while let [way, after @ ..] = rest {
+        if way.touches(at) {
+            return true;
+        }
+        rest = after;
+    }
+    false
+}
+
+// Whether a column is too near to a cross.
+fn is_at_column(plan: &Plan, x: u64) -> bool
+    ensures { result ≡ list_any (is_near plan.now.columns.places.items x) plan.now.columns.places.items }
+{
+    let mut rest = plan.columns.places.as_slice();
+    'places: while let [place, after @ ..] = rest {
         if plan.x(*place).abs_diff(x) < ASIDE {
             return true;
         }
+        rest = after;
     }
     false
 }
