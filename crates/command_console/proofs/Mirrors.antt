@@ -1,8 +1,9 @@
 -- A copy follows a disk: by nothing, by one write, and by some after others.
-use Rattle.std.proofs.Common.{◌≡◌, ℕ, ◌+◌, if◌then◌else◌, List, [], ◌∷◌, ◌++◌, Option, Some, None, Result, Ok, Err, refl, sym, ap, ◌∙◌, subst, append-nil, append_assoc, arith}
+use Rattle.std.proofs.Common.{◌≡◌, ℕ, if◌then◌else◌, List, [], ◌∷◌, ◌++◌, Option, Some, None, Result, Ok, Err, refl, sym, ap, ◌∙◌, subst, append-nil, append_assoc, arith}
 use Rattle.std.specs.Prelude.{IfErr, IfOk, OnErr, OnOk, is_some}
 use Rattle.std.specs.Global.{Global, Vec}
 use Rattle.std.specs.Option.{option_map_or}
+use Rattle.std.proofs.lemmas.Option.{same_Some}
 use Rattle.command_console.specs.Mirrors.{Follows, IsOfCopy, IsOfMoment, after_writes}
 use Rattle.command_console.specs.declared.mirror.Mirror.{Mirror}
 use Rattle.disk_dcdd.specs.Address.{address_of}
@@ -12,6 +13,7 @@ use Rattle.rtrb.specs.Ring.{received}
 use Rattle.rtrb.specs.declared.AnyItems.{AnyItems}
 use Rattle.rtrb.specs.declared.consumer.Consumer.{Consumer}
 use Rattle.shared_disk.specs.Arrivals.{after_meeting, after_put}
+use Rattle.shared_disk.specs.Failing.{before_failures}
 use Rattle.shared_disk.specs.Records.{faults_in, record_at, refusal_at}
 use Rattle.shared_disk.specs.declared.store.Record.{Record}
 
@@ -38,14 +40,18 @@ and_then a b c p q = record {
 }
 
 -- a disk that never fails has given no such answer
-none_failed : (fault : Fault) → 0 ≡ 0 + faults_in {T = Unit {0}} (Err fault) → fault ≡ Fault.DeviceFault → ⊥
+none_failed : (fault : Fault) → Some 0 ≡ before_failures (faults_in {T = Unit {0}} (Err fault)) (Some 0)
+    → fault ≡ Fault.DeviceFault → ⊥
 none_failed fault never is =
-    let f : 0 ≡ 1 = subst (λ x. 0 ≡ 0 + faults_in {T = Unit {0}} (Err x)) is never in omega (arith, f)
+    let f : Some 0 ≡ Some 1 =
+    subst (λ x. Some 0 ≡ before_failures (faults_in {T = Unit {0}} (Err x)) (Some 0)) is never in
+    let e : 0 ≡ 1 = same_Some 0 1 f in omega (arith, e)
 
 -- it refuses a write only if it has no such sector, and then nothing changes
 pub is_put : (old new : List Record) (write : SectorWrite) (result : Result (Unit {0}) Fault)
     → OnOk result (new ≡ after_put old write) → OnErr result (new ≡ old)
-    → IfErr result (λ fault. fault ≡ refusal_at old (address_of write)) → 0 ≡ 0 + faults_in result → new ≡ after_put old write
+    → IfErr result (λ fault. fault ≡ refusal_at old (address_of write))
+    → Some 0 ≡ before_failures (faults_in result) (Some 0) → new ≡ after_put old write
 is_put old new write (Ok done) put same why never = put
 is_put old new write (Err fault) put same why never = go (record_at old (address_of write)) refl
   where

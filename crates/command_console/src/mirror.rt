@@ -1,8 +1,9 @@
 //! The pair's disk, and a copy of it that another thread saves.
-ghost use Rattle.std.specs.Prelude.{◌≡◌, ◌∷◌, [], ◌++◌, ◌+◌, ◌<◌, IfErr, IfOk, IsTrue, OnErr, OnOk, false};
+ghost use Rattle.std.specs.Prelude.{◌≡◌, ◌∷◌, [], ◌++◌, ◌<◌, Some, IfErr, IfOk, IsTrue, OnErr, OnOk, false};
 ghost use Rattle.command_console.specs.Mirrors.{Follows, IsMirrored, IsOfCopy, IsOfMoment, write_of};
 ghost use Rattle.rtrb.specs.Ring.{SameProducer, known_free, known_items, sent};
 ghost use Rattle.shared_disk.specs.Arrivals.{after_put};
+ghost use Rattle.shared_disk.specs.Failing.{before_failures};
 ghost use Rattle.shared_disk.specs.Records as table;
 
 use command_live::images_of;
@@ -186,7 +187,7 @@ fn write_of(address: SectorAddress, content: Record) -> SectorWrite
 impl SectorStore for Mirrored {
     ghost records = { λ m. m.store };
 
-    ghost failures = { λ _. 0 };
+    ghost may_fail = { λ _. Some 0 };
 
     fn has_whole_sectors(&self) {
         self.store.has_whole_sectors()
@@ -201,7 +202,7 @@ impl SectorStore for Mirrored {
         ensures ok { OnOk result (self.new.store ≡ table.with_record self.old.store address content) }
         ensures refused { IfErr result (λ fault. fault ≡ table.refusal_at self.old.store address) }
         ensures unchanged { OnErr result (self.new.store ≡ self.old.store) }
-        ensures counted { 0 ≡ 0 + table.faults_in result }
+        ensures counted { Some 0 ≡ before_failures (table.faults_in result) (Some 0) }
         ensures mirrored { OnOk result (IsMirrored self.old self.new (write_of address content)) }
     {
         let has_room = self.has_room();

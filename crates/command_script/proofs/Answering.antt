@@ -22,6 +22,7 @@ use Rattle.command_script.specs.declared.order.Order.TheVariants.{Script, Check}
 use Rattle.pair_check.specs.declared.verdict.Verdict.{Verdict}
 use Rattle.pair_check.specs.declared.verdict.Verdict.TheVariants as verdict
 use Rattle.script_language.specs.declared.line.Line.{Line}
+use Rattle.shared_disk.specs.Failing.{failures_of}
 use Rattle.script_language.specs.declared.setup.ScriptSetup.{ScriptSetup}
 
 -- the first texts, and the others
@@ -94,30 +95,31 @@ module _ {S : Type 0} (M : Machine S) (C : Copying S) where
     added = subst (λ bytes. Appends old new bytes) (one.is_shown ∙ sym (append-nil (text ++ (10 ∷ [])))) one.added;
   }
 
-  all_kept : (w : World S) (lines : List Line) (old mid new : Option (List ℕ)) → AnswersAll M C w lines old mid → Keeps mid new
-      → AnswersAll M C w lines old new
-  all_kept w lines old mid new all k = record {
+  all_kept : (w : World S) (lines : List Line) (most : ℕ) (old mid new : Option (List ℕ))
+      → AnswersAll M C w lines most old mid → Keeps mid new → AnswersAll M C w lines most old new
+  all_kept w lines most old mid new all k = record {
     after = all.after;
     failures = all.failures;
-    once = all.once;
+    no_more = all.no_more;
     adds = adds_kept w all.after lines all.failures old mid new all.adds k;
   }
 
   -- a failure after the first answers
-  pub fails_after : (w : World S) (lines : List Line) (n : ℕ) (e : Failure) (old mid next new : Option (List ℕ))
-      → AnswersAll M C w (take n lines) old mid → Keeps mid next → HandsNone e next new → AnswersBut M C w lines e old new
-  fails_after w lines n failure.OutOfMemory old mid next new all k h =
-      (n, all_kept w (take n lines) old next new (all_kept w (take n lines) old mid next all k) h)
-  fails_after w lines n failure.InputOrOutput old mid next new all k h = tt
-  fails_after w lines n (failure.CommandLine text) old mid next new all k h = h
-  fails_after w lines n (failure.BadScript line) old mid next new all k h = h
-  fails_after w lines n failure.Stalled old mid next new all k h = h
-  fails_after w lines n failure.Differs old mid next new all k h = h
+  pub fails_after : (w : World S) (lines : List Line) (most n : ℕ) (e : Failure) (old mid next new : Option (List ℕ))
+      → AnswersAll M C w (take n lines) most old mid → Keeps mid next → HandsNone e next new
+      → AnswersBut M C w lines most e old new
+  fails_after w lines most n failure.OutOfMemory old mid next new all k h =
+      (n, all_kept w (take n lines) most old next new (all_kept w (take n lines) most old mid next all k) h)
+  fails_after w lines most n failure.InputOrOutput old mid next new all k h = tt
+  fails_after w lines most n (failure.CommandLine text) old mid next new all k h = h
+  fails_after w lines most n (failure.BadScript line) old mid next new all k h = h
+  fails_after w lines most n failure.Stalled old mid next new all k h = h
+  fails_after w lines most n failure.Differs old mid next new all k h = h
 
   -- if input or output fails, nothing is claimed
-  pub fails_broken : (w : World S) (lines : List Line) (e : Failure) (old new : Option (List ℕ)) → e ≡ failure.InputOrOutput
-      → AnswersBut M C w lines e old new
-  fails_broken w lines e old new is = subst (λ f. AnswersBut M C w lines f old new) (sym is) tt
+  pub fails_broken : (w : World S) (lines : List Line) (most : ℕ) (e : Failure) (old new : Option (List ℕ))
+      → e ≡ failure.InputOrOutput → AnswersBut M C w lines most e old new
+  fails_broken w lines most e old new is = subst (λ f. AnswersBut M C w lines most f old new) (sym is) tt
 
 -- a line that is not handed in
 pub hands_none : (result : Result (Unit {0}) Failure) (old new : Option (List ℕ))
@@ -129,12 +131,12 @@ hands_none (Err e) old new kept (inl is) =
 hands_none (Err e) old new kept (inr is) = subst (λ f. HandsNone f old new) (sym is) tt
 
 module _ (a b c : Option (List ℕ)) (first rest : List ℕ) (none : first ≡ []) (q : Appends b c rest) where
-  settled_lines : {S : Type 0} (M : Machine S) (C : Copying S) (w : World S) (lines : List Line)
-      → AnswersAll M C w lines (append_known a first) (append_known b rest) → AnswersAll M C w lines a c
-  settled_lines M C w lines all = record {
+  settled_lines : {S : Type 0} (M : Machine S) (C : Copying S) (w : World S) (lines : List Line) (most : ℕ)
+      → AnswersAll M C w lines most (append_known a first) (append_known b rest) → AnswersAll M C w lines most a c
+  settled_lines M C w lines most all = record {
     after = all.after;
     failures = all.failures;
-    once = all.once;
+    no_more = all.no_more;
     adds = record {
       texts = all.adds.texts;
       answered = all.adds.answered;
@@ -142,15 +144,15 @@ module _ (a b c : Option (List ℕ)) (first rest : List ℕ) (none : first ≡ [
     };
   }
 
-  settled_answers_but : {S : Type 0} (M : Machine S) (C : Copying S) (w : World S) (lines : List Line) (e : Failure)
-      → AnswersBut M C w lines e (append_known a first) (append_known b rest) → AnswersBut M C w lines e a c
-  settled_answers_but M C w lines failure.OutOfMemory h =
-      (h.0, settled_lines M C w (take h.0 lines) h.1)
-  settled_answers_but M C w lines failure.InputOrOutput h = tt
-  settled_answers_but M C w lines (failure.CommandLine text) h = h
-  settled_answers_but M C w lines (failure.BadScript line) h = h
-  settled_answers_but M C w lines failure.Stalled h = h
-  settled_answers_but M C w lines failure.Differs h = h
+  settled_answers_but : {S : Type 0} (M : Machine S) (C : Copying S) (w : World S) (lines : List Line) (most : ℕ) (e : Failure)
+      → AnswersBut M C w lines most e (append_known a first) (append_known b rest) → AnswersBut M C w lines most e a c
+  settled_answers_but M C w lines most failure.OutOfMemory h =
+      (h.0, settled_lines M C w (take h.0 lines) most h.1)
+  settled_answers_but M C w lines most failure.InputOrOutput h = tt
+  settled_answers_but M C w lines most (failure.CommandLine text) h = h
+  settled_answers_but M C w lines most (failure.BadScript line) h = h
+  settled_answers_but M C w lines most failure.Stalled h = h
+  settled_answers_but M C w lines most failure.Differs h = h
 
   settled_but : (holds : Verdict → Type 0) (e : Failure) → PrintsBut holds e (append_known a first) (append_known b rest)
       → PrintsBut holds e a c
@@ -164,19 +166,25 @@ module _ (a b c : Option (List ℕ)) (first rest : List ℕ) (none : first ≡ [
   pub settled_prints : (order : Order) (setup : ScriptSetup) (sectors : List SectorWrite) (lines : List Line) (result : Result (Unit {0}) Failure)
       → Prints order setup sectors lines result (append_known a first) (append_known b rest)
       → Prints order setup sectors lines result a c
-  settled_prints Script setup sectors lines (Ok done) h =
-      (h.0, settled_lines (altair setup.guest h.0.start) (image_copy setup.guest.drives) h.0.world lines h.1)
-  settled_prints Script setup sectors lines (Err e) h =
-      (h.0, settled_answers_but (altair setup.guest h.0.start) (image_copy setup.guest.drives) h.0.world lines e h.1)
+  settled_prints Script setup sectors lines (Ok done) h = (
+    h.0,
+    settled_lines (altair setup.guest h.0.start) (image_copy setup.guest.drives) h.0.world lines
+        (failures_of setup.failing_access) h.1,
+  )
+  settled_prints Script setup sectors lines (Err e) h = (
+    h.0,
+    settled_answers_but (altair setup.guest h.0.start) (image_copy setup.guest.drives) h.0.world lines
+        (failures_of setup.failing_access) e h.1,
+  )
   settled_prints Check setup sectors lines (Ok done) h = (h.0, (h.1.0, h.1.1, settled_line a b c first rest none q _ h.1.2))
   settled_prints Check setup sectors lines (Err e) h = (h.0, settled_but (IsSameAfter setup sectors h.0 lines) e h.1)
 
 -- a failure of a call that also ends this one
-pub answers_residual : {S : Type 0} (M : Machine S) (C : Copying S) (w : World S) (lines : List Line)
+pub answers_residual : {S : Type 0} (M : Machine S) (C : Copying S) (w : World S) (lines : List Line) (most : ℕ)
     (result : Result (Unit {0}) Failure) (e : Failure) (old new : Option (List ℕ)) → IsErrAnd result (λ k. k ≡ e)
-    → AnswersBut M C w lines e old new → AnswersLines M C w lines result old new
-answers_residual M C w lines (Ok done) e old new is h = absurd is
-answers_residual M C w lines (Err k) e old new is h = subst (λ f. AnswersBut M C w lines f old new) (sym is) h
+    → AnswersBut M C w lines most e old new → AnswersLines M C w lines most result old new
+answers_residual M C w lines most (Ok done) e old new is h = absurd is
+answers_residual M C w lines most (Err k) e old new is h = subst (λ f. AnswersBut M C w lines most f old new) (sym is) h
 
 -- a run that prints nothing because it is out of memory
 pub prints_nothing : (order : Order) (setup : ScriptSetup) (sectors : List SectorWrite) (lines : List Line)
@@ -186,13 +194,14 @@ pub prints_nothing : (order : Order) (setup : ScriptSetup) (sectors : List Secto
 prints_nothing order setup sectors lines booted (Ok done) old new is k = absurd is
 prints_nothing Script setup sectors lines booted (Err e) old new is k = (
   booted,
-  subst (λ f. AnswersBut (altair setup.guest booted.start) (image_copy setup.guest.drives) booted.world lines f old new)
+  subst (λ f. AnswersBut (altair setup.guest booted.start) (image_copy setup.guest.drives) booted.world lines
+      (failures_of setup.failing_access) f old new)
       (sym is) (
         0,
         record {
           after = booted.world;
           failures = 0;
-          once = omega arith;
+          no_more = omega arith;
           adds = adds_none (altair setup.guest booted.start) (image_copy setup.guest.drives) booted.world old new k;
         },
       ),

@@ -1,6 +1,6 @@
 -- A running pair answers line after line, in whatever world it shows.
-use Rattle.std.proofs.Common.{◌≡◌, ℕ, ◌+◌, ◌<◌, ◌≤◌, arith, Bool, true, false, List, [], ◌∷◌, Option, Some, None, Result, Ok, Err, get_or, length, refl, subst, sym}
-use Rattle.std.specs.Prelude.{OnOk, if◌then◌else◌, take}
+use Rattle.std.proofs.Common.{◌≡◌, ℕ, zero, suc, ◌+◌, ◌<◌, ◌≤◌, List, [], ◌∷◌, Option, Some, None, Result, Ok, Err, ap, get_or, length, refl, subst, sym, ◌∙◌}
+use Rattle.std.specs.Prelude.{OnOk, take}
 use Rattle.std.specs.Io.KnownBytes.{Keeps}
 use Rattle.std.proofs.lemmas.List.{take_more}
 use Rattle.std.proofs.KnownBytes.{Keeps-refl}
@@ -13,14 +13,15 @@ use Rattle.ft_world.specs.declared.hosts.NodeStatus.{NodeStatus}
 use Rattle.guest_parts.specs.Guest.{Guest}
 use Rattle.guest_lockstep.specs.Machine.{Machine}
 use Rattle.i8080_words.specs.declared.refusal.Fault.{Fault}
-use Rattle.shared_disk.specs.Failing.{Disk, records_in}
+use Rattle.shared_disk.specs.Failing.{Disk, before_failures, disk_may_fail, failures_of, records_in}
+use Rattle.shared_disk.proofs.Failures.{before-add, no_more_failures}
 use Rattle.pair_events.specs.declared.event.Event.{Event}
 use Rattle.pair_events.specs.declared.reply.Reply.{Reply}
 use Rattle.pair_protocol.specs.Node.{Alone, Backup, Draining, Joining, Node, Primary, Role, Spare}
 use Rattle.pair_protocol.specs.World.{World}
 use Rattle.command_script.specs.Answering.{AddsAnswers, Answered, AnswersAll, Asks, ByRow, Happen, NoLine, Nothing, Replies, Tells}
 use Rattle.command_ending.specs.Reports.{AddsLine}
-use Rattle.command_script.specs.Running.{HasHappened, HaveAnswers, HaveHappened, failed_at}
+use Rattle.command_script.specs.Running.{HasHappened, HaveAnswers, HaveHappened, HasFailed}
 use Rattle.command_ending.specs.declared.failure.Failure.{Failure}
 use Rattle.command_script.proofs.Answering.{adds_more, adds_none, adds_one, happen-append}
 use Rattle.pair_setup.specs.Queries.{Finds}
@@ -31,25 +32,26 @@ use Rattle.script_language.specs.declared.line.Query.TheVariants as query
 
 -- ---- how often the device has failed
 
-once : (first second : Bool) (n : ℕ) → 0 + (if second then 1 else 0) ≡ 0 + (if first then 1 else 0) + n → n ≤ 1
-once true true n is = omega (arith, is)
-once true false n is = omega (arith, is)
-once false true n is = omega (arith, is)
-once false false n is = omega (arith, is)
+-- in memory, it fails at no more than one access
+is_bound : (left : ℕ) → before_failures (failures_of left) (Some 0) ≡ Some (failures_of left)
+is_bound zero = refl
+is_bound (suc left) = refl
 
--- the device of the program's disk fails once at most
-pub fails_once : {B H : Type 0} (old new : Running B H Disk) (n : ℕ) → failed_at new ≡ failed_at old + n → n ≤ 1
-fails_once old new n counted = once old.disk.failed new.disk.failed n counted
+-- the device of the program's disk fails once at most, and never if no access is to fail
+pub fails_within : {B H : Type 0} (old new : Running B H Disk) (failures : ℕ) → HasFailed old failures new
+    → failures ≤ failures_of old.disk.left
+fails_within old new failures counted =
+    no_more_failures failures (failures_of old.disk.left) (disk_may_fail new.disk) (sym counted ∙ is_bound old.disk.left)
 
 -- failures are added up
-pub counts_none : (a : ℕ) → a ≡ a + 0
-counts_none a = omega arith
+pub counts_more : {B H : Type 0} (start mid new : Running B H Disk) (failures more : ℕ) → HasFailed start failures mid
+    → HasFailed mid more new → HasFailed start (failures + more) new
+counts_more start mid new failures more is next =
+    is ∙ ap (before_failures failures) next ∙ sym (before-add failures more (disk_may_fail new.disk))
 
-counts_one : (a b n : ℕ) → b ≡ a + n → b ≡ a + (n + 0)
-counts_one a b n is = omega (arith, is)
-
-pub counts_more : (a b c n m : ℕ) → b ≡ a + n → c ≡ b + m → c ≡ a + (n + m)
-counts_more a b c n m is more = omega (arith, is, more)
+pub counts_one : {B H : Type 0} (old new : Running B H Disk) (failures : ℕ) → HasFailed old failures new
+    → HasFailed old (failures + 0) new
+counts_one old new failures is = counts_more old new new failures 0 is refl
 
 -- ---- what a query finds does not depend on where the machine boots
 
@@ -93,7 +95,7 @@ module _ {B H S : Type 0} (state : B → S) (copied : B → Guest) (M : Machine 
       let h = has c shows in record {
         after = h.applies.after;
         failures = failures_told happened h.answer + 0;
-        counted = counts_one (failed_at old) (failed_at new) (failures_told happened h.answer) h.counted;
+        counted = counts_one old new (failures_told happened h.answer) h.counted;
         adds = adds_one (machine_of M c) c.copying c.world h.applies.after (line.Event happened) text
             (failures_told happened h.answer + 0) a b
             (subst (λ t. Answered (machine_of M c) c.copying c.world (line.Event happened ∷ []) (t ∷ [])
@@ -112,7 +114,7 @@ module _ {B H S : Type 0} (state : B → S) (copied : B → Guest) (M : Machine 
   query_answers v q text (Ok done) a b finds adds = λ c shows. record {
     after = c.world;
     failures = 0;
-    counted = counts_none (failed_at v);
+    counted = refl;
     adds = adds_one (machine_of M c) c.copying c.world c.world (line.Query q) text 0 a b
         (Tells (finds_same M c c.world q text (finds c shows)) NoLine) adds;
     shows = shows;
@@ -120,13 +122,13 @@ module _ {B H S : Type 0} (state : B → S) (copied : B → Guest) (M : Machine 
 
   pub passes_event : (old new : Running B H Disk) (happened : Event) (answer : Result Reply Fault)
       → Happens state copied M records_in old happened answer new
-      → failed_at new ≡ failed_at old + failures_told happened answer
+      → HasFailed old (failures_told happened answer) new
       → (c : Course S) → Shows state copied M records_in old c → HaveHappened state copied M c (line.Event happened ∷ []) old new
   passes_event old new happened answer happens counted c shows =
       let a = happens c shows in record {
         after = a.after;
         failures = failures_told happened answer + 0;
-        counted = counts_one (failed_at old) (failed_at new) (failures_told happened answer) counted;
+        counted = counts_one old new (failures_told happened answer) counted;
         happen = ByRow answer a.row Nothing;
         shows = a.shows;
       }
@@ -134,7 +136,7 @@ module _ {B H S : Type 0} (state : B → S) (copied : B → Guest) (M : Machine 
   pub passes_query : (v : Running B H Disk) (q : Query) (c : Course S) → Shows state copied M records_in v c
       → HaveHappened state copied M c (line.Query q ∷ []) v v
   passes_query v q c shows =
-      record { after = c.world; failures = 0; counted = counts_none (failed_at v); happen = Asks Nothing; shows = shows }
+      record { after = c.world; failures = 0; counted = refl; happen = Asks Nothing; shows = shows }
 
   -- ---- line after line
 
@@ -143,7 +145,7 @@ module _ {B H S : Type 0} (state : B → S) (copied : B → Guest) (M : Machine 
   answers_none v a c shows = record {
     after = c.world;
     failures = 0;
-    counted = counts_none (failed_at v);
+    counted = refl;
     adds = adds_none (machine_of M c) c.copying c.world a a (Keeps-refl a);
     shows = shows;
   }
@@ -161,7 +163,7 @@ module _ {B H S : Type 0} (state : B → S) (copied : B → Guest) (M : Machine 
       record {
         after = o.after;
         failures = f.failures + o.failures;
-        counted = counts_more (failed_at start) (failed_at mid) (failed_at new) f.failures o.failures f.counted o.counted;
+        counted = counts_more start mid new f.failures o.failures f.counted o.counted;
         adds = subst (λ l. AddsAnswers (machine_of M c) c.copying c.world l (f.failures + o.failures) a e o.after)
             (sym (take_more lines k d low))
             (adds_more (machine_of M c) c.copying c.world f.after o.after (take k lines) (get_or lines k d ∷ []) f.failures
@@ -172,15 +174,16 @@ module _ {B H S : Type 0} (state : B → S) (copied : B → Guest) (M : Machine 
   -- all that were answered
   pub answers_all : (start v : Running B H Disk) (lines : List Line) (a b : Option (List ℕ))
       → ((c : Course S) → Shows state copied M records_in start c → HaveAnswers state copied M c lines start v a b)
-      → (c : Course S) → Shows state copied M records_in start c → AnswersAll (machine_of M c) c.copying c.world lines a b
+      → (c : Course S) → Shows state copied M records_in start c → AnswersAll (machine_of M c) c.copying c.world lines
+      (failures_of start.disk.left) a b
   answers_all start v lines a b so_far c shows =
       let h = so_far c shows in
-      record { after = h.after; failures = h.failures; once = fails_once start v h.failures h.counted; adds = h.adds }
+      record { after = h.after; failures = h.failures; no_more = fails_within start v h.failures h.counted; adds = h.adds }
 
   pub happened_none : (v : Running B H Disk) (c : Course S) → Shows state copied M records_in v c
       → HaveHappened state copied M c [] v v
   happened_none v c shows =
-      record { after = c.world; failures = 0; counted = counts_none (failed_at v); happen = Nothing; shows = shows }
+      record { after = c.world; failures = 0; counted = refl; happen = Nothing; shows = shows }
 
   pub happened_on : (start mid new : Running B H Disk) (lines : List Line) (k : ℕ) (d : Line) → k < length lines
       → ((c : Course S) → Shows state copied M records_in start c → HaveHappened state copied M c (take k lines) start mid)
@@ -192,7 +195,7 @@ module _ {B H S : Type 0} (state : B → S) (copied : B → Guest) (M : Machine 
       record {
         after = o.after;
         failures = f.failures + o.failures;
-        counted = counts_more (failed_at start) (failed_at mid) (failed_at new) f.failures o.failures f.counted o.counted;
+        counted = counts_more start mid new f.failures o.failures f.counted o.counted;
         happen = subst (λ l. Happen (machine_of M c) c.copying c.world l (f.failures + o.failures) o.after)
             (sym (take_more lines k d low))
             (happen-append (machine_of M c) c.copying c.world f.after o.after (take k lines) (get_or lines k d ∷ []) f.failures

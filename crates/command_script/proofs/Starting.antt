@@ -1,5 +1,5 @@
 -- The world that a script begins in: what a pair that has booted shows; there is one for each setup.
-use Rattle.std.proofs.Common.{◌≡◌, ℕ, zero, suc, ◌+◌, ◌-◌, List, [], Option, Some, ap, arith, refl, subst, sym, ◌∙◌}
+use Rattle.std.proofs.Common.{◌≡◌, ◌≤◌, ℕ, zero, suc, ◌+◌, ◌-◌, List, [], Option, Some, ap, arith, refl, subst, sym, ◌∙◌}
 use Rattle.std.specs.Prelude.{replicate, if◌then◌else◌, None}
 use Rattle.std.specs.Option.{option_map_or}
 use Rattle.altair_copies.specs.Copies.{image_copy}
@@ -12,15 +12,14 @@ use Rattle.ft_world.specs.Beginning.{beginning}
 use Rattle.ft_world.specs.Standing.{Course, machine_of}
 use Rattle.pair_check.specs.Alike.{ShownIsSame}
 use Rattle.pair_check.specs.Comparing.{IsVerdictOn}
-use Rattle.shared_disk.specs.Failing.{records_in}
 use Rattle.command_script.specs.Answering.{Happen}
 use Rattle.command_script.specs.Printing.{AnswersLines, IsSameAfter, Prints, PrintsVerdict}
-use Rattle.command_script.specs.Running.{HaveHappened}
+use Rattle.command_script.specs.Running.{HasFailed, HaveHappened}
 use Rattle.command_script.specs.Telling.{HaveTold, IsToldOf, Told, failures_in_all}
 use Rattle.command_ending.specs.declared.failure.Failure.{Failure}
 use Rattle.command_script.specs.declared.order.Order.TheVariants.{Script, Check}
 use Rattle.command_script.proofs.Answering.{says_more}
-use Rattle.command_script.proofs.Lines.{fails_once}
+use Rattle.command_script.proofs.Lines.{fails_within}
 use Rattle.script_language.specs.declared.line.Line.{Line}
 use Rattle.ft_world.specs.Running.{Running}
 use Rattle.guest_parts.specs.Guest.{Guest}
@@ -28,7 +27,7 @@ use Rattle.guest_board.specs.Guest.{altair, guest_at_boot}
 use Rattle.guest_board.specs.Inputs.{some_altair}
 use Rattle.guest_lockstep.specs.Machine.{Machine}
 use Rattle.pair_check.specs.Alike.{BeginAlike}
-use Rattle.shared_disk.specs.Failing.{Disk}
+use Rattle.shared_disk.specs.Failing.{Disk, failures_of, records_in}
 use Rattle.pair_protocol.specs.World.{World, opening, with_host}
 use Rattle.command_script.specs.Answering.{Booted}
 use Rattle.pair_setup.specs.Booting.{HostsCome, IsBooted, Pair, Spare}
@@ -55,7 +54,7 @@ begins store drives sectors at_boot address on =
 pub booted_as : {B H : Type 0} (state : B → Guest) (setup : ScriptSetup) (wanted sectors : List SectorWrite)
     (v : Running B H Disk) → sectors ≡ wanted
     → IsBooted state state some_altair (image_copy setup.guest.drives) setup.guest.reads (guest_at_boot setup.guest)
-    setup.guest.drives setup.hosts sectors v → Booted setup wanted
+    setup.guest.drives setup.failing_access setup.hosts sectors v → Booted setup wanted
 booted_as state setup wanted sectors v are b = record {
   start = bytes_in b.store;
   has_sectors = subst (λ l. BeginAlike setup.guest.drives (bytes_in b.store) (boot_sectors l)) are
@@ -86,7 +85,7 @@ some_booted setup sectors =
 module _ {B H : Type 0} (state : B → Guest) (setup : ScriptSetup) (lines given : List Line) (same : given ≡ lines)
     (wanted sectors : List SectorWrite) (are : sectors ≡ wanted) (v : Running B H Disk)
     (b : IsBooted state state some_altair (image_copy setup.guest.drives) setup.guest.reads (guest_at_boot setup.guest)
-    setup.guest.drives setup.hosts sectors v) where
+    setup.guest.drives setup.failing_access setup.hosts sectors v) where
   first : Course Guest
   first = record (beginning some_altair (image_copy setup.guest.drives) setup.guest.reads (guest_at_boot setup.guest) b.store) {
     world = b.world;
@@ -95,16 +94,23 @@ module _ {B H : Type 0} (state : B → Guest) (setup : ScriptSetup) (lines given
   booted : Booted setup wanted
   booted = booted_as state setup wanted sectors v are b
 
+  -- its device fails no more often than the setup says
+  within : (after : Running B H Disk) (failures : ℕ) → HasFailed v failures after → failures ≤ failures_of setup.failing_access
+  within after failures counted =
+      subst (λ n. failures ≤ failures_of n) b.fails_at (fails_within v after failures counted)
+
   -- by a script
   pub prints_answers : (result : Result (Unit {0}) Failure) (old new : Option (List ℕ))
       → ((c : Course Guest) → Shows state state some_altair records_in v c
-      → AnswersLines (machine_of some_altair c) c.copying c.world given result old new)
+      → AnswersLines (machine_of some_altair c) c.copying c.world given (failures_of v.disk.left) result old new)
       → Prints Script setup wanted lines result old new
   unfolding first booted booted_as
   prints_answers result old new answers = (
     booted,
-    subst (λ l. AnswersLines (altair setup.guest (bytes_in b.store)) (image_copy setup.guest.drives) b.world l result
-        old new) same (answers first b.shows),
+    subst (λ l. AnswersLines (altair setup.guest (bytes_in b.store)) (image_copy setup.guest.drives) b.world l
+        (failures_of setup.failing_access) result old new) same
+        (subst (λ n. AnswersLines (altair setup.guest (bytes_in b.store)) (image_copy setup.guest.drives) b.world given
+        (failures_of n) result old new) b.fails_at (answers first b.shows)),
   )
 
   -- by a check
@@ -127,7 +133,7 @@ module _ {B H : Type 0} (state : B → Guest) (setup : ScriptSetup) (lines given
             (λ found on. record {
               after = h.after;
               failures = h.failures;
-              once = fails_once v after h.failures h.counted;
+              no_more = within after h.failures h.counted;
               happen = subst (λ l. Happen (altair setup.guest (bytes_in b.store)) (image_copy setup.guest.drives) b.world l h.failures h.after)
                   same h.happen;
               same = law state state setup.guest checked (bytes_in b.store) h.after after found
@@ -149,5 +155,5 @@ module _ {B H : Type 0} (state : B → Guest) (setup : ScriptSetup) (lines given
         after = t.after;
         told = subst (λ l. Told (altair setup.guest (bytes_in b.store)) (image_copy setup.guest.drives) b.world l moments t.after)
             same t.told;
-        once = fails_once v after (failures_in_all moments) t.counted;
+        no_more = within after (failures_in_all moments) t.counted;
       }

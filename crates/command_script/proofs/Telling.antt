@@ -1,10 +1,10 @@
 -- A run that is told event after event, in whatever world it shows.
-use Rattle.std.proofs.Common.{◌≡◌, ℕ, ◌+◌, ◌<◌, List, [], ◌∷◌, ◌++◌, ◌∙◌, ap, append-nil, arith, Result, get_or, length, subst, sym}
+use Rattle.std.proofs.Common.{◌≡◌, ℕ, ◌+◌, ◌<◌, List, [], ◌∷◌, ◌++◌, ◌∙◌, ap, append-nil, arith, Result, get_or, length, refl, subst, sym}
 use Rattle.std.specs.Prelude.{take}
 use Rattle.std.proofs.lemmas.List.{take_more}
-use Rattle.command_script.specs.Running.{failed_at}
+use Rattle.command_script.specs.Running.{HasFailed}
 use Rattle.command_script.specs.Telling.{EventTold, HaveTold, NoneTold, QueryPassed, TellsAfter, Told, failures_in_all}
-use Rattle.command_script.proofs.Lines.{counts_more, counts_none}
+use Rattle.command_script.proofs.Lines.{counts_more, counts_one}
 use Rattle.ft_world.specs.Applies.{Happens, Shows, failures_told}
 use Rattle.ft_world.specs.Running.{Running}
 use Rattle.ft_world.specs.Standing.{Course, machine_of}
@@ -43,7 +43,7 @@ module _ {B H S : Type 0} (state : B → S) (copied : B → Guest) (M : Machine 
       (before now : List Moment)
       → moment.event ≡ happened → moment.answer ≡ answer → now ≡ before ++ (moment ∷ [])
       → Happens state copied M records_in old happened answer new
-      → failed_at new ≡ failed_at old + failures_told happened answer
+      → HasFailed old (failures_told happened answer) new
       → TellsAfter state copied M old (line.Event happened ∷ []) before now new
   tells_event old new moment happened answer before now event is are happens counted = record {
     moments = moment ∷ [];
@@ -52,10 +52,9 @@ module _ {B H S : Type 0} (state : B → S) (copied : B → Guest) (M : Machine 
         let a = happens c shows in
         record {
           after = a.after;
-          counted = counts_more (failed_at old) (failed_at new) (failed_at new) (failures_told moment.event moment.answer) 0
-              (subst (λ r. failed_at new ≡ failed_at old + failures_told moment.event r) (sym is)
-              (subst (λ e. failed_at new ≡ failed_at old + failures_told e answer) (sym event) counted))
-              (counts_none (failed_at new));
+          counted = counts_one old new (failures_told moment.event moment.answer)
+              (subst (λ r. HasFailed old (failures_told moment.event r) new) (sym is)
+              (subst (λ e. HasFailed old (failures_told e answer) new) (sym event) counted));
           told = subst (λ e. Told (machine_of M c) c.copying c.world (line.Event e ∷ []) (moment ∷ []) a.after) event
               (EventTold
               (subst (λ r. Row (machine_of M c) c.copying c.world moment.event (answer_of r) a.after) (sym is)
@@ -71,7 +70,7 @@ module _ {B H S : Type 0} (state : B → S) (copied : B → Guest) (M : Machine 
     moments = [];
     are = sym (append-nil moments);
     told = λ c shows.
-        record { after = c.world; counted = counts_none (failed_at v); told = QueryPassed NoneTold; shows = shows };
+        record { after = c.world; counted = refl; told = QueryPassed NoneTold; shows = shows };
   }
 
   -- ---- line after line
@@ -80,7 +79,7 @@ module _ {B H S : Type 0} (state : B → S) (copied : B → Guest) (M : Machine 
       → Shows state copied M records_in v c → HaveTold state copied M c [] moments v v
   told_none v moments none c shows = record {
     after = c.world;
-    counted = subst (λ ms. failed_at v ≡ failed_at v + failures_in_all ms) (sym none) (counts_none (failed_at v));
+    counted = subst (λ ms. HasFailed v (failures_in_all ms) v) (sym none) refl;
     told = subst (λ ms. Told (machine_of M c) c.copying c.world [] ms c.world) (sym none) NoneTold;
     shows = shows;
   }
@@ -95,9 +94,8 @@ module _ {B H S : Type 0} (state : B → S) (copied : B → Guest) (M : Machine 
       let o = one.told (record c { world = f.after }) f.shows in
       record {
         after = o.after;
-        counted = counts_more (failed_at start) (failed_at mid) (failed_at new) (failures_in_all before)
-            (failures_in_all one.moments) f.counted o.counted
-            ∙ ap (λ n. failed_at start + n) (sym (ap failures_in_all one.are ∙ failures-append before one.moments));
+        counted = subst (λ n. HasFailed start n new) (sym (ap failures_in_all one.are ∙ failures-append before one.moments))
+            (counts_more start mid new (failures_in_all before) (failures_in_all one.moments) f.counted o.counted);
         told = subst (λ l. Told (machine_of M c) c.copying c.world l now o.after) (sym (take_more lines k d low))
             (subst (λ ms. Told (machine_of M c) c.copying c.world (take k lines ++ (get_or lines k d ∷ [])) ms o.after) (sym one.are)
             (told-append (machine_of M c) c.copying c.world f.after o.after (take k lines) (get_or lines k d ∷ []) before

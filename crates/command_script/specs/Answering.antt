@@ -65,10 +65,10 @@ pub record AddsAnswers {S : Type 0} (M : Machine S) (C : Copying S) (w : World S
   pub answered : Answered M C w lines texts failures after
   pub added : Appends old new (text_of texts)
 
--- the same over the disk of the program, whose device fails once at most
-pub record AnswersAll {S : Type 0} (M : Machine S) (C : Copying S) (w : World S) (lines : List Line) (old new : Option (List ℕ))
-    : Type 0 where
+-- the same over a disk whose device may fail this often
+pub record AnswersAll {S : Type 0} (M : Machine S) (C : Copying S) (w : World S) (lines : List Line) (most : ℕ)
+    (old new : Option (List ℕ)) : Type 0 where
   pub after : World S
   pub failures : ℕ
-  pub once : failures ≤ 1
+  pub no_more : failures ≤ most
   pub adds : AddsAnswers M C w lines failures old new after

@@ -19,6 +19,7 @@ use Rattle.command_script.specs.declared.order.Order.TheVariants.{Script, Check}
 use Rattle.pair_check.specs.declared.verdict.Verdict.{Verdict}
 use Rattle.pair_check.specs.declared.verdict.Verdict.TheVariants as verdict
 use Rattle.script_language.specs.declared.line.Line.{Line}
+use Rattle.shared_disk.specs.Failing.{failures_of}
 use Rattle.script_language.specs.declared.setup.ScriptSetup.{ScriptSetup}
 
 -- a verdict is printed; if it is that the pair differs, the run ends with that too
@@ -34,16 +35,16 @@ PrintsVerdict holds result old new = MatchResult result
     (λ failure. PrintsBut holds failure old new)
 
 -- each line is answered, in order; or only the first ones are, if memory is refused for the next
-abbrev pub AnswersBut : {S : Type 0} → Machine S → Copying S → World S → List Line → Failure → Option (List ℕ)
+abbrev pub AnswersBut : {S : Type 0} → Machine S → Copying S → World S → List Line → ℕ → Failure → Option (List ℕ)
     → Option (List ℕ) → Type 0
-AnswersBut M C w lines OutOfMemory old new = (some : ℕ) × AnswersAll M C w (take some lines) old new
-AnswersBut M C w lines InputOrOutput old new = Unit {0}
-AnswersBut M C w lines _ old new = ⊥
+AnswersBut M C w lines most OutOfMemory old new = (some : ℕ) × AnswersAll M C w (take some lines) most old new
+AnswersBut M C w lines most InputOrOutput old new = Unit {0}
+AnswersBut M C w lines most _ old new = ⊥
 
-abbrev pub AnswersLines : {S : Type 0} → Machine S → Copying S → World S → List Line → Result (Unit {0}) Failure
+abbrev pub AnswersLines : {S : Type 0} → Machine S → Copying S → World S → List Line → ℕ → Result (Unit {0}) Failure
     → Option (List ℕ) → Option (List ℕ) → Type 0
-AnswersLines M C w lines result old new = MatchResult result (λ _. AnswersAll M C w lines old new)
-    (λ failure. AnswersBut M C w lines failure old new)
+AnswersLines M C w lines most result old new = MatchResult result (λ _. AnswersAll M C w lines most old new)
+    (λ failure. AnswersBut M C w lines most failure old new)
 
 -- a line that is not answered hands nothing in
 abbrev pub HandsNone : Failure → Option (List ℕ) → Option (List ℕ) → Type 0
@@ -51,13 +52,13 @@ HandsNone OutOfMemory old new = Keeps old new
 HandsNone InputOrOutput old new = Unit {0}
 HandsNone _ old new = ⊥
 
--- a verdict on a world that all events of the lines have led to, over a device that failed once at most: the pair has done the
--- same, up to what is settled there
+-- a verdict on a world that all events of the lines have led to, over a device that failed no more often than the setup
+-- says: the pair has done the same, up to what is settled there
 pub record IsSameAfter (setup : ScriptSetup) (sectors : List SectorWrite) (booted : Booted setup sectors) (lines : List Line)
     (verdict : Verdict) : Type 0 where
   pub after : World Guest
   pub failures : ℕ
-  pub once : failures ≤ 1
+  pub no_more : failures ≤ failures_of setup.failing_access
   pub happen : Happen (altair setup.guest booted.start) (image_copy setup.guest.drives) booted.world lines failures after
   pub same : IsSameAtSettled (altair setup.guest booted.start) after verdict
 
@@ -65,6 +66,7 @@ pub record IsSameAfter (setup : ScriptSetup) (sectors : List SectorWrite) (boote
 abbrev pub Prints : Order → ScriptSetup → List SectorWrite → List Line → Result (Unit {0}) Failure → Option (List ℕ)
     → Option (List ℕ) → Type 0
 Prints Script setup sectors lines result old new = (b : Booted setup sectors)
-    × AnswersLines (altair setup.guest b.start) (image_copy setup.guest.drives) b.world lines result old new
+    × AnswersLines (altair setup.guest b.start) (image_copy setup.guest.drives) b.world lines
+    (failures_of setup.failing_access) result old new
 Prints Check setup sectors lines result old new =
     (b : Booted setup sectors) × PrintsVerdict (IsSameAfter setup sectors b lines) result old new

@@ -2,7 +2,7 @@
 use Rattle.std.specs.Prelude.{◌≡◌, ℕ, ◌+◌, ◌≤◌, List, [], ◌∷◌, ◌++◌}
 use Rattle.altair_copies.specs.Copies.{image_copy}
 use Rattle.command_script.specs.Answering.{Booted}
-use Rattle.command_script.specs.Running.{failed_at}
+use Rattle.command_script.specs.Running.{HasFailed}
 use Rattle.disk_dcdd.specs.declared.sector.SectorWrite.{SectorWrite}
 use Rattle.ft_world.specs.Applies.{Shows, failures_told}
 use Rattle.ft_world.specs.Running.{Running}
@@ -19,7 +19,7 @@ use Rattle.script_language.specs.declared.line.Line.TheVariants as line
 use Rattle.script_language.specs.declared.line.Query.{Query}
 use Rattle.script_language.specs.declared.setup.ScriptSetup.{ScriptSetup}
 use Rattle.sequence_diagram.specs.declared.moment.Moment.{Moment}
-use Rattle.shared_disk.specs.Failing.{Disk, records_in}
+use Rattle.shared_disk.specs.Failing.{Disk, failures_of, records_in}
 
 -- how many of the answers that are told say that the device failed
 abbrev pub failures_in_all : List Moment → ℕ
@@ -36,18 +36,18 @@ pub data Told {S : Type 0} (M : Machine S) (C : Copying S) : World S → List Li
       → Told M C w lines moments new → Told M C w (line.Query q ∷ lines) moments new
 
 -- these moments are what is told of a run of a script with this setup, these sectors at boot and these lines, over a device
--- that fails once at most
+-- that fails no more often than the setup says
 pub record IsToldOf (setup : ScriptSetup) (sectors : List SectorWrite) (lines : List Line) (moments : List Moment) : Type 0 where
   pub booted : Booted setup sectors
   pub after : World Guest
   pub told : Told (altair setup.guest booted.start) (image_copy setup.guest.drives) booted.world lines moments after
-  pub once : failures_in_all moments ≤ 1
+  pub no_more : failures_in_all moments ≤ failures_of setup.failing_access
 
 -- the events of the lines have happened in a running pair, and were told; their answers tell each failure of the device
 pub record HaveTold {B H S : Type 0} (state : B → S) (copied : B → Guest) (M : Machine S) (c : Course S)
     (lines : List Line) (moments : List Moment) (before v : Running B H Disk) : Type 0 where
   pub after : World S
-  pub counted : failed_at v ≡ failed_at before + failures_in_all moments
+  pub counted : HasFailed before (failures_in_all moments) v
   pub told : Told (machine_of M c) c.copying c.world lines moments after
   pub shows : Shows state copied M records_in v (record c { world = after })
 

@@ -7,7 +7,7 @@ ghost use Rattle.ft_world.specs.Standing.{Course, machine_of};
 ghost use Rattle.guest_board.specs.Guest.{altair};
 ghost use Rattle.plain_single.specs.Image.{boot_sectors};
 ghost use Rattle.pair_check.specs.Comparing.{IsVerdictOn};
-ghost use Rattle.shared_disk.specs.Failing.{records_in};
+ghost use Rattle.shared_disk.specs.Failing.{failures_of, records_in};
 ghost use Rattle.pair_check.specs.Disks.{over_records};
 ghost use Rattle.pair_events.specs.Printed.{answer_text};
 ghost use Rattle.command_script.specs.Printing.{AnswersLines, HandsNone, Prints, PrintsVerdict};
@@ -124,7 +124,7 @@ fn answer_each<B: Copies<H> + Drop, H: Drop, O: Write + Drop>(
     writer: &mut O,
 ) -> Result<(), Failure>
     ensures { (c : Course B.State) → Shows B.state B.copied B.machine records_in world.old c
-        → AnswersLines (machine_of B.machine c) c.copying c.world lines.now result
+        → AnswersLines (machine_of B.machine c) c.copying c.world lines.now (failures_of world.old.disk.left) result
         (handed (O.contents writer.old) report.old) (handed (O.contents writer.new) report.new) }
 {
     for line in lines {

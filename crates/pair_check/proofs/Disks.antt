@@ -1,19 +1,19 @@
 -- A device that fails once is asked once more, and then answers. What a world over it shows, one over its records shows too.
 use Rattle.guest_parts.specs.Guest.{Guest}
-use Rattle.std.proofs.Common.{◌≡◌, ◌+◌, Bool, true, false, List, Option, Some, None, refl, arith, ap, sym, subst, ◌∙◌}
+use Rattle.std.proofs.Common.{◌≡◌, ℕ, zero, suc, List, Option, Some, None, refl, arith, ap, sym, subst, ◌∙◌}
 use Rattle.std.specs.Prelude.{if◌then◌else◌, is_some, IsSome, IfOk, Result, Ok, Err}
+use Rattle.std.proofs.lemmas.Option.{same_Some}
 use Rattle.disk_dcdd.specs.declared.address.SectorAddress.{SectorAddress}
 use Rattle.guest_lockstep.specs.Machine.{Machine}
 use Rattle.i8080_words.specs.declared.refusal.Fault.{Fault}
 use Rattle.i8080_words.specs.declared.refusal.Fault.TheVariants.{DeviceFault, Unknown}
-use Rattle.shared_disk.specs.Failing.{failures_in}
 use Rattle.shared_disk.specs.Records.{IsThere, record_at, refusal_at}
 use Rattle.shared_disk.specs.declared.disk.SectorRead.{SectorRead}
 use Rattle.shared_disk.specs.declared.store.Record.{Record}
 use Rattle.ft_world.specs.Applies.{IsSectorOf, Shows}
 use Rattle.ft_world.specs.Running.{Running}
 use Rattle.ft_world.specs.Standing.{Course, machine_of}
-use Rattle.shared_disk.specs.Failing.{Disk, records_in}
+use Rattle.shared_disk.specs.Failing.{Disk, before_failures, disk_may_fail, failures_of, records_in}
 use Rattle.pair_check.specs.Disks.{over_records}
 
 -- a world over the disk shows what the world over its records shows
@@ -98,16 +98,15 @@ pub is_unknown : (records : List Record) (address : SectorAddress) (fault : Faul
     → (fault ≡ DeviceFault → ⊥) → fault ≡ Unknown
 is_unknown records address fault is other = is_unknown-at (record_at records address) fault is other
 
-once : (first second third : Bool) → 0 + (if second then 1 else 0) ≡ 0 + (if first then 1 else 0) + 1
-    → 0 + (if third then 1 else 0) ≡ 0 + (if second then 1 else 0) + 1 → ⊥
-once true true third a b = absurd (omega arith)
-once false true true a b = absurd (omega arith)
-once false true false a b = absurd (omega arith)
-once true false third a b = absurd (omega arith)
-once false false third a b = absurd (omega arith)
+once : (first second third : ℕ)
+    → before_failures (failures_of first) (Some 0) ≡ before_failures 1 (before_failures (failures_of second) (Some 0))
+    → before_failures (failures_of second) (Some 0) ≡ before_failures 1 (before_failures (failures_of third) (Some 0)) → ⊥
+once zero (suc n) third a b = let e : 0 ≡ 2 = same_Some 0 2 a in omega (arith, e)
+once (suc m) (suc n) third a b = let e : 1 ≡ 2 = same_Some 1 2 a in omega (arith, e)
+once first zero zero a b = let e : 0 ≡ 1 = same_Some 0 1 b in omega (arith, e)
+once first zero (suc n) a b = let e : 0 ≡ 2 = same_Some 0 2 b in omega (arith, e)
 
 -- the device does not fail twice
-pub not_twice : (first second third : Disk)
-    → failures_in (λ (records : List Record). 0) second ≡ failures_in (λ (records : List Record). 0) first + 1
-    → failures_in (λ (records : List Record). 0) third ≡ failures_in (λ (records : List Record). 0) second + 1 → ⊥
-not_twice first second third a b = once first.failed second.failed third.failed a b
+pub not_twice : (first second third : Disk) → disk_may_fail first ≡ before_failures 1 (disk_may_fail second)
+    → disk_may_fail second ≡ before_failures 1 (disk_may_fail third) → ⊥
+not_twice first second third a b = once first.left second.left third.left a b

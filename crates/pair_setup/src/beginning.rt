@@ -37,6 +37,7 @@ pub fn boot_pair<T: Completes + Drop, S: Completes + Drop, W: Completes + Drop, 
         (beginning some_altair (image_copy setup.now.drives) setup.now.reads (guest_at_boot setup.now) (D.records store))) }
     ensures faithful { OnOk result (IsFaithful some_altair
         (beginning some_altair (image_copy setup.now.drives) setup.now.reads (guest_at_boot setup.now) (D.records store))) }
+    ensures disk { IfOk result (λ world. world.disk ≡ store) }
     ensures full { IfErr result (λ refused. refused ≡ (store, primary, backup, OutOfMemory)) }
 {
     altairs_are_lawful();

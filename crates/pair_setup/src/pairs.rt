@@ -22,7 +22,6 @@ use std::alloc::Global;
 pub type Altairs<T, S, W> = AltairsOn<T, S, W, Disk>;
 
 /// A pair of this setup, with its spare hosts. `Unknown` if a sector is on a drive that is not attached.
-#[tactic(auto, using(crate::proofs::Booting::booted_host))]
 pub fn boot<T: Completes + Drop + Copy, S: Completes + Drop + Copy, W: Completes + Drop + Copy>(
     alloc: Global,
     setup: &ScriptSetup,
@@ -36,7 +35,7 @@ pub fn boot<T: Completes + Drop + Copy, S: Completes + Drop + Copy, W: Completes
     requires written { Keeps (W.may written) (W.gives written) WRITTEN }
     ensures booted { IfOk result (λ world. IsBooted (λ d. d.board.guest) (λ d. d.board.guest) some_altair
         (image_copy setup.now.guest.drives) setup.now.guest.reads (guest_at_boot setup.now.guest)
-        setup.now.guest.drives setup.now.hosts sectors.now world) }
+        setup.now.guest.drives setup.now.failing_access setup.now.hosts sectors.now world) }
     ensures refused { IfErr result (λ fault. (fault ≡ OutOfMemory)
         ⊎ ((fault ≡ Unknown) × (AreOnDrives setup.now.guest.drives sectors.now → ⊥))) }
 {
@@ -63,7 +62,7 @@ fn boot_two<T: Completes + Drop + Copy, S: Completes + Drop + Copy, W: Completes
     requires written { Keeps (W.may written) (W.gives written) WRITTEN }
     ensures booted { IfOk result (λ world. IsBooted (λ d. d.board.guest) (λ d. d.board.guest) some_altair
         (image_copy setup.now.guest.drives) setup.now.guest.reads (guest_at_boot setup.now.guest)
-        setup.now.guest.drives 2 sectors.now world) }
+        setup.now.guest.drives setup.now.failing_access 2 sectors.now world) }
     ensures refused { IfErr result (λ fault. (fault ≡ OutOfMemory)
         ⊎ ((fault ≡ Unknown) × (AreOnDrives setup.now.guest.drives sectors.now → ⊥))) }
 {

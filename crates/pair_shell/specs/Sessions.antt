@@ -21,7 +21,8 @@ use Rattle.shell_book.specs.declared.tape.Played.{Played}
 -- a pair has just booted as a session's setup says
 abbrev pub BootsBy : {B H : Type 0} → (B → Guest) → Opening → Running B H Disk → Type 0
 BootsBy state opening v = IsBooted state state some_altair (image_copy opening.setup.guest.drives)
-    opening.setup.guest.reads (guest_at_boot opening.setup.guest) opening.setup.guest.drives opening.setup.hosts opening.sectors.items v
+    opening.setup.guest.reads (guest_at_boot opening.setup.guest) opening.setup.guest.drives opening.setup.failing_access
+    opening.setup.hosts opening.sectors.items v
 
 -- A pair that has booted plays the tape of the line. One that boots at this line does so as its setup says, and then
 -- plays the tape; if none boots, nothing is played.

@@ -4,6 +4,7 @@ use Rattle.std.specs.Prelude.{take}
 use Rattle.std.proofs.lemmas.List.{take_all}
 use Rattle.ft_world.specs.Standing.{machine_of}
 use Rattle.command_script.specs.Answering.{AnswersAll}
+use Rattle.shared_disk.specs.Failing.{failures_of}
 use Rattle.command_ending.specs.Reports.{handed}
 use Rattle.command_script.proofs.Answering.{answers_residual, fails_after}
 use Rattle.command_script.proofs.Lines.{answers_all, answers_none, answers_on}
@@ -35,8 +36,9 @@ returns-in_err-answer g c = λ course shows.
     let so_far = answers_all g.B.Lockstep.state g.B.Copies.copied g.B.Lockstep.machine c.args.world.now c.loop-line.world
     (take c.loop-line.line-index c.args.lines.now) old mid c.loop-line.invariant course shows in
     let M = machine_of g.B.Lockstep.machine course in
-    answers_residual M course.copying course.world c.args.lines.now r.result e old new r.ensures.1
-    (fails_after M course.copying course.world c.args.lines.now c.loop-line.line-index e old mid next new so_far
+    let most = failures_of c.args.world.now.disk.left in
+    answers_residual M course.copying course.world c.args.lines.now most r.result e old new r.ensures.1
+    (fails_after M course.copying course.world c.args.lines.now most c.loop-line.line-index e old mid next new so_far
     c.in_ok-before_turns.ensures.ok c.in_err-answer.ensures.failed)
 
 pub returns : goal.returns
@@ -44,7 +46,8 @@ returns g c = λ course shows.
     let old = handed (g.O.Write.contents c.args.writer.now) c.args.report.now in
     let new = handed (g.O.Write.contents c.loop-line.writer) c.loop-line.report in
     subst
-    (λ l. AnswersAll (machine_of g.B.Lockstep.machine course) course.copying course.world l old new)
+    (λ l. AnswersAll (machine_of g.B.Lockstep.machine course) course.copying course.world l
+    (failures_of c.args.world.now.disk.left) old new)
     (take_all c.loop-line.line-index c.args.lines.now c.loop-line-test.false)
     (answers_all g.B.Lockstep.state g.B.Copies.copied g.B.Lockstep.machine c.args.world.now c.loop-line.world
     (take c.loop-line.line-index c.args.lines.now) old new c.loop-line.invariant course shows)

@@ -7,4 +7,5 @@ use Rattle.pair_setup.proofs.pairs.boot.Given as goal
 
 abbrev pub invariant-hosts : goal.invariant-hosts
 invariant-hosts g l = IsBooted (λ d. d.board.guest) (λ d. d.board.guest) some_altair
-    (image_copy l.setup.guest.drives) l.setup.guest.reads (guest_at_boot l.setup.guest) l.setup.guest.drives l._number l.sectors l.world
+    (image_copy l.setup.guest.drives) l.setup.guest.reads (guest_at_boot l.setup.guest)
+    l.setup.guest.drives l.setup.failing_access l._number l.sectors l.world
