@@ -23,12 +23,14 @@ use std::alloc::{AllocError, Global};
 use std::io::Write;
 
 /// Runs a script, and writes a picture of what happened in it.
+#[tactic(auto, using(crate::proofs::Drawing::draws_run))]
 pub fn run_picture<W: Write + Drop>(
     alloc: Global,
     input: &Input,
     writer: &mut W,
 ) -> Result<(), Failure>
-    ensures { Draws result (W.contents writer.old) (W.contents writer.new) }
+    ensures { Draws input.now.script.setup input.now.sectors.items input.now.script.lines.items result
+        (W.contents writer.old) (W.contents writer.new) }
 {
     let moments = run(
         alloc,

@@ -106,7 +106,8 @@ module _ {R W : Type 0} (remaining : R → Option (List ℕ)) (contents : W → 
       (subst (λ ds. ReadsInput script_of ds (remaining reader) (Ok input)) same read) h
 
   picture_by : (images : Vec ℕ) (input : Input) (result : Result (Unit {0}) Failure)
-      → ReadsInput script_of images.items (remaining reader) (Ok input) → Draws result (contents writer) (contents writer')
+      → ReadsInput script_of images.items (remaining reader) (Ok input)
+      → Draws input.script.setup input.sectors.items input.script.lines.items result (contents writer) (contents writer')
       → IsObeyed remaining contents reader reader' writer writer' (request.Picture images) result
   picture_by images input (Ok done) read h = record { input = input; read = read; obeyed = h }
   picture_by images input (Err failure.OutOfMemory) read h = inr (record { input = input; read = read; obeyed = h })
@@ -118,7 +119,7 @@ module _ {R W : Type 0} (remaining : R → Option (List ℕ)) (contents : W → 
 
   pub is_picture : (images : Vec ℕ) (drives : List ℕ) (input : Input) (result : Result (Unit {0}) Failure)
       → drives ≡ images.items → ReadsInput script_of drives (remaining reader) (Ok input)
-      → Draws result (contents writer) (contents writer')
+      → Draws input.script.setup input.sectors.items input.script.lines.items result (contents writer) (contents writer')
       → IsObeyed remaining contents reader reader' writer writer' (request.Picture images) result
   is_picture images drives input result same read h = picture_by images input result
       (subst (λ ds. ReadsInput script_of ds (remaining reader) (Ok input)) same read) h

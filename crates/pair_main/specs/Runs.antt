@@ -56,7 +56,8 @@ Obeys (request.Script images) remaining after result old new = IsOfReader script
 Obeys (request.Check images) remaining after result old new = IsOfReader script_of images.items remaining (λ input.
     script.Prints order.Check input.script.setup input.sectors.items input.script.lines.items result old new)
 Obeys (request.Picture images) remaining after result old new =
-    IsOfReader script_of images.items remaining (λ input. Draws result old new)
+    IsOfReader script_of images.items remaining (λ input.
+    Draws input.script.setup input.sectors.items input.script.lines.items result old new)
 Obeys request.Lint remaining after result old new = Lints remaining result old new
 Obeys (request.Live how) remaining after result old new = IsOfReader live_script_of how.images.items remaining (λ input.
     PrintsLive input.script.setup input.sectors.items (typed_in 0 input.script.lines.items) (typed_in 1 input.script.lines.items)
