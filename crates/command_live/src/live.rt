@@ -10,7 +10,8 @@ use crate::beginning::{Asked, STEPS, workers_of};
 use crate::generations::generations;
 use crate::saving::images_of;
 use crate::teller::{BackupAsks, Teller};
-use crate::watch::{Watch, Watcher};
+use crate::watch::Watch;
+use crate::watcher::Watcher;
 use altair_laws::altairs_are_lawful;
 use command_ending::{Failure, Report};
 use command_input::Input;
@@ -226,7 +227,7 @@ fn run_told<
         (typed_in 1 input.now.script.lines.items) order.now result
         (handed (O.contents writer.old) report.old) (handed (O.contents writer.new) report.new) }
 {
-    let watch = Watch::new();
+    let watch: Watch = Watch::new();
     let gate = Watcher::new(&watch, rt);
     let asks = BackupAsks {
         first: asked.backup,
