@@ -3,7 +3,7 @@ ghost use Rattle.std.specs.Prelude.{◌≡◌, ◌∷◌, [], ℕ, IfOk, List, O
 ghost use Rattle.event_callbacks.specs.declared.devices.TheConstants.{SENT, SECTOR, WRITTEN};
 ghost use Rattle.event_callbacks.specs.Keeping.{Keeps};
 ghost use Rattle.command_ending.specs.Reports.{handed};
-ghost use Rattle.command_live.specs.Living.{HasEnded, PrintsNone, Tells, TellsScreens, end_text, typed_in};
+ghost use Rattle.command_live.specs.Living.{HasEnded, PrintsNone, Tells, TellsScreens, end_text, failure_of, typed_in};
 ghost use Rattle.pair_threads.specs.Ending.{WonBy};
 
 use crate::beginning::{Asked, STEPS, workers_of};
@@ -253,7 +253,8 @@ fn run_told<
 
 // Why nothing is printed.
 fn failure_of(fault: Fault) -> Failure
-    ensures { (told : Option (List ℕ)) → PrintsNone result told told }
+    ensures why { result ≡ failure_of fault }
+    ensures none { (told : Option (List ℕ)) → PrintsNone result told told }
 {
     match fault {
         Fault::Stalled => Failure::Stalled,
