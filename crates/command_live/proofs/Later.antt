@@ -26,28 +26,30 @@ use Rattle.pair_protocol.specs.Lawful.{Among}
 use Rattle.pair_threads.specs.Ending.{WonBy}
 use Rattle.pair_threads.specs.declared.gate.Who.{Who}
 use Rattle.pair_threads.specs.declared.gate.Who.TheVariants as who
+use Rattle.pair_threads.specs.declared.link.Fate.{Fate}
 use Rattle.script_language.specs.declared.line.Line.{Line}
 use Rattle.script_language.specs.declared.setup.ScriptSetup.{ScriptSetup}
 use Rattle.shared_disk.specs.Records.{HasWholeSectors, IsAtBoot, IsUnwritten, boot_record, record_at}
 use Rattle.shared_disk.specs.declared.store.Record.{Record}
 
 -- one more of each
-pub one_later : {H : Type 0} (askers : List Asker) (turns : List ℕ) (later : List (Next H)) (i : ℕ) (a : Asker) (t : ℕ)
-    (n : Next H) → i < length askers → i < length turns → AreLater (take i askers) (take i turns) later
-    → IsNext (get_or askers i a) (get_or turns i t) n → AreLater (take (suc i) askers) (take (suc i) turns) (later ++ n ∷ [])
-one_later [] turns later i a t n few short are is = absurd (omega (arith, few))
-one_later (x ∷ askers) [] later i a t n few short are is = absurd (omega (arith, short))
-one_later (x ∷ askers) (y ∷ turns) [] zero a t n few short are is = (is, refl)
-one_later (x ∷ askers) (y ∷ turns) (m ∷ later) zero a t n few short are is = absurd (let e : m ∷ later ≡ [] = are in cc)
-one_later (x ∷ askers) (y ∷ turns) [] (suc i) a t n few short are is = absurd are
-one_later (x ∷ askers) (y ∷ turns) (m ∷ later) (suc i) a t n few short are is =
-    (are.0, one_later askers turns later i a t n (let f = few in omega (arith, f)) (let s = short in omega (arith, s)) are.1 is)
+pub one_later : {H : Type 0} (fates : List Fate) (askers : List Asker) (turns : List ℕ) (later : List (Next H)) (i : ℕ) (a : Asker)
+    (t : ℕ) (n : Next H) → i < length askers → i < length turns → AreLater fates (take i askers) (take i turns) later
+    → IsNext fates (get_or askers i a) (get_or turns i t) n
+    → AreLater fates (take (suc i) askers) (take (suc i) turns) (later ++ n ∷ [])
+one_later fates [] turns later i a t n few short are is = absurd (omega (arith, few))
+one_later fates (x ∷ askers) [] later i a t n few short are is = absurd (omega (arith, short))
+one_later fates (x ∷ askers) (y ∷ turns) [] zero a t n few short are is = (is, refl)
+one_later fates (x ∷ askers) (y ∷ turns) (m ∷ later) zero a t n few short are is = absurd (let e : m ∷ later ≡ [] = are in cc)
+one_later fates (x ∷ askers) (y ∷ turns) [] (suc i) a t n few short are is = absurd are
+one_later fates (x ∷ askers) (y ∷ turns) (m ∷ later) (suc i) a t n few short are is =
+    (are.0, one_later fates askers turns later i a t n (let f = few in omega (arith, f)) (let s = short in omega (arith, s)) are.1 is)
 
 -- whoever goes on alone in a generation is the one that was to ask in it
-won_by : {H : Type 0} (a : Asker) (turn : ℕ) (n : Next H) (winner : Option Who) → IsNext a turn n
+won_by : {H : Type 0} (fates : List Fate) (a : Asker) (turn : ℕ) (n : Next H) (winner : Option Who) → IsNext fates a turn n
     → WonBy n.primary_contests n.backup_contests winner → IsWonBy a winner
-won_by a turn n winner is won =
-    go a winner (subst (λ p. WonBy p (backup_at a turn) winner) is.0 (subst (λ b. WonBy n.primary_contests b winner) is.1 won))
+won_by fates a turn n winner is won =
+    go a winner (subst (λ p. WonBy p (backup_at a turn) winner) is.0 (subst (λ b. WonBy n.primary_contests b winner) is.1.0 won))
   where
     go : (a : Asker) (winner : Option Who) → WonBy (primary_at a turn) (backup_at a turn) winner → IsWonBy a winner
     go asker.Nobody None w = refl
@@ -70,16 +72,16 @@ won_by a turn n winner is won =
     go asker.Backup (Some who.Disk) w = absurd w
 
 -- if it is one of the further generations, it is one of those that are named
-pub won_among : {H : Type 0} (askers : List Asker) (turns : List ℕ) (later : List (Next H)) (n : Next H) (winner : Option Who)
-    → AreLater askers turns later → Among n later → WonBy n.primary_contests n.backup_contests winner
+pub won_among : {H : Type 0} (fates : List Fate) (askers : List Asker) (turns : List ℕ) (later : List (Next H)) (n : Next H)
+    (winner : Option Who) → AreLater fates askers turns later → Among n later → WonBy n.primary_contests n.backup_contests winner
     → ((a : Asker) × Among a askers × IsWonBy a winner)
-won_among [] turns later n winner are at won = absurd (subst (Among n) are at)
-won_among (a ∷ askers) [] later n winner are at won = absurd (subst (Among n) are at)
-won_among (a ∷ askers) (t ∷ turns) [] n winner are at won = absurd at
-won_among (a ∷ askers) (t ∷ turns) (m ∷ later) n winner are (inl same) won =
-    (a, inl refl, won_by a t n winner (subst (IsNext a t) (sym same) are.0) won)
-won_among (a ∷ askers) (t ∷ turns) (m ∷ later) n winner are (inr at) won =
-    let r = won_among askers turns later n winner are.1 at won in (r.0, inr r.1, r.2)
+won_among fates [] turns later n winner are at won = absurd (subst (Among n) are at)
+won_among fates (a ∷ askers) [] later n winner are at won = absurd (subst (Among n) are at)
+won_among fates (a ∷ askers) (t ∷ turns) [] n winner are at won = absurd at
+won_among fates (a ∷ askers) (t ∷ turns) (m ∷ later) n winner are (inl same) won =
+    (a, inl refl, won_by fates a t n winner (subst (IsNext fates a t) (sym same) are.0) won)
+won_among fates (a ∷ askers) (t ∷ turns) (m ∷ later) n winner are (inr at) won =
+    let r = won_among fates askers turns later n winner are.1 at won in (r.0, inr r.1, r.2)
 
 -- ---- the guest
 
@@ -108,14 +110,14 @@ begins_so setup given lines primary backup first second records found typed0 typ
   typed = (k0 ∙ begins.typed.0, k1 ∙ begins.typed.1);
 }
 
-pub won_in : {H : Type 0} (order : LiveOrder) (primary backup : Option ℕ) (askers : List Asker) (turns : List ℕ)
+pub won_in : {H : Type 0} (order : LiveOrder) (fates : List Fate) (primary backup : Option ℕ) (askers : List Asker) (turns : List ℕ)
     (later : List (Next H)) (winner : Option Who) → primary ≡ order.primary_asks → backup ≡ order.backup_asks
-    → askers ≡ order.next.items → AreLater askers turns later → WonBy primary backup winner ⊎ WonLater later winner
+    → askers ≡ order.next.items → AreLater fates askers turns later → WonBy primary backup winner ⊎ WonLater later winner
     → WonIn order winner
-won_in order primary backup askers turns later winner p b named are (inl won) =
+won_in order fates primary backup askers turns later winner p b named are (inl won) =
     inl (subst (λ x. WonBy x order.backup_asks winner) p (subst (λ y. WonBy primary y winner) b won))
-won_in order primary backup askers turns later winner p b named are (inr won) =
-    let found = won_among askers turns later won.0 winner are won.1 won.2 in
+won_in order fates primary backup askers turns later winner p b named are (inr won) =
+    let found = won_among fates askers turns later won.0 winner are won.1 won.2 in
     inr (found.0, subst (Among found.0) named found.1, found.2)
 
 -- ---- as many as both lists name
@@ -123,13 +125,14 @@ won_in order primary backup askers turns later winner p b named are (inr won) =
 pub below_both : (i m n least : ℕ) → least ≡ min m n → i < least → (i < m) × (i < n)
 below_both i m n least is below = (omega (arith, is, below), omega (arith, is, below))
 
-pub all_later : {H : Type 0} (askers : List Asker) (turns : List ℕ) (n : ℕ) (later : List (Next H))
-    → min (length askers) (length turns) ≤ n → AreLater (take n askers) (take n turns) later → AreLater askers turns later
-all_later [] turns zero later most are = are
-all_later [] turns (suc n) later most are = are
-all_later (a ∷ askers) [] zero later most are = are
-all_later (a ∷ askers) [] (suc n) later most are = are
-all_later (a ∷ askers) (t ∷ turns) zero later most are = absurd (omega (arith, most))
-all_later (a ∷ askers) (t ∷ turns) (suc n) [] most are = absurd are
-all_later (a ∷ askers) (t ∷ turns) (suc n) (m ∷ later) most are =
-    (are.0, all_later askers turns n later (omega (arith, most)) are.1)
+pub all_later : {H : Type 0} (fates : List Fate) (askers : List Asker) (turns : List ℕ) (n : ℕ) (later : List (Next H))
+    → min (length askers) (length turns) ≤ n → AreLater fates (take n askers) (take n turns) later
+    → AreLater fates askers turns later
+all_later fates [] turns zero later most are = are
+all_later fates [] turns (suc n) later most are = are
+all_later fates (a ∷ askers) [] zero later most are = are
+all_later fates (a ∷ askers) [] (suc n) later most are = are
+all_later fates (a ∷ askers) (t ∷ turns) zero later most are = absurd (omega (arith, most))
+all_later fates (a ∷ askers) (t ∷ turns) (suc n) [] most are = absurd are
+all_later fates (a ∷ askers) (t ∷ turns) (suc n) (m ∷ later) most are =
+    (are.0, all_later fates askers turns n later (omega (arith, most)) are.1)

@@ -1,5 +1,5 @@
 -- The lines that tell of a pair.
-use Rattle.std.specs.Prelude.{ℕ, ◌-◌, ◌/◌, ◌%◌, ◌^◌, min, nat_lt, if◌then◌else◌, List, [], ◌∷◌, ◌++◌, Option, Some, None, codes}
+use Rattle.std.specs.Prelude.{ℕ, ◌-◌, ◌/◌, ◌%◌, ◌^◌, min, nat_lt, if◌then◌else◌, Bool, true, false, List, [], ◌∷◌, ◌++◌, Option, Some, None, codes}
 use Rattle.std.specs.Fmt.{decimal}
 use Rattle.command_live.specs.Roles.{host_of, roles_after}
 use Rattle.command_live.specs.declared.line.Line.{Line}
@@ -33,6 +33,11 @@ outlived who r (Some backup) = Some (Line.Asks (peer_of who r.primary backup) (h
 abbrev pub first_line : PairEvent → Roles → Option Line
 first_line (Won who) r = outlived who r r.backup
 first_line event r = None
+
+-- somebody has won
+abbrev pub is_won : PairEvent → Bool
+is_won (Won who) = true
+is_won event = false
 
 -- a generation that begins with a backup
 abbrev begun : ℕ → Roles → Option ℕ → Line

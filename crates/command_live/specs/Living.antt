@@ -8,6 +8,8 @@ use Rattle.disk_dcdd.specs.declared.sector.SectorWrite.{SectorWrite}
 use Rattle.disk_dcdd.specs.declared.sector.TheConstants.{SECTOR_BYTES}
 use Rattle.guest_parts.specs.Guest.{Guest}
 use Rattle.guest_board.specs.Guest.{altair, guest_at_boot}
+use Rattle.i8080_words.specs.declared.refusal.Fault.{Fault}
+use Rattle.i8080_words.specs.declared.refusal.Fault.TheVariants as fault
 use Rattle.log_entry.specs.declared.entry.Entry.{Entry}
 use Rattle.pair_events.specs.Printed.{accepted_text}
 use Rattle.pair_events.specs.declared.event.Event.TheVariants.{TypeByte}
@@ -123,6 +125,12 @@ pub record TellsEnd (setup : ScriptSetup) (given : List SectorWrite) (typed0 typ
   pub won : WonIn order winner
   pub ends : EndsOf setup given typed0 typed1 order.saved.items winner (first ∷ second ∷ []) images
   pub printed : AddsLine (Some (end_text first second winner)) old new
+
+-- why nothing is printed, by why a pair has no end: a disk that is to be saved is not there, it stalls, or memory is refused
+abbrev pub failure_of : Fault → Failure
+failure_of fault.Unknown = InputOrOutput
+failure_of fault.Stalled = Stalled
+failure_of other = OutOfMemory
 
 -- nothing is printed of a pair that stalls, or for which memory is refused
 abbrev pub PrintsNone : Failure → Option (List ℕ) → Option (List ℕ) → Type 0

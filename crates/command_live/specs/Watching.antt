@@ -1,5 +1,8 @@
 -- What is noted of a backup while its generation runs.
-use Rattle.std.specs.Prelude.{ℕ, ◌-◌, ◌^◌, ◌==◌, Bool, false, Option, Some, None, unwrap_or}
+use Rattle.std.specs.Prelude.{◌≡◌, ℕ, ◌-◌, ◌^◌, ◌==◌, Bool, false, Option, Some, None, unwrap_or}
+use Rattle.command_live.specs.Lines.{replay_between}
+use Rattle.command_live.specs.declared.takeover.Reached.{Reached}
+use Rattle.command_live.specs.declared.takeover.Replay.{Replay}
 use Rattle.command_live.specs.declared.watch.Seen.{Seen}
 use Rattle.pair_threads.specs.declared.gate.Progress.{Progress}
 use Rattle.pair_threads.specs.declared.gate.Who.{Who}
@@ -18,3 +21,21 @@ asks_now who turn asks_at = false
 abbrev pub steps_noted : Who → Progress → Option ℕ
 steps_noted Backup progress = Some progress.steps
 steps_noted who progress = None
+
+-- This is what a backup has done since it was told, until it had made so many steps: this holds of its steps when it was told, and that
+-- of the microseconds.
+pub record IsSince (IsSteps IsMicros : ℕ → Type 0) (steps : ℕ) (replay : Replay) : Type 0 where
+  pub told : Reached
+  pub now : Reached
+  pub told_steps : IsSteps told.steps
+  pub told_micros : IsMicros told.micros
+  pub made : now.steps ≡ steps
+  pub is : replay ≡ replay_between told now
+
+-- it has repeated the steps between two numbers of steps of which this holds
+pub record IsBetween (IsSteps : ℕ → Type 0) (replay : Replay) : Type 0 where
+  pub first : ℕ
+  pub last : ℕ
+  pub was : IsSteps first
+  pub made : IsSteps last
+  pub is : replay.steps ≡ last - first

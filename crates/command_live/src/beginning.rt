@@ -53,6 +53,7 @@ pub fn workers_of<
     ensures primary_asks { IfOk result (λ workers. workers.primary_contests ≡ asked.primary) }
     ensures backup_asks { IfOk result (λ workers. workers.backup_contests ≡ asked.backup) }
     ensures steps { IfOk result (λ workers. workers.steps ≡ asked.steps) }
+    ensures link { IfOk result (λ workers. workers.fates ≡ link) }
 {
     let disk = disk_of(alloc, input)?;
     let (typed0, typed1) = typed(alloc, &input.script.lines)?;

@@ -42,7 +42,7 @@ pub(crate) fn later_of<
     requires sent { Keeps (T.may sent) (T.gives sent) SENT }
     requires sector { Keeps (S.may sector) (S.gives sector) SECTOR }
     requires written { Keeps (W.may written) (W.gives written) WRITTEN }
-    ensures { IfOk result (λ later. AreLater next.now turns.now later.items) }
+    ensures { IfOk result (λ later. AreLater link.now.items next.now turns.now later.items) }
 {
     let mut later = Vec::new(alloc);
     for index in 0..next.len().min(turns.len()) {
@@ -54,7 +54,7 @@ pub(crate) fn later_of<
 
 // What happens in one.
 fn next_of<H: Drop>(asker: Asker, turn: u64, link: &Vec<Fate>, host: H) -> R<Next<H>>
-    ensures { IfOk result (IsNext asker turn) }
+    ensures { IfOk result (IsNext link.now.items asker turn) }
 {
     let copy_fates = link.clone()?;
     let fates = link.clone()?;
@@ -81,6 +81,7 @@ pub fn drafted<T: Completes + Drop, S: Completes + Drop, W: Completes + Drop>(
     ensures typed { (result.typed0 ≡ workers.typed0) × (result.typed1 ≡ workers.typed1) }
     ensures asks { (result.primary_contests ≡ workers.primary_contests)
         × (result.backup_contests ≡ workers.backup_contests) }
+    ensures bounds { (result.fates ≡ workers.fates) × (result.steps ≡ workers.steps) }
 {
     let Workers {
         primary,

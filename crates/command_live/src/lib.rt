@@ -11,6 +11,7 @@ mod saving;
 mod takeover;
 mod teller;
 mod watch;
+mod watcher;
 
 pub use beginning::{Asked, workers_of};
 pub use command::run_live;
@@ -18,4 +19,6 @@ pub use generations::{TRIES, drafted, sizes};
 pub use line::{Line, first_line, line_of};
 pub use roles::Roles;
 pub use saving::images_of;
-pub use takeover::{Replay, Takeover};
+pub use takeover::{Replay, Takeover, Unruled};
+pub use watch::Watch;
+pub use watcher::Watcher;

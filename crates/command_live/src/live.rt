@@ -3,14 +3,15 @@ ghost use Rattle.std.specs.Prelude.{◌≡◌, ◌∷◌, [], ℕ, IfOk, List, O
 ghost use Rattle.event_callbacks.specs.declared.devices.TheConstants.{SENT, SECTOR, WRITTEN};
 ghost use Rattle.event_callbacks.specs.Keeping.{Keeps};
 ghost use Rattle.command_ending.specs.Reports.{handed};
-ghost use Rattle.command_live.specs.Living.{HasEnded, PrintsNone, Tells, TellsScreens, end_text, typed_in};
+ghost use Rattle.command_live.specs.Living.{HasEnded, PrintsNone, Tells, TellsScreens, end_text, failure_of, typed_in};
 ghost use Rattle.pair_threads.specs.Ending.{WonBy};
 
 use crate::beginning::{Asked, STEPS, workers_of};
 use crate::generations::generations;
 use crate::saving::images_of;
 use crate::teller::{BackupAsks, Teller};
-use crate::watch::{Watch, Watcher};
+use crate::watch::Watch;
+use crate::watcher::Watcher;
 use altair_laws::altairs_are_lawful;
 use command_ending::{Failure, Report};
 use command_input::Input;
@@ -226,7 +227,7 @@ fn run_told<
         (typed_in 1 input.now.script.lines.items) order.now result
         (handed (O.contents writer.old) report.old) (handed (O.contents writer.new) report.new) }
 {
-    let watch = Watch::new();
+    let watch: Watch = Watch::new();
     let gate = Watcher::new(&watch, rt);
     let asks = BackupAsks {
         first: asked.backup,
@@ -252,7 +253,8 @@ fn run_told<
 
 // Why nothing is printed.
 fn failure_of(fault: Fault) -> Failure
-    ensures { (told : Option (List ℕ)) → PrintsNone result told told }
+    ensures why { result ≡ failure_of fault }
+    ensures none { (told : Option (List ℕ)) → PrintsNone result told told }
 {
     match fault {
         Fault::Stalled => Failure::Stalled,

@@ -1,8 +1,8 @@
 //! What is told of a pair over its generations.
-ghost use Rattle.std.specs.Prelude.{◌≡◌, ◌∷◌, [], IsTrue, OnOk, Option};
+ghost use Rattle.std.specs.Prelude.{◌≡◌, ◌∷◌, [], IsTrue, None, OnOk, Option, false};
 ghost use Rattle.std.specs.Io.KnownBytes.{Appends};
 ghost use Rattle.command_live.specs.Later.{turn_in};
-ghost use Rattle.command_live.specs.Lines.{lines_of, with_first, written_lines, written_text};
+ghost use Rattle.command_live.specs.Lines.{is_won, lines_of, with_first, written_lines, written_text};
 ghost use Rattle.command_live.specs.Roles.{roles_after, roles_at_boot};
 ghost use Rattle.command_live.specs.declared.takeover.Replay.{Replay};
 
@@ -155,7 +155,9 @@ fn write_line<N: Write>(alloc: Global, notes: &mut N, line: Line) -> Result<(), 
 
 impl<C: Clock, N> Teller<'_, C, N> {
     // What a backup did before this event, if it has won by it.
-    fn replay_before(&self, event: PairEvent) -> Option<Replay> {
+    fn replay_before(&self, event: PairEvent) -> Option<Replay>
+        ensures { is_won event ≡ false → result ≡ None }
+    {
         match event {
             PairEvent::Won(_) => self.watch.end_takeover(self.clock),
             _ => None,

@@ -8,3 +8,5 @@ mod console;
 mod generations;
 #[cfg(test)]
 mod seats;
+#[cfg(test)]
+mod takeovers;

@@ -4,4 +4,4 @@ use Rattle.command_live.specs.Later.{AreLater}
 use Rattle.command_live.proofs.generations.later_of.Given as goal
 
 abbrev pub invariant-loop-index : goal.invariant-loop-index
-invariant-loop-index g l = AreLater (take l.index l.fn.next) (take l.index l.fn.turns) l.later.items
+invariant-loop-index g l = AreLater l.fn.link.items (take l.index l.fn.next) (take l.index l.fn.turns) l.later.items
