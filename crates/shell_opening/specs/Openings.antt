@@ -1,9 +1,12 @@
 -- The setup of a session, and what its lines change.
-use Rattle.std.specs.Prelude.{◌≡◌, ℕ, ◌-◌, List, [], ◌∷◌, ◌++◌, Option, Some, None, length, replicate, take}
+use Rattle.std.specs.Prelude.{◌≡◌, ℕ, ◌-◌, List, [], ◌∷◌, ◌++◌, Option, Some, None, length, nat_le, replicate, take}
+use Rattle.std.specs.List.{find}
 use Rattle.disk_dcdd.specs.declared.address.SectorAddress.{SectorAddress}
 use Rattle.disk_dcdd.specs.declared.sector.SectorWrite.{SectorWrite}
 use Rattle.script_language.specs.Booting.{Boot, boot_after, boot_of, default_boot, memory_from}
 use Rattle.script_language.specs.Words.{bytes_of}
+use Rattle.shell_language.specs.Mistakes.{Flaw}
+use Rattle.shell_language.specs.Mistakes.Flaw.{Blank, Detached}
 use Rattle.shell_language.specs.declared.line.ShellLine.{ShellLine}
 use Rattle.shell_language.specs.declared.line.ShellLine.TheVariants as shell
 use Rattle.shell_opening.specs.declared.opening.Opening.{Opening}
@@ -67,3 +70,11 @@ CannotSet _ old = ⊥
 abbrev pub SetsUpSaid : Option ShellLine → Opening → Opening → Type 0
 SetsUpSaid (Some line) old new = SetsUp line old new
 SetsUpSaid None old new = Unit {0}
+
+-- why no pair can boot: the first sector on a drive that is not attached
+abbrev pub detached_flaw : Option SectorWrite → Flaw
+detached_flaw (Some sector) = Detached sector.drive sector.track sector.sector
+detached_flaw None = Blank
+
+abbrev pub detached_in : ℕ → List SectorWrite → Flaw
+detached_in drives sectors = detached_flaw (find (λ (sector : SectorWrite). nat_le drives sector.drive) sectors)

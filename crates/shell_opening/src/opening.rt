@@ -1,5 +1,8 @@
 //! The lines before the pair boots: its machines and their disk.
-ghost use Rattle.std.specs.Prelude.{◌≡◌, ◌+◌, ◌≤◌, IfOk, length};
+ghost use Rattle.std.specs.Prelude.{◌≡◌, ◌+◌, ◌≤◌, IfOk, length, nat_le};
+ghost use Rattle.std.specs.List.{find};
+ghost use Rattle.std.specs.Option.{option_copied};
+ghost use Rattle.disk_dcdd.specs.declared.sector.SectorWrite.{SectorWrite};
 ghost use Rattle.shell_opening.specs.Openings.{padded, sector_bytes, sector_of};
 ghost use Rattle.shell_book.specs.declared.outcome.Outcome.TheVariants as outcome;
 ghost use Rattle.shell_language.specs.declared.line.ShellLine.TheVariants as shell;
@@ -23,7 +26,8 @@ impl Opening {
     ghost use Rattle.script_language.specs.Booting.{boot_of, memory_from};
     ghost use Rattle.std.specs.Prelude.{false};
     ghost use Rattle.shell_book.specs.Outcomes.{is_ended};
-    ghost use Rattle.shell_opening.specs.Openings.{CannotSet, IsDefault, IsSame, SetsUp};
+    ghost use Rattle.shell_language.specs.Mistakes.{flaw_of};
+    ghost use Rattle.shell_opening.specs.Openings.{CannotSet, IsDefault, IsSame, SetsUp, detached_in};
 
     /// The setup if no line says otherwise.
     pub fn new(alloc: Global) -> Result<Opening, AllocError>
@@ -132,9 +136,10 @@ impl Opening {
     }
 
     /// The first sector on a drive that is not attached.
-    pub fn detached(&self) -> Mistake<'static> {
-        let drives = self.setup.guest.drives;
-        match self.sectors.iter().find(|sector| drives <= sector.drive) {
+    pub fn detached(&self) -> Mistake<'static>
+        ensures { flaw_of result ≡ detached_in self.now.setup.guest.drives self.now.sectors.items }
+    {
+        match first_detached(&self.sectors, self.setup.guest.drives) {
             Some(sector) => Mistake::Detached {
                 drive: sector.drive,
                 track: sector.track,
@@ -143,6 +148,12 @@ impl Opening {
             None => Mistake::Blank,
         }
     }
+}
+
+fn first_detached(sectors: &[SectorWrite], drives: u8) -> Option<&SectorWrite>
+    ensures { option_copied result ≡ find (λ (sector : SectorWrite). nat_le drives sector.drive) sectors.now }
+{
+    sectors.iter().find(|sector| drives <= sector.drive)
 }
 
 // A sector of these bytes, before every write of a guest.
