@@ -24,6 +24,8 @@ mod lines;
 #[cfg(test)]
 mod logs;
 #[cfg(test)]
+mod outsides;
+#[cfg(test)]
 mod readers;
 #[cfg(test)]
 mod records;
