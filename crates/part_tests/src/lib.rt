@@ -18,13 +18,9 @@ mod entries;
 #[cfg(test)]
 mod follows;
 #[cfg(test)]
-mod frames;
-#[cfg(test)]
 mod lines;
 #[cfg(test)]
 mod logs;
-#[cfg(test)]
-mod outsides;
 #[cfg(test)]
 mod readers;
 #[cfg(test)]
