@@ -49,7 +49,7 @@ one_later fates (x ∷ askers) (y ∷ turns) (m ∷ later) (suc i) a t n few sho
 won_by : {H : Type 0} (fates : List Fate) (a : Asker) (turn : ℕ) (n : Next H) (winner : Option Who) → IsNext fates a turn n
     → WonBy n.primary_contests n.backup_contests winner → IsWonBy a winner
 won_by fates a turn n winner is won =
-    go a winner (subst (λ p. WonBy p (backup_at a turn) winner) is.0 (subst (λ b. WonBy n.primary_contests b winner) is.1.0 won))
+    go a winner (subst (λ p. WonBy p (backup_at a turn) winner) is.0 (subst (λ b. WonBy n.primary_contests b winner) is.1 won))
   where
     go : (a : Asker) (winner : Option Who) → WonBy (primary_at a turn) (backup_at a turn) winner → IsWonBy a winner
     go asker.Nobody None w = refl
