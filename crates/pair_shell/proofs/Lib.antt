@@ -10,4 +10,3 @@ pub mod Playing
 pub mod Refusing
 pub mod Same
 pub mod Tracing
-pub mod Finding
