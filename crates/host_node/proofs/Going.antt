@@ -1,0 +1,112 @@
+-- How a host goes on: with no call, with one call of its node, and from one state over another to a third.
+use Rattle.std.proofs.Common.{ℕ, ◌≡◌, ◌≢◌, List, [], ◌∷◌, ◌++◌, append-nil, append_assoc, refl, sym, ap, ◌∙◌, subst, inl, inr}
+use Rattle.clone_state.specs.Copies.{CopiesAs}
+use Rattle.guest_lockstep.specs.Machine.{Machine}
+use Rattle.guest_parts.specs.Guest.{Guest}
+use Rattle.host_frames.specs.Frames.{IsSpelling, Said}
+use Rattle.host_frames.specs.Meaning.{Brings, Speaks}
+use Rattle.host_law.specs.Frame.{Act, Came, Frame, sent, taken}
+use Rattle.host_law.specs.Host as host
+use Rattle.host_law.specs.Host.{HostRun, HostStep}
+use Rattle.host_node.specs.Goes as goes
+use Rattle.host_node.specs.Goes.{AllBring, Goes, Ran, RunsTo, Says}
+use Rattle.host_node.specs.Hosts.{HasJoined, IsHosted, IsNumber}
+use Rattle.host_node.specs.declared.host.HostNode.{HostNode}
+use Rattle.pair_protocol.specs.Copying.{Copying}
+use Rattle.pair_protocol.specs.Lawful.{Among}
+use Rattle.pair_protocol.specs.Node.{Node}
+
+-- ---- lists
+
+taken_both : (xs ys : List Act) → taken (xs ++ ys) ≡ taken xs ++ taken ys
+taken_both [] ys = refl
+taken_both (x ∷ xs) ys = ap (λ l. x.takes ++ l) (taken_both xs ys) ∙ sym (append_assoc x.takes (taken xs) (taken ys))
+
+sent_both : (xs ys : List Act) → sent (xs ++ ys) ≡ sent xs ++ sent ys
+sent_both [] ys = refl
+sent_both (x ∷ xs) ys = ap (λ l. x.sends ++ l) (sent_both xs ys) ∙ sym (append_assoc x.sends (sent xs) (sent ys))
+
+came_both : (xs ys before : List Frame) → Came xs before → Came ys before → Came (xs ++ ys) before
+came_both [] ys before p q = q
+came_both (x ∷ xs) ys before p q = (p.0, came_both xs ys before p.1 q)
+
+says_both : (drives me : ℕ) (a b : List (List ℕ)) (f g : List Frame) → Says drives me a f → Says drives me b g
+    → Says drives me (a ++ b) (f ++ g)
+says_both drives me a b f g goes.Nothing q = q
+says_both drives me a b f g (goes.Then {rest = rest} {more = more} bytes said frames spells speaks p) q =
+    subst (λ l. Says drives me (bytes ∷ (rest ++ b)) l) (sym (append_assoc frames more g))
+    (goes.Then bytes said frames spells speaks (says_both drives me rest b more g p q))
+
+run_both : {S : Type 0} (M : Machine S) (C : Copying S) (me : ℕ) (x y z : Node S) (a b : List Act) → HostRun M C me x a y
+    → HostRun M C me y b z → HostRun M C me x (a ++ b) z
+run_both M C me x y z a b host.Rests q = q
+run_both M C me x y z a b (host.Goes {mid = mid} {act = act} {acts = acts} step p) q =
+    host.Goes step (run_both M C me mid y z acts b p q)
+
+among_before : {A : Type 0} (x : A) (xs ys : List A) → Among x xs → Among x (xs ++ ys)
+among_before x [] ys p = absurd p
+among_before x (z ∷ zs) ys (inl e) = inl e
+among_before x (z ∷ zs) ys (inr p) = inr (among_before x zs ys p)
+
+-- ---- runs
+
+module _ {S : Type 0} (M : Machine S) (C : Copying S) (drives me : ℕ) where
+  pub ran_none : (x : Node S) (frames : List Frame) → Ran M C drives me x frames [] x
+  ran_none x frames = record { acts = []; run = host.Rests; came = tt; says = goes.Nothing }
+
+  pub ran_both : (x y z : Node S) (frames : List Frame) (a b : List (List ℕ)) → Ran M C drives me x frames a y
+      → Ran M C drives me y frames b z → Ran M C drives me x frames (a ++ b) z
+  ran_both x y z frames a b p q = record {
+    acts = p.acts ++ q.acts;
+    run = run_both M C me x y z p.acts q.acts p.run q.run;
+    came = subst (λ l. Came l frames) (sym (taken_both p.acts q.acts))
+        (came_both (taken p.acts) (taken q.acts) frames p.came q.came);
+    says = subst (λ l. Says drives me (a ++ b) l) (sym (sent_both p.acts q.acts))
+        (says_both drives me a b (sent p.acts) (sent q.acts) p.says q.says);
+  }
+
+  -- one call
+  pub ran_one : (x y : Node S) (frames : List Frame) (act : Act) (said : List (List ℕ)) → HostStep M C me x act y
+      → Came act.takes frames → Says drives me said act.sends → Ran M C drives me x frames said y
+  ran_one x y frames act said step came says = record {
+    acts = act ∷ [];
+    run = host.Goes step host.Rests;
+    came = subst (λ l. Came l frames) (sym (append-nil act.takes)) came;
+    says = subst (λ l. Says drives me said l) (sym (append-nil act.sends)) says;
+  }
+
+module _ {B S : Type 0} {H : Type 0} (state : B → S) (M : Machine S) (copied : B → Guest) where
+  -- nothing was called
+  pub nothing_yet : (old new : HostNode B H) (heard : List (List ℕ)) → new.node ≡ old.node → new.number ≡ old.number
+      → new.mail.came ≡ old.mail.came ++ heard → new.mail.gone ≡ old.mail.gone → Goes state M copied old new
+  nothing_yet old new heard node number came gone = record {
+    heard = heard;
+    said = [];
+    came = came;
+    gone = gone ∙ sym (append-nil old.mail.gone);
+    stays = λ joined. (subst (λ n. HasJoined n) (sym node) joined, number);
+    runs = λ C drives me copies is x hosted frames brought. record {
+      y = x;
+      ran = ran_none M C drives me x frames;
+      is = rw node (rw number hosted);
+    };
+  }
+
+  pub and_then : (a b c : HostNode B H) → Goes state M copied a b → Goes state M copied b c → Goes state M copied a c
+  and_then a b c p q = record {
+    heard = p.heard ++ q.heard;
+    said = p.said ++ q.said;
+    came = q.came ∙ ap (λ l. l ++ q.heard) p.came ∙ append_assoc a.mail.came p.heard q.heard;
+    gone = q.gone ∙ ap (λ l. l ++ q.said) p.gone ∙ append_assoc a.mail.gone p.said q.said;
+    stays = λ joined. (let s = p.stays joined in let t = q.stays s.0 in (t.0, t.1 ∙ s.1));
+    runs = λ C drives me copies is x hosted frames brought.
+        (let first = p.runs C drives me copies (λ joined. (let t = q.stays joined in sym t.1 ∙ is t.0)) x hosted frames
+            (λ body among. brought body (subst (λ l. Among body l) (sym q.came)
+            (among_before body b.mail.came q.heard among))) in
+        let then = q.runs C drives me copies is first.y first.is frames brought in
+        record {
+          y = then.y;
+          ran = ran_both M C drives me x first.y then.y frames p.said q.said first.ran then.ran;
+          is = then.is;
+        });
+  }

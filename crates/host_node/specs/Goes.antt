@@ -1,0 +1,54 @@
+-- What a host does: its node makes a run of the law's host, which takes frames that came to it, and sends what goes from it.
+use Rattle.std.specs.Prelude.{◌≡◌, ℕ, List, [], ◌∷◌, ◌++◌}
+use Rattle.clone_state.specs.Copies.{CopiesAs}
+use Rattle.guest_lockstep.specs.Machine.{Machine}
+use Rattle.guest_parts.specs.Guest.{Guest}
+use Rattle.host_frames.specs.Frames.{IsSpelling, Said}
+use Rattle.host_frames.specs.Meaning.{Brings, Speaks}
+use Rattle.host_law.specs.Frame.{Act, Came, Frame, sent, taken}
+use Rattle.host_law.specs.Host.{HostRun}
+use Rattle.host_node.specs.Hosts.{HasJoined, IsHosted, IsNumber}
+use Rattle.host_node.specs.declared.host.HostNode.{HostNode}
+use Rattle.pair_protocol.specs.Copying.{Copying}
+use Rattle.pair_protocol.specs.Lawful.{Among}
+use Rattle.pair_protocol.specs.Node.{Node}
+
+-- frames that went spell just what was sent, all of it and in order
+pub data Says (drives me : ℕ) : List (List ℕ) → List Frame → Type 0 where
+  Nothing : Says drives me [] []
+  Then : {rest : List (List ℕ)} {more : List Frame} (bytes : List ℕ) (said : Said) (frames : List Frame) →
+      IsSpelling said bytes → Speaks drives me said frames → Says drives me rest more →
+      Says drives me (bytes ∷ rest) (frames ++ more)
+
+-- a run of the law's host of this number, which takes only frames that were sent before, and with which these frames went
+pub record Ran {S : Type 0} (M : Machine S) (C : Copying S) (drives me : ℕ) (x : Node S) (frames : List Frame)
+    (said : List (List ℕ)) (y : Node S) : Type 0 where
+  pub acts : List Act
+  pub run : HostRun M C me x acts y
+  pub came : Came (taken acts) frames
+  pub says : Says drives me said (sent acts)
+
+-- what each of these bodies means is among the frames that were sent before
+abbrev pub AllBring : (drives me : ℕ) → List (List ℕ) → List Frame → Type 0
+AllBring drives me bodies frames = (body : List ℕ) → Among body bodies → Brings drives me body frames
+
+-- such a run, after which the host has the law's node
+pub record RunsTo {B S : Type 0} {H : Type 0} (state : B → S) (M : Machine S) (C : Copying S) (drives me : ℕ) (x : Node S)
+    (frames : List Frame) (said : List (List ℕ)) (new : HostNode B H) : Type 0 where
+  pub y : Node S
+  pub ran : Ran M C drives me x frames said y
+  pub is : IsHosted state M C drives me new y
+
+-- From one state of a host to a later one: bodies came and frames went, and whatever node of the law the host has, this
+-- node has made a run that leads to the one that it has then. It holds of whatever list of frames has what the bodies mean,
+-- and of the number that the host has then.
+pub record Goes {B S : Type 0} {H : Type 0} (state : B → S) (M : Machine S) (copied : B → Guest) (old new : HostNode B H)
+    : Type 0 where
+  pub heard : List (List ℕ)
+  pub said : List (List ℕ)
+  pub came : new.mail.came ≡ old.mail.came ++ heard
+  pub gone : new.mail.gone ≡ old.mail.gone ++ said
+  pub stays : HasJoined old.node → HasJoined new.node × (new.number ≡ old.number)
+  pub runs : (C : Copying S) (drives me : ℕ) → CopiesAs state copied drives C.parts C.part_count C.assemble →
+      IsNumber me new → (x : Node S) → IsHosted state M C drives me old x → (frames : List Frame) →
+      AllBring drives me new.mail.came frames → RunsTo state M C drives me x frames said new

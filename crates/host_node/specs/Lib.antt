@@ -1,0 +1,4 @@
+pub mod Mail
+pub mod MailRings
+pub mod Hosts
+pub mod Goes

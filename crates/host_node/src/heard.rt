@@ -1,0 +1,48 @@
+//! What a host has heard, for whoever decides what it does next.
+
+use ft_node::PartCame;
+
+/// What a frame was to a host.
+#[derive(Clone, Copy, PartialEq, Eq)]
+pub enum Heard {
+    /// The frame says nothing that is new to this host, or nothing that its node takes.
+    Nothing,
+    /// The bytes are no frame, or a packet of the peer is none of its log, or fits nothing.
+    Nonsense,
+    /// A packet of the peer came that says only that it is there.
+    Beat,
+    /// An entry of the log is held now, or was before.
+    Entry,
+    /// This many entries are acknowledged.
+    Acknowledged(u64),
+    /// A part of an image came.
+    Part(PartCame),
+    /// The peer has so many parts.
+    Parts(u64),
+    /// The log of the peer has so many entries, and its machine has made so many steps.
+    Progress { entries: u64, count: u64 },
+    /// A key waits.
+    Key,
+    /// So many bytes of a port were accepted, and the node took so many of these acceptances.
+    Accepted { port: u8, count: u64, taken: u64 },
+    /// A write is done.
+    Written(u64),
+    /// The device refused a write.
+    Failed(u64),
+    /// A sector came, and the node took it or not.
+    Sector { sector: u8, is_taken: bool },
+    /// The node has won its generation.
+    Won,
+    /// Another host has won it: the node has halted.
+    Lost,
+    /// The stream of the host at this place has ended.
+    Gone(u8),
+    /// The node began a generation.
+    Begun,
+    /// The host joins a generation.
+    Joined,
+    /// The outside is there.
+    Tick,
+    /// The process is to end.
+    Stop,
+}

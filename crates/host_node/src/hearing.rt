@@ -1,0 +1,139 @@
+//! What a host does with a frame that came: at most one call of its node, or one for each acceptance.
+ghost use Rattle.host_node.specs.Goes.{Goes};
+ghost use Rattle.host_node.specs.Mail.{IsFrom};
+ghost use Rattle.host_frames.specs.Frames.{Packet, Tells, Transfers, said_by};
+
+use crate::heard::Heard;
+use crate::host::{HostNode, Hosted};
+use crate::sending::PARTS;
+use clone_state::Copies;
+use host_frames::{Frame, Notice, frame_of};
+use i8080_words::{Fault, R};
+
+// The first bytes of packets of the log, of acknowledgements with and without a report, and of parts.
+const LOG: u8 = 0x4c;
+const ACKNOWLEDGED: u8 = 0x41;
+const REPORTED: u8 = 0x42;
+const PART: u8 = 0x50;
+
+impl<B: Copies<H> + Drop, H: Drop> HostNode<B, H> {
+    /// Takes the next frame that has come, if there is one, and says what it was. `OutOfMemory` if there was none for what
+    /// the frame asks.
+    pub fn hear(&mut self) -> R<Option<Heard>>
+        ensures { Goes B.state B.machine B.copied self.old self.new }
+    {
+        let Some(body) = self.mail.next() else {
+            return Ok(None);
+        };
+        match frame_of(&body) {
+            Ok(frame) => Ok(Some(self.take(&frame)?)),
+            Err(_) => Ok(Some(Heard::Nonsense)),
+        }
+    }
+
+    // Takes a frame.
+    fn take(&mut self, frame: &Frame<'_>) -> R<Heard>
+        requires { IsFrom self.old.mail.came (said_by frame.now) }
+        ensures { Goes B.state B.machine B.copied self.old self.new }
+    {
+        match frame {
+            Frame::Packet { host, bytes } => self.take_packet(*host, bytes),
+            Frame::Transfer(transfer) => self.take_transfer(transfer),
+            Frame::Notice(notice) => self.take_notice(notice),
+        }
+    }
+
+    // Takes a packet of the peer. A host that waits for the arbiter's answer takes none.
+    fn take_packet(&mut self, host: u8, bytes: &[u8]) -> R<Heard>
+        requires { IsFrom self.old.mail.came (Packet host bytes.now) }
+        ensures { Goes B.state B.machine B.copied self.old self.new }
+    {
+        if host != self.peer || self.is_waiting {
+            return Ok(Heard::Nothing);
+        }
+        match *bytes {
+            [] => Ok(Heard::Beat),
+            [PARTS, high, low] => Ok(Heard::Parts(u64::from(high) * 256 + u64::from(low))),
+            [LOG, ..] => self.take_entry(host, bytes),
+            [ACKNOWLEDGED, ..] | [REPORTED, ..] => self.take_acknowledgement(host, bytes),
+            [PART, ..] => self.take_part(host, bytes),
+            _ => Ok(Heard::Nonsense),
+        }
+    }
+
+    // Takes a packet of the log.
+    fn take_entry(&mut self, host: u8, bytes: &[u8]) -> R<Heard>
+        requires { IsFrom self.old.mail.came (Packet host bytes.now) }
+        ensures { Goes B.state B.machine B.copied self.old self.new }
+    {
+        let Hosted::Node(node) = &mut self.node else {
+            return Ok(Heard::Nothing);
+        };
+        match node.on_log(bytes) {
+            Ok(_) => Ok(Heard::Entry),
+            Err(Fault::OutOfMemory) => Err(Fault::OutOfMemory),
+            Err(Fault::Malformed) => Ok(Heard::Nonsense),
+            Err(_) => Ok(Heard::Nothing),
+        }
+    }
+
+    // Takes an acknowledgement.
+    fn take_acknowledgement(&mut self, host: u8, bytes: &[u8]) -> R<Heard>
+        requires { IsFrom self.old.mail.came (Packet host bytes.now) }
+        ensures { Goes B.state B.machine B.copied self.old self.new }
+    {
+        let Hosted::Node(node) = &mut self.node else {
+            return Ok(Heard::Nothing);
+        };
+        match node.on_ack(bytes) {
+            Ok(covered) => Ok(Heard::Acknowledged(covered)),
+            Err(Fault::Malformed) | Err(Fault::BadAck) => Ok(Heard::Nonsense),
+            Err(_) => Ok(Heard::Nothing),
+        }
+    }
+
+    // Takes a part of an image.
+    fn take_part(&mut self, host: u8, bytes: &[u8]) -> R<Heard>
+        requires { IsFrom self.old.mail.came (Packet host bytes.now) }
+        ensures { Goes B.state B.machine B.copied self.old self.new }
+    {
+        let Hosted::Node(node) = &mut self.node else {
+            return Ok(Heard::Nothing);
+        };
+        match node.part(self.alloc, bytes) {
+            Ok(came) => Ok(Heard::Part(came)),
+            Err(Fault::OutOfMemory) => Err(Fault::OutOfMemory),
+            Err(Fault::Malformed) => Ok(Heard::Nonsense),
+            Err(_) => Ok(Heard::Nothing),
+        }
+    }
+
+    // Takes what the arbiter or the switch says.
+    fn take_notice(&mut self, notice: &Notice) -> R<Heard>
+        requires { IsFrom self.old.mail.came (Tells notice.now) }
+        ensures { Goes B.state B.machine B.copied self.old self.new }
+    {
+        match *notice {
+            Notice::Won(generation) => self.win(generation),
+            Notice::Lost(generation) => self.lose(generation),
+            Notice::Begin { generation, host } => self.begin(generation, host),
+            Notice::Join {
+                generation,
+                host,
+                drives,
+                count,
+            } => self.join(generation, host, drives, count),
+            Notice::Gone(host) => Ok(Heard::Gone(host)),
+            Notice::Progress {
+                host,
+                entries,
+                count,
+            } if host == self.peer => Ok(Heard::Progress { entries, count }),
+            Notice::Tick => Ok(Heard::Tick),
+            Notice::Stop => Ok(Heard::Stop),
+            Notice::Progress { .. } | Notice::Suspect(_) | Notice::Report(_) => {
+                Ok(Heard::Nothing)
+            }
+        }
+    }
+}

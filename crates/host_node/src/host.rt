@@ -1,0 +1,126 @@
+//! The node of a host, or what the host has in its place, and its mail.
+ghost use Rattle.std.specs.Prelude.{◌≡◌, IfOk};
+ghost use Rattle.host_node.specs.Hosts as table;
+
+use crate::mail::Mail;
+use clone_state::Copies;
+use event_callbacks::PORTS;
+use ft_node::Node;
+use i8080_words::R;
+use pair_events::Role;
+use std::alloc::Global;
+
+/// What a host has: the closures of a node to come, a node, or nothing any longer, since its node has halted.
+#[derive(Drop)]
+pub enum Hosted<B: Copies<H> + Drop, H: Drop> {
+    Spare(H),
+    Node(Node<B, H>),
+    Over,
+}
+
+/// A host: the number of its node among the hosts of the pair, the place of the node's peer at the switch, the node, and the
+/// mail. A spare has no number yet: it joins the generation of its number.
+#[derive(Drop)]
+pub struct HostNode<B: Copies<H> + Drop, H: Drop> {
+    pub(crate) alloc: Global,
+    pub(crate) number: u32,
+    pub(crate) peer: u8,
+    pub(crate) is_waiting: bool,
+    pub(crate) node: Hosted<B, H>,
+    pub(crate) mail: Mail,
+}
+
+impl<B: Copies<H> + Drop, H: Drop> HostNode<B, H> {
+    /// The host of a node of generation 1: host 0 has the primary and host 1 the backup, each at the place of its number.
+    pub fn of(alloc: Global, number: u32, node: Node<B, H>, mail: Mail) -> HostNode<B, H>
+        ensures { (result.mail ≡ mail) × (result.number ≡ number) × (result.node ≡ table.hosted.Node node) }
+    {
+        let peer = if number == 0 { 1 } else { 0 };
+        HostNode {
+            alloc,
+            number,
+            peer,
+            is_waiting: false,
+            node: Hosted::Node(node),
+            mail,
+        }
+    }
+
+    /// A host without a node, with the closures of one.
+    pub fn spare(alloc: Global, callbacks: H, mail: Mail) -> HostNode<B, H>
+        ensures { (result.mail ≡ mail) × (result.node ≡ table.hosted.Spare callbacks) }
+    {
+        HostNode {
+            alloc,
+            number: 0,
+            peer: 0,
+            is_waiting: false,
+            node: Hosted::Spare(callbacks),
+            mail,
+        }
+    }
+
+    /// The role of its node; none if it has no node. A node that has halted is not kept.
+    pub fn role(&self) -> Option<Role> {
+        match &self.node {
+            Hosted::Spare(_) => None,
+            Hosted::Node(node) => Some(node.role()),
+            Hosted::Over => Some(Role::Halted),
+        }
+    }
+
+    /// The generation of its node; 0 if it has none.
+    pub fn generation(&self) -> u32 {
+        match &self.node {
+            Hosted::Node(node) => node.generation(),
+            Hosted::Spare(_) | Hosted::Over => 0,
+        }
+    }
+
+    /// How many steps the machine of its node has made; 0 if it has none.
+    pub fn count(&self) -> u64 {
+        match &self.node {
+            Hosted::Node(node) => node.count(),
+            Hosted::Spare(_) | Hosted::Over => 0,
+        }
+    }
+
+    /// The place of its node's peer at the switch.
+    pub fn peer(&self) -> u8 {
+        self.peer
+    }
+
+    /// Whether the arbiter was asked and has not answered.
+    pub fn is_waiting(&self) -> bool {
+        self.is_waiting
+    }
+
+    /// How many keys of each port its guest has taken.
+    pub fn keys(&self) -> [u64; PORTS] {
+        match self.guest() {
+            Some(guest) => [guest.keys(0), guest.keys(1)],
+            None => [0; PORTS],
+        }
+    }
+
+    /// The oldest byte of a port that no terminal has accepted.
+    pub fn due_byte(&self, port: u8) -> Option<u64> {
+        if usize::from(port) >= PORTS {
+            return None;
+        }
+        self.guest()?.due_byte(port)
+    }
+
+    /// The guest of its node, if it has one.
+    pub fn guest(&self) -> Option<&B> {
+        match &self.node {
+            Hosted::Node(node) => node.guest(),
+            Hosted::Spare(_) | Hosted::Over => None,
+        }
+    }
+
+    /// Its mail.
+    pub fn mail(&mut self) -> &mut Mail {
+        &mut self.mail
+    }
+}

@@ -1,0 +1,113 @@
+//! The arbiter's answers, and the generations that begin.
+ghost use Rattle.host_frames.specs.Frames.{Tells};
+ghost use Rattle.host_frames.specs.declared.frame.Notice.TheVariants as notice;
+ghost use Rattle.host_node.specs.Goes.{Goes};
+ghost use Rattle.host_node.specs.Mail.{IsFrom};
+
+use crate::heard::Heard;
+use crate::host::{HostNode, Hosted};
+use arbiter_core::Arbiter;
+use clone_state::{Assembly, Copies};
+use disk_dcdd::DRIVES;
+use ft_node::Node;
+use guest_lockstep::Reads;
+use host_frames::{Frame, Notice};
+use i8080_words::{Fault, R};
+use pair_events::Role;
+use std::mem;
+
+impl<B: Copies<H> + Drop, H: Drop> HostNode<B, H> {
+    // The node has won its generation, if that was asked. It asks an arbiter of its own, whom nobody else asks.
+    pub(crate) fn win(&mut self, generation: u32) -> R<Heard>
+        requires { IsFrom self.old.mail.came (Tells (notice.Won generation)) }
+        ensures { Goes B.state B.machine B.copied self.old self.new }
+    {
+        let Hosted::Node(node) = &mut self.node else {
+            return Ok(Heard::Nothing);
+        };
+        if !self.is_waiting || node.generation() != generation || !may_ask(node.role()) {
+            return Ok(Heard::Nothing);
+        }
+        let mut arbiter = Arbiter::new(self.alloc);
+        node.suspect(u64::from(self.number), &mut arbiter)?;
+        self.is_waiting = false;
+        self.mail.forget_keys();
+        Ok(Heard::Won)
+    }
+
+    // Another host has won the node's generation: the node halts, and is kept no longer.
+    pub(crate) fn lose(&mut self, generation: u32) -> R<Heard>
+        requires { IsFrom self.old.mail.came (Tells (notice.Lost generation)) }
+        ensures { Goes B.state B.machine B.copied self.old self.new }
+    {
+        let Hosted::Node(node) = &mut self.node else {
+            return Ok(Heard::Nothing);
+        };
+        if node.generation() != generation {
+            return Ok(Heard::Nothing);
+        }
+        node.stop()?;
+        self.node = Hosted::Over;
+        Ok(Heard::Lost)
+    }
+
+    // A node that is alone begins this generation with the host at that place.
+    pub(crate) fn begin(&mut self, generation: u32, host: u8) -> R<Heard>
+        requires { IsFrom self.old.mail.came (Tells (notice.Begin generation host)) }
+        ensures { Goes B.state B.machine B.copied self.old self.new }
+    {
+        let Hosted::Node(node) = &mut self.node else {
+            return Ok(Heard::Nothing);
+        };
+        let Ok(next) = node.next_generation() else {
+            return Ok(Heard::Nothing);
+        };
+        if next.generation != generation || next.reads != Reads::Shared {
+            return Ok(Heard::Nothing);
+        }
+        if !self.mail.has_room() {
+            return Ok(Heard::Nothing);
+        }
+        let count = node.count();
+        let join = Frame::Notice(Notice::Join {
+            generation,
+            host,
+            drives: next.drives,
+            count,
+        });
+        let bytes = host_frames::spelled(self.alloc, &join)?;
+        node.begin(self.alloc)?;
+        self.mail.say_bytes(bytes);
+        self.peer = host;
+        Ok(Heard::Begun)
+    }
+
+    // A spare joins the generation that is to be its number, with the host at that place as its primary.
+    pub(crate) fn join(&mut self, generation: u32, host: u8, drives: u8, count: u64) -> R<Heard>
+        requires { IsFrom self.old.mail.came (Tells (notice.Join generation host drives count)) }
+        ensures { Goes B.state B.machine B.copied self.old self.new }
+    {
+        if generation == 0 || drives == 0 || usize::from(drives) > DRIVES {
+            return Ok(Heard::Nonsense);
+        }
+        let Hosted::Spare(_) = &self.node else {
+            return Ok(Heard::Nothing);
+        };
+        let assembly = Assembly::new(self.alloc, generation, drives)?;
+        if let Hosted::Spare(callbacks) = mem::replace(&mut self.node, Hosted::Over) {
+            let node = Node::joining(assembly, callbacks, generation, count, Reads::Shared);
+            self.node = Hosted::Node(node);
+            self.number = generation;
+            self.peer = host;
+        }
+        Ok(Heard::Joined)
+    }
+}
+
+/// Whether a node in this role may ask the arbiter.
+pub(crate) fn may_ask(role: Role) -> bool {
+    match role {
+        Role::Primary | Role::Backup => true,
+        Role::Joining | Role::Draining | Role::Alone | Role::Halted => false,
+    }
+}

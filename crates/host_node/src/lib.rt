@@ -1,0 +1,16 @@
+//! The node of a host that is a process, and the frames that come to it and go from it.
+#![tactic(auto)]
+
+mod heard;
+mod hearing;
+mod host;
+mod inputs;
+mod joining;
+mod mail;
+mod moves;
+mod reporting;
+mod sending;
+
+pub use heard::Heard;
+pub use host::{HostNode, Hosted};
+pub use mail::{KEYS, KeptKey, Mail};

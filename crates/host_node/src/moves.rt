@@ -1,0 +1,77 @@
+//! The moves of a host's machine.
+ghost use Rattle.host_node.specs.Goes.{Goes};
+
+use crate::host::{HostNode, Hosted};
+use clone_state::Copies;
+use ft_node::{Drained, Ran};
+use i8080_words::{Fault, R};
+use replayer::Replayed;
+
+impl<B: Copies<H> + Drop, H: Drop> HostNode<B, H> {
+    /// Makes at most `turns` steps of a live node's machine, as the node's `step`. `WrongRole` if the host has no node.
+    pub fn step(&mut self, turns: u64) -> R<Ran>
+        ensures { Goes B.state B.machine B.copied self.old self.new }
+    {
+        let Hosted::Node(node) = &mut self.node else {
+            return Err(Fault::WrongRole);
+        };
+        node.step(turns)
+    }
+
+    /// Makes at most `turns` moves of a backup, as the node's `replay`.
+    pub fn replay(&mut self, turns: u64) -> R<Replayed>
+        ensures { Goes B.state B.machine B.copied self.old self.new }
+    {
+        let Hosted::Node(node) = &mut self.node else {
+            return Err(Fault::WrongRole);
+        };
+        node.replay(turns)
+    }
+
+    /// Makes at most `turns` moves of a node that won, as the node's `drain`.
+    pub fn drain(&mut self, turns: u64) -> R<Drained>
+        ensures { Goes B.state B.machine B.copied self.old self.new }
+    {
+        let Hosted::Node(node) = &mut self.node else {
+            return Err(Fault::WrongRole);
+        };
+        node.drain(turns)
+    }
+
+    /// Copies at most `pages` stale pages of a node that is alone. Returns how many are still stale.
+    pub fn freshen(&mut self, pages: u64) -> R<u64>
+        ensures { Goes B.state B.machine B.copied self.old self.new }
+    {
+        let Hosted::Node(node) = &mut self.node else {
+            return Err(Fault::WrongRole);
+        };
+        node.freshen(self.alloc, pages)
+    }
+
+    /// Takes the first key of a port that waits. Returns false if none waits, or if the node does not take it now; a key that
+    /// the guest has taken before is forgotten.
+    pub fn take_key(&mut self, port: u8) -> R<bool>
+        ensures { Goes B.state B.machine B.copied self.old self.new }
+    {
+        let Some(key) = self.mail.first_key(port) else {
+            return Ok(false);
+        };
+        let Hosted::Node(node) = &mut self.node else {
+            return Err(Fault::WrongRole);
+        };
+        if usize::from(key.port) >= event_callbacks::PORTS {
+            return Ok(false);
+        }
+        match node.key(key.port, key.index, key.byte) {
+            Ok(()) => {
+                self.mail.drop_key(port);
+                Ok(true)
+            }
+            Err(Fault::WrongNumber) => {
+                self.mail.drop_key(port);
+                Ok(false)
+            }
+            Err(_) => Ok(false),
+        }
+    }
+}

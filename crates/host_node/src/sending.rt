@@ -1,0 +1,192 @@
+//! What a host sends: each frame has what one call of its node gave.
+ghost use Rattle.host_node.specs.Goes.{Goes};
+
+use crate::host::{HostNode, Hosted};
+use crate::joining::may_ask;
+use clone_state::Copies;
+use disk_dcdd::{SECTORS, SectorAddress};
+use event_callbacks::{OpId, Operation, PORTS};
+use host_frames::{Frame, Notice, Transfer};
+use i8080_words::{Fault, R};
+
+/// The first byte of a packet that says how many parts of an image have come.
+pub(crate) const PARTS: u8 = 0x4a;
+
+impl<B: Copies<H> + Drop, H: Drop> HostNode<B, H> {
+    /// Sends the entry of a primary's log at an index. Returns false if there is no room, or the node gives none.
+    pub fn send_entry(&mut self, index: u64) -> R<bool>
+        ensures { Goes B.state B.machine B.copied self.old self.new }
+    {
+        let Hosted::Node(node) = &self.node else {
+            return Err(Fault::WrongRole);
+        };
+        if !self.mail.has_room() {
+            return Ok(false);
+        }
+        let bytes = match node.packet(self.alloc, index) {
+            Ok(bytes) => bytes,
+            Err(Fault::OutOfMemory) => return Err(Fault::OutOfMemory),
+            Err(_) => return Ok(false),
+        };
+        self.mail.say(&Frame::Packet {
+            host: self.peer,
+            bytes: &bytes,
+        })?;
+        Ok(true)
+    }
+
+    /// Sends a backup's acknowledgement of all that it holds. Returns false if there is no room, or the node gives none.
+    pub fn acknowledge(&mut self) -> R<bool>
+        ensures { Goes B.state B.machine B.copied self.old self.new }
+    {
+        let Hosted::Node(node) = &self.node else {
+            return Err(Fault::WrongRole);
+        };
+        if !self.mail.has_room() {
+            return Ok(false);
+        }
+        let bytes = match node.ack(self.alloc) {
+            Ok(bytes) => bytes,
+            Err(Fault::OutOfMemory) => return Err(Fault::OutOfMemory),
+            Err(_) => return Ok(false),
+        };
+        self.mail.say(&Frame::Packet {
+            host: self.peer,
+            bytes: &bytes,
+        })?;
+        Ok(true)
+    }
+
+    /// Sends a part of a primary's image. Returns false if there is no room, or the node gives none.
+    pub fn send_part(&mut self, index: u64) -> R<bool>
+        ensures { Goes B.state B.machine B.copied self.old self.new }
+    {
+        let Hosted::Node(node) = &self.node else {
+            return Err(Fault::WrongRole);
+        };
+        if !self.mail.has_room() {
+            return Ok(false);
+        }
+        let bytes = match node.send_part(self.alloc, index) {
+            Ok(bytes) => bytes,
+            Err(Fault::OutOfMemory) => return Err(Fault::OutOfMemory),
+            Err(_) => return Ok(false),
+        };
+        self.mail.say(&Frame::Packet {
+            host: self.peer,
+            bytes: &bytes,
+        })?;
+        Ok(true)
+    }
+
+    /// Releases an operation to its device. `NotDue` or `NotCovered` as the node's `release`; Ok(false) if there is no room.
+    pub fn release(&mut self, id: OpId) -> R<bool>
+        ensures { Goes B.state B.machine B.copied self.old self.new }
+    {
+        let Hosted::Node(node) = &self.node else {
+            return Err(Fault::WrongRole);
+        };
+        if !self.mail.has_room() {
+            return Ok(false);
+        }
+        let transfer = match node.release(id)? {
+            Operation::Byte { port, .. } if usize::from(port) >= PORTS => {
+                return Err(Fault::Unknown);
+            }
+            Operation::Byte { port, number, byte } => Transfer::Byte { port, number, byte },
+            Operation::Write(write) => Transfer::Write(write),
+        };
+        self.mail.say(&Frame::Transfer(transfer))?;
+        Ok(true)
+    }
+
+    /// The sector of this number on the track under the head of the selected drive, if its guest would take it now.
+    pub fn place(&self, sector: u8) -> R<SectorAddress> {
+        let Hosted::Node(node) = &self.node else {
+            return Err(Fault::WrongRole);
+        };
+        if sector >= SECTORS {
+            return Err(Fault::Unknown);
+        }
+        node.place(sector)
+    }
+
+    /// Asks the disk for the sector of this number under the head of a live node's machine. `NotDue` if no drive is selected;
+    /// Ok(false) if there is no room.
+    pub fn ask_under(&mut self, sector: u8) -> R<bool>
+        ensures { Goes B.state B.machine B.copied self.old self.new }
+    {
+        let address = self.place(sector)?;
+        if !self.mail.has_room() {
+            return Ok(false);
+        }
+        self.mail.say(&Frame::Transfer(Transfer::Get(address)))?;
+        Ok(true)
+    }
+
+    /// Asks the disk for the sector for whose bytes a replaying node waits. `NotDue` if it waits for none; Ok(false) if there
+    /// is no room.
+    pub fn ask_wanted(&mut self) -> R<bool>
+        ensures { Goes B.state B.machine B.copied self.old self.new }
+    {
+        let Hosted::Node(node) = &self.node else {
+            return Err(Fault::WrongRole);
+        };
+        let address = node.wanted()?;
+        if !self.mail.has_room() {
+            return Ok(false);
+        }
+        self.mail.say(&Frame::Transfer(Transfer::Get(address)))?;
+        Ok(true)
+    }
+
+    /// Asks the arbiter for the node's generation. Until the answer comes the host takes no packet. Returns false if there is no
+    /// room; `WrongRole` if the node is neither primary nor backup.
+    pub fn suspect(&mut self) -> R<bool>
+        ensures { Goes B.state B.machine B.copied self.old self.new }
+    {
+        let Hosted::Node(node) = &self.node else {
+            return Err(Fault::WrongRole);
+        };
+        if !may_ask(node.role()) {
+            return Err(Fault::WrongRole);
+        }
+        let generation = node.generation();
+        if !self.mail.has_room() {
+            return Ok(false);
+        }
+        self.mail
+            .say(&Frame::Notice(Notice::Suspect(generation)))?;
+        self.is_waiting = true;
+        Ok(true)
+    }
+
+    /// Says to the peer only that the host is there. Returns false if there is no room.
+    pub fn beat(&mut self) -> R<bool>
+        ensures { Goes B.state B.machine B.copied self.old self.new }
+    {
+        if !self.mail.has_room() {
+            return Ok(false);
+        }
+        self.mail.say(&Frame::Packet {
+            host: self.peer,
+            bytes: &[],
+        })?;
+        Ok(true)
+    }
+
+    /// Tells the peer how many parts of an image have come. Returns false if there is no room.
+    pub fn say_parts(&mut self, parts: u16) -> R<bool>
+        ensures { Goes B.state B.machine B.copied self.old self.new }
+    {
+        if !self.mail.has_room() {
+            return Ok(false);
+        }
+        let [high, low] = parts.to_be_bytes();
+        self.mail.say(&Frame::Packet {
+            host: self.peer,
+            bytes: &[PARTS, high, low],
+        })?;
+        Ok(true)
+    }
+}
