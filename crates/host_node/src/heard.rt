@@ -3,7 +3,7 @@
 use ft_node::PartCame;
 
 /// What a frame was to a host.
-#[derive(Clone, Copy, PartialEq, Eq)]
+#[derive(Clone, Copy)]
 pub enum Heard {
     /// The frame says nothing that is new to this host, or nothing that its node takes.
     Nothing,

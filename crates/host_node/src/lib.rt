@@ -1,6 +1,7 @@
 //! The node of a host that is a process, and the frames that come to it and go from it.
 #![tactic(auto)]
 
+mod acting;
 mod heard;
 mod hearing;
 mod host;
@@ -8,9 +9,13 @@ mod inputs;
 mod joining;
 mod mail;
 mod moves;
+mod pace;
 mod reporting;
 mod sending;
+mod serving;
 
 pub use heard::Heard;
 pub use host::{HostNode, Hosted};
 pub use mail::{KEYS, KeptKey, Mail};
+pub use pace::{End, Settings, TICK};
+pub use serving::serve;

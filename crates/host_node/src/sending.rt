@@ -4,7 +4,7 @@ ghost use Rattle.host_node.specs.Goes.{Goes};
 use crate::host::{HostNode, Hosted};
 use crate::joining::may_ask;
 use clone_state::Copies;
-use disk_dcdd::{SECTORS, SectorAddress};
+use disk_dcdd::{DRIVES, SECTOR_BYTES, SECTORS, SectorAddress};
 use event_callbacks::{OpId, Operation, PORTS};
 use host_frames::{Frame, Notice, Transfer};
 use i8080_words::{Fault, R};
@@ -109,6 +109,23 @@ impl<B: Copies<H> + Drop, H: Drop> HostNode<B, H> {
             return Err(Fault::Unknown);
         }
         node.place(sector)
+    }
+
+    /// Whether the guest of a live node looks for the sector of this number under its head: it would take some bytes of it.
+    /// `SectorBusy` if a write of it is outstanding; otherwise as the node's `check_under`.
+    pub fn looks_for(&self, sector: u8) -> R<bool> {
+        let address = self.place(sector)?;
+        let Hosted::Node(node) = &self.node else {
+            return Err(Fault::WrongRole);
+        };
+        if usize::from(address.drive) >= DRIVES || address.sector >= SECTORS {
+            return Err(Fault::Unknown);
+        }
+        match node.check_under(address, 0, [0; SECTOR_BYTES]) {
+            Ok(()) | Err(Fault::StaleRead) => Ok(true),
+            Err(Fault::SectorBusy) => Err(Fault::SectorBusy),
+            Err(_) => Ok(false),
+        }
     }
 
     /// Asks the disk for the sector of this number under the head of a live node's machine. `NotDue` if no drive is selected;

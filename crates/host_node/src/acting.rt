@@ -1,0 +1,307 @@
+//! What a host's node does in a turn, by its role.
+ghost use Rattle.host_node.specs.Goes.{Goes};
+
+use crate::pace::{AGAIN, End};
+use crate::serving::Serving;
+use clone_state::Copies;
+use disk_dcdd::SECTORS;
+use event_callbacks::OpId;
+use guest_lockstep::{ReplayEnd, StopReason};
+use i8080_words::{Fault, R};
+
+// How many steps a guest makes before it takes its next key, unless it idles.
+const BETWEEN_KEYS: u64 = 300;
+
+// How many entries are sent in one turn at most, and how many parts are under way.
+const ENTRIES: u64 = 256;
+const PARTS: u64 = 64;
+
+// How many bytes of a port, and how many writes, may be outstanding.
+const BYTES: u64 = 16;
+const WRITES: u64 = 16;
+
+// How often pages are copied early, in microseconds, and how many at once.
+const FRESHEN: u64 = 2_000;
+const PAGES: u64 = 8;
+
+impl<B: Copies<H> + Drop, H: Drop> Serving<B, H> {
+    // A primary runs its guest, and sends its log; before its backup is whole, the image.
+    pub(crate) fn serve_as_primary(&mut self) -> R<bool>
+        ensures { Goes B.state B.machine B.copied self.old.host self.new.host }
+    {
+        let is_busy = self.run()?;
+        let has_sent = if self.pace.is_copying {
+            self.send_parts()?
+        } else {
+            self.send_log()?
+        };
+        Ok(is_busy || has_sent)
+    }
+
+    // A node that is alone runs its guest, and copies pages early for the next backup.
+    pub(crate) fn run_alone(&mut self) -> R<bool>
+        ensures { Goes B.state B.machine B.copied self.old.host self.new.host }
+    {
+        if self.pace.is_past(self.pace.freshened_at, FRESHEN) {
+            self.pace.freshened_at = self.pace.now;
+            match self.host.freshen(PAGES) {
+                Ok(_) | Err(_) => {}
+            }
+        }
+        self.run()
+    }
+
+    // A live node takes keys, runs its guest, and releases what it may.
+    fn run(&mut self) -> R<bool>
+        ensures { Goes B.state B.machine B.copied self.old.host self.new.host }
+    {
+        let has_taken = self.take_keys()?;
+        let is_busy = self.step()?;
+        self.release()?;
+        self.read()?;
+        Ok(has_taken || is_busy)
+    }
+
+    // Takes a key of each port, if the guest may look for one.
+    fn take_keys(&mut self) -> R<bool>
+        ensures { Goes B.state B.machine B.copied self.old.host self.new.host }
+    {
+        let count = self.host.count();
+        if !self.pace.is_idle && count.saturating_sub(self.pace.key_at) < BETWEEN_KEYS {
+            return Ok(false);
+        }
+        let first = self.host.take_key(0)?;
+        let second = self.host.take_key(1)?;
+        if first || second {
+            self.pace.key_at = count;
+            self.pace.is_idle = false;
+        }
+        Ok(first || second)
+    }
+
+    // Makes steps.
+    fn step(&mut self) -> R<bool>
+        ensures { Goes B.state B.machine B.copied self.old.host self.new.host }
+    {
+        match self.host.step(self.settings.steps) {
+            Ok(ran) => {
+                self.pace.is_idle = matches!(ran.why, StopReason::Refused(Fault::Idle));
+                Ok(ran.steps > 0 && !self.pace.is_idle)
+            }
+            Err(Fault::Idle) => {
+                self.pace.is_idle = true;
+                Ok(false)
+            }
+            Err(Fault::OutOfMemory) => Err(Fault::OutOfMemory),
+            Err(_) => {
+                self.pace.is_idle = false;
+                Ok(false)
+            }
+        }
+    }
+
+    // Releases what is covered; after a while from the first that is outstanding again.
+    fn release(&mut self) -> R<()>
+        ensures { Goes B.state B.machine B.copied self.old.host self.new.host }
+    {
+        if self.pace.is_past(self.pace.released_at, AGAIN) {
+            self.pace.released_at = self.pace.now;
+            self.pace.next_byte = [0; 2];
+            self.pace.next_write = self.pace.next_write.saturating_sub(WRITES).max(1);
+        }
+        self.release_bytes(0)?;
+        self.release_bytes(1)?;
+        self.release_writes()
+    }
+
+    // Releases bytes of a port.
+    fn release_bytes(&mut self, port: u8) -> R<()>
+        ensures { Goes B.state B.machine B.copied self.old.host self.new.host }
+    {
+        let Some(due) = self.host.due_byte(port) else {
+            return Ok(());
+        };
+        for _ in 0..BYTES {
+            if !self.release_byte(port, due)? {
+                break;
+            }
+        }
+        Ok(())
+    }
+
+    // Releases the next byte of a port whose oldest outstanding one is this.
+    fn release_byte(&mut self, port: u8, due: u64) -> R<bool>
+        ensures { Goes B.state B.machine B.copied self.old.host self.new.host }
+    {
+        let Some(next) = self.pace.next_byte.get(usize::from(port)).copied() else {
+            return Ok(false);
+        };
+        let number = next.max(due);
+        match self.host.release(OpId::Byte(port, number)) {
+            Ok(true) => {
+                self.pace.set_next_byte(port, number.saturating_add(1));
+                Ok(true)
+            }
+            Err(Fault::OutOfMemory) => Err(Fault::OutOfMemory),
+            Ok(false) | Err(_) => Ok(false),
+        }
+    }
+
+    // Releases writes.
+    fn release_writes(&mut self) -> R<()>
+        ensures { Goes B.state B.machine B.copied self.old.host self.new.host }
+    {
+        let from = self.pace.next_write;
+        for ahead in 0..WRITES {
+            if !self.release_write(from.saturating_add(ahead))? {
+                break;
+            }
+        }
+        Ok(())
+    }
+
+    // Releases the write of this number, if it is outstanding. Returns false if no later one can be released.
+    fn release_write(&mut self, number: u64) -> R<bool>
+        ensures { Goes B.state B.machine B.copied self.old.host self.new.host }
+    {
+        match self.host.release(OpId::Write(number)) {
+            Ok(true) => {
+                self.pace.next_write = number.saturating_add(1);
+                Ok(true)
+            }
+            Err(Fault::OutOfMemory) => Err(Fault::OutOfMemory),
+            Err(Fault::NotDue) => Ok(true),
+            Ok(false) | Err(_) => Ok(false),
+        }
+    }
+
+    // Asks the disk for the next sector, if the guest looks for one.
+    fn read(&mut self) -> R<()>
+        ensures { Goes B.state B.machine B.copied self.old.host self.new.host }
+    {
+        if let Some(since) = self.pace.asked_disk_at {
+            if !self.pace.is_past(since, AGAIN) {
+                return Ok(());
+            }
+        }
+        let sector = self.pace.next_sector % SECTORS;
+        match self.host.looks_for(sector) {
+            Ok(true) => {
+                if self.host.ask_under(sector)? {
+                    self.pace.asked_disk_at = Some(self.pace.now);
+                }
+            }
+            Err(Fault::SectorBusy) => self.pace.next_sector = (sector + 1) % SECTORS,
+            Ok(false) | Err(_) => {}
+        }
+        Ok(())
+    }
+
+    // Sends entries that were not sent yet; from the first that is not acknowledged again, if none was for a while.
+    fn send_log(&mut self) -> R<bool>
+        ensures { Goes B.state B.machine B.copied self.old.host self.new.host }
+    {
+        if self.pace.next_entry == self.pace.acknowledged {
+            self.pace.acknowledged_at = self.pace.now;
+        }
+        if self.pace.is_past(self.pace.acknowledged_at, AGAIN) {
+            self.pace.next_entry = self.pace.acknowledged;
+            self.pace.acknowledged_at = self.pace.now;
+        }
+        let mut has_sent = false;
+        for _ in 0..ENTRIES {
+            if !self.host.send_entry(self.pace.next_entry)? {
+                break;
+            }
+            self.pace.next_entry = self.pace.next_entry.saturating_add(1);
+            has_sent = true;
+        }
+        Ok(has_sent)
+    }
+
+    // Sends parts of the image, at most so many past those that have come; from the first again, if none came for a while.
+    fn send_parts(&mut self) -> R<bool>
+        ensures { Goes B.state B.machine B.copied self.old.host self.new.host }
+    {
+        if self.pace.is_past(self.pace.parts_at, AGAIN * 5) {
+            self.pace.next_part = 0;
+            self.pace.parts_at = self.pace.now;
+        }
+        let mut has_sent = false;
+        for _ in 0..PARTS {
+            if self.pace.next_part >= self.pace.parts.saturating_add(PARTS) {
+                break;
+            }
+            if !self.host.send_part(self.pace.next_part)? {
+                break;
+            }
+            self.pace.next_part = self.pace.next_part.saturating_add(1);
+            has_sent = true;
+        }
+        Ok(has_sent)
+    }
+
+    // A backup acknowledges what it holds, and repeats it.
+    pub(crate) fn follow(&mut self) -> R<bool>
+        ensures { Goes B.state B.machine B.copied self.old.host self.new.host }
+    {
+        self.tell_parts()?;
+        if self.pace.owes_acknowledgement && self.host.acknowledge()? {
+            self.pace.owes_acknowledgement = false;
+        }
+        let replayed = self.host.replay(self.settings.steps)?;
+        self.fetch(replayed.why)?;
+        Ok(replayed.moves > 0)
+    }
+
+    // A node that won repeats what it holds.
+    pub(crate) fn drain(&mut self) -> R<bool>
+        ensures { Goes B.state B.machine B.copied self.old.host self.new.host }
+    {
+        let drained = self.host.drain(self.settings.steps)?;
+        self.fetch(drained.why)?;
+        Ok(drained.moves > 0 || matches!(drained.why, ReplayEnd::End))
+    }
+
+    // Asks the disk for the sector for which a replaying node waits, if it waits for one.
+    fn fetch(&mut self, why: ReplayEnd) -> R<()>
+        ensures { Goes B.state B.machine B.copied self.old.host self.new.host }
+    {
+        if !matches!(why, ReplayEnd::Wait) {
+            return Ok(());
+        }
+        if let Some(since) = self.pace.asked_disk_at {
+            if !self.pace.is_past(since, AGAIN) {
+                return Ok(());
+            }
+        }
+        match self.host.ask_wanted() {
+            Ok(true) => self.pace.asked_disk_at = Some(self.pace.now),
+            Err(Fault::OutOfMemory) => return Err(Fault::OutOfMemory),
+            Ok(false) | Err(_) => {}
+        }
+        Ok(())
+    }
+
+    // A joining node says how many parts have come. If its primary is gone, it can never be whole.
+    pub(crate) fn await_parts(&mut self) -> R<bool>
+        ensures { Goes B.state B.machine B.copied self.old.host self.new.host }
+    {
+        if self.pace.is_suspected(self.settings.patience) {
+            self.pace.end = Some(End::Orphaned);
+            return Ok(true);
+        }
+        self.tell_parts()
+    }
+
+    // Says how many parts have come, if that was not said.
+    fn tell_parts(&mut self) -> R<bool>
+        ensures { Goes B.state B.machine B.copied self.old.host self.new.host }
+    {
+        if self.pace.owes_parts && self.host.say_parts(self.pace.parts_here)? {
+            self.pace.owes_parts = false;
+            return Ok(true);
+        }
+        Ok(false)
+    }
+}

@@ -1,0 +1,224 @@
+//! What a host's loop knows of times and of what was sent, so that it knows what is due. None of it is in what is promised.
+
+use crate::heard::Heard;
+use event_callbacks::PORTS;
+use ft_node::PartCame;
+use host_frames::Report;
+
+/// How long a frame of the outside's clock is, in microseconds: it sends a tick so often.
+pub const TICK: u64 = 50_000;
+
+/// After how many microseconds what was sent is sent again.
+pub const AGAIN: u64 = 100_000;
+
+/// How a host's loop goes. Times are in microseconds.
+#[derive(Clone, Copy)]
+pub struct Settings {
+    /// How many moves a node makes in one turn at most.
+    pub steps: u64,
+    /// For how many ticks of the outside a peer may be silent.
+    pub patience: u32,
+    /// How often a host says that it is there.
+    pub beat: u64,
+}
+
+/// Why a host's loop ends.
+#[derive(Clone, Copy, Debug, PartialEq, Eq)]
+pub enum End {
+    /// The outside said so.
+    Stopped,
+    /// The stream from the outside has ended.
+    Closed,
+    /// Another host has won the generation.
+    Lost,
+    /// What the peer sent is not of this machine's run.
+    Diverged,
+    /// The host that was to send the machine is gone, or has begun anew without this one.
+    Orphaned,
+    OutOfMemory,
+    /// The clock cannot be read.
+    NoClock,
+}
+
+/// Times, and what is due.
+#[derive(Clone, Copy)]
+pub struct Pace {
+    pub now: u64,
+    pub end: Option<End>,
+    // How many ticks came since the peer was heard, and whether its stream has ended.
+    pub silent: u32,
+    pub is_gone: bool,
+    // When the arbiter was last asked.
+    pub asked_at: u64,
+    // The index of the next entry to be sent, how many are acknowledged, and since when.
+    pub next_entry: u64,
+    pub acknowledged: u64,
+    pub acknowledged_at: u64,
+    // Whether the image is sent; the next part, how many the joining host has, and since when.
+    pub is_copying: bool,
+    pub next_part: u64,
+    pub parts: u64,
+    pub parts_at: u64,
+    // How many parts have come, and whether the peer was not told so yet; whether an acknowledgement is due.
+    pub parts_here: u16,
+    pub owes_parts: bool,
+    pub owes_acknowledgement: bool,
+    // The count at which a key was last taken, and whether the guest waits for an input.
+    pub key_at: u64,
+    pub is_idle: bool,
+    // The next byte of each port and the next write to be released, and since when.
+    pub next_byte: [u64; PORTS],
+    pub next_write: u64,
+    pub released_at: u64,
+    // The next sector to be read, and since when it is asked for.
+    pub next_sector: u8,
+    pub asked_disk_at: Option<u64>,
+    // When pages were last copied early.
+    pub freshened_at: u64,
+    pub beat_at: u64,
+    pub told: Option<Report>,
+}
+
+impl Pace {
+    /// At the start.
+    pub fn new(now: u64) -> Pace {
+        Pace {
+            now,
+            end: None,
+            silent: 0,
+            is_gone: false,
+            asked_at: 0,
+            next_entry: 0,
+            acknowledged: 0,
+            acknowledged_at: now,
+            is_copying: false,
+            next_part: 0,
+            parts: 0,
+            parts_at: now,
+            parts_here: 0,
+            owes_parts: false,
+            owes_acknowledgement: false,
+            key_at: 0,
+            is_idle: false,
+            next_byte: [0; PORTS],
+            next_write: 1,
+            released_at: now,
+            next_sector: 0,
+            asked_disk_at: None,
+            freshened_at: 0,
+            beat_at: 0,
+            told: None,
+        }
+    }
+
+    /// Whether so much time has gone by since then.
+    pub fn is_past(&self, since: u64, time: u64) -> bool {
+        self.now.saturating_sub(since) >= time
+    }
+
+    /// Whether a peer that may be silent for so many ticks has been so for longer, or is gone.
+    pub fn is_suspected(&self, patience: u32) -> bool {
+        self.is_gone || self.silent > patience
+    }
+
+    /// The next byte of a port to be released.
+    pub fn set_next_byte(&mut self, port: u8, number: u64) {
+        if let Some(next) = self.next_byte.get_mut(usize::from(port)) {
+            *next = number;
+        }
+    }
+
+    /// Takes in what was heard of the host's peer, at this place of the switch.
+    pub fn note(&mut self, heard: Heard, peer: u8) {
+        match heard {
+            Heard::Beat => self.silent = 0,
+            Heard::Entry => {
+                self.silent = 0;
+                self.owes_acknowledgement = true;
+            }
+            Heard::Acknowledged(covered) => self.note_acknowledged(covered),
+            Heard::Part(came) => self.note_part(came),
+            Heard::Parts(parts) => self.note_parts(parts),
+            Heard::Failed(number) => self.next_write = self.next_write.min(number),
+            Heard::Sector { sector, is_taken } => self.note_sector(sector, is_taken),
+            Heard::Accepted { .. } | Heard::Written(_) | Heard::Key => self.is_idle = false,
+            Heard::Won => self.forget_peer(),
+            Heard::Lost => self.end = Some(End::Lost),
+            Heard::Gone(host) => self.is_gone = self.is_gone || host == peer,
+            Heard::Begun => self.begin(),
+            Heard::Joined => self.join(),
+            Heard::Tick => self.silent = self.silent.saturating_add(1),
+            Heard::Stop => self.end = Some(End::Stopped),
+            Heard::Nothing | Heard::Nonsense | Heard::Progress { .. } => {}
+        }
+    }
+
+    fn note_acknowledged(&mut self, covered: u64) {
+        self.silent = 0;
+        self.is_copying = false;
+        if covered > self.acknowledged {
+            self.acknowledged_at = self.now;
+        }
+        self.acknowledged = covered;
+        self.next_entry = self.next_entry.max(covered);
+    }
+
+    fn note_part(&mut self, came: PartCame) {
+        self.silent = 0;
+        self.owes_parts = true;
+        match came {
+            PartCame::Old => {}
+            PartCame::New => self.parts_here = self.parts_here.saturating_add(1),
+            PartCame::Whole => {
+                self.parts_here = self.parts_here.saturating_add(1);
+                self.owes_acknowledgement = true;
+            }
+        }
+    }
+
+    fn note_parts(&mut self, parts: u64) {
+        self.silent = 0;
+        if parts > self.parts {
+            self.parts = parts;
+            self.parts_at = self.now;
+        }
+    }
+
+    fn note_sector(&mut self, sector: u8, is_taken: bool) {
+        self.asked_disk_at = None;
+        if is_taken {
+            self.is_idle = false;
+            self.next_sector = sector.saturating_add(1);
+        }
+    }
+
+    // The node has won: it has no peer, and what is outstanding is released anew.
+    fn forget_peer(&mut self) {
+        self.silent = 0;
+        self.is_gone = false;
+        self.next_byte = [0; PORTS];
+        self.next_write = 1;
+        self.asked_disk_at = None;
+    }
+
+    // The node is the primary of a new generation, whose backup is given the image.
+    fn begin(&mut self) {
+        self.silent = 0;
+        self.is_gone = false;
+        self.next_entry = 0;
+        self.acknowledged = 0;
+        self.acknowledged_at = self.now;
+        self.is_copying = true;
+        self.next_part = 0;
+        self.parts = 0;
+        self.parts_at = self.now;
+    }
+
+    // The host is given an image.
+    fn join(&mut self) {
+        self.silent = 0;
+        self.is_gone = false;
+        self.parts_here = 0;
+        self.owes_parts = false;
+    }
+}
