@@ -36,7 +36,7 @@ made : {A S : Type 0} (o : Option Fault) (needs : Node S → Type 0) (does : A �
 made None needs does x v Is c = (refl, c)
 made (Some fault) needs does x v Is c = (let k = c.0 in absurd (cc))
 
-said : {A S : Type 0} (o : Option Fault) (needs : Node S → Type 0) (says : A → Node S → Type 0) (x : Node S) (v : A) →
+pub said : {A S : Type 0} (o : Option Fault) (needs : Node S → Type 0) (says : A → Node S → Type 0) (x : Node S) (v : A) →
     Ask o needs says x (Ok v) → (o ≡ None) × says v x
 said None needs says x v c = (refl, c)
 said (Some fault) needs says x v c = (let k = c.0 in absurd (cc))
@@ -62,7 +62,7 @@ reported Shared replayed = refl
 
 module _ {S : Type 0} (M : Machine S) (C : Copying S) (me : ℕ) (x : Node S) (other : x.role ≡ Spare → ⊥)
     (Is : Node S → Type 0) where
-  passes : (part : Node S → Option Fault) → part x ≡ None → Passes x part
+  pub passes : (part : Node S → Option Fault) → part x ≡ None → Passes x part
   passes part e = ap (λ b. cond b (Some Unknown) (part x)) (is-none x.role other) ∙ e
 
   -- the rows of steps and of moves

@@ -10,4 +10,3 @@ HasTakenKeys M x = (port : ℕ) → port < PORTS → M.keys x.machine port ≡ l
 
 pub data Follows {S : Type 0} (M : Machine S) (x : Node S) : Node S → Type 0 where
   Same : Follows M x x
-  IsStray : {y : Node S} → x.role ≡ Alone → (HasTakenKeys M x → ⊥) → Follows M x y

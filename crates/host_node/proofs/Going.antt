@@ -43,7 +43,7 @@ run_both M C me x y z a b host.Rests q = q
 run_both M C me x y z a b (host.Goes {mid = mid} {act = act} {acts = acts} step p) q =
     host.Goes step (run_both M C me mid y z acts b p q)
 
-among_before : {A : Type 0} (x : A) (xs ys : List A) → Among x xs → Among x (xs ++ ys)
+pub among_before : {A : Type 0} (x : A) (xs ys : List A) → Among x xs → Among x (xs ++ ys)
 among_before x [] ys p = absurd p
 among_before x (z ∷ zs) ys (inl e) = inl e
 among_before x (z ∷ zs) ys (inr p) = inr (among_before x zs ys p)
@@ -91,6 +91,19 @@ module _ {B S : Type 0} {H : Type 0} (state : B → S) (M : Machine S) (copied :
       is = rw node (rw number hosted);
     };
   }
+
+  -- nothing changed, or nothing that is promised
+  pub stays : (old new : HostNode B H) → new.node ≡ old.node → new.number ≡ old.number → new.mail ≡ old.mail
+      → Goes state M copied old new
+  stays old new node number mail =
+      nothing_yet old new [] node number
+      (ap (λ p. p.came) mail ∙ sym (append-nil old.mail.came)) (ap (λ p. p.gone) mail)
+
+  -- only the ring was looked at
+  pub looked : (old new : HostNode B H) → new.node ≡ old.node → new.number ≡ old.number
+      → new.mail.came ≡ old.mail.came → new.mail.gone ≡ old.mail.gone → Goes state M copied old new
+  looked old new node number came gone =
+      nothing_yet old new [] node number (came ∙ sym (append-nil old.mail.came)) gone
 
   pub and_then : (a b c : HostNode B H) → Goes state M copied a b → Goes state M copied b c → Goes state M copied a c
   and_then a b c p q = record {

@@ -1,1 +1,9 @@
+pub mod Roles
 pub mod Going
+pub mod Keeping
+pub mod Calling
+pub mod Stepping
+pub mod Taking
+pub mod Indexes
+pub mod Packets
+pub mod Sent

@@ -76,12 +76,16 @@ impl Mail {
     }
 
     /// The body of the next frame that has come.
+    #[tactic(auto, using(crate::proofs::Keeping::kept_one, crate::proofs::Keeping::kept_none, crate::proofs::Keeping::one_more))]
     pub fn next(&mut self) -> Option<Vec<u8>>
         ensures came { IfSome result (λ body. self.new.came ≡ self.old.came ++ body.items ∷ []) }
         ensures none { result ≡ None → self.new.came ≡ self.old.came }
         ensures gone { self.new.gone ≡ self.old.gone }
     {
-        self.bodies.pop().ok()
+        let Ok(body) = self.bodies.pop() else {
+            return None;
+        };
+        Some(body)
     }
 
     /// Whether no frame can come any more, once none is left.
@@ -129,12 +133,11 @@ impl Mail {
         ensures came { self.new.came ≡ self.old.came }
         ensures gone { self.new.gone ≡ self.old.gone }
     {
-        let keys = if key.port == 0 {
-            &mut self.first
+        if key.port == 0 {
+            let _ = self.first.try_push_back(key).is_ok();
         } else {
-            &mut self.second
-        };
-        let _ = keys.try_push_back(key).is_ok();
+            let _ = self.second.try_push_back(key).is_ok();
+        }
     }
 
     /// The first key of a port that waits.
@@ -153,12 +156,11 @@ impl Mail {
         ensures came { self.new.came ≡ self.old.came }
         ensures gone { self.new.gone ≡ self.old.gone }
     {
-        let keys = if port == 0 {
-            &mut self.first
+        if port == 0 {
+            let _ = self.first.pop_front().is_some();
         } else {
-            &mut self.second
-        };
-        let _ = keys.pop_front().is_some();
+            let _ = self.second.pop_front().is_some();
+        }
     }
 
     /// How many keys of a port wait.

@@ -9,6 +9,7 @@ use replayer::Replayed;
 
 impl<B: Copies<H> + Drop, H: Drop> HostNode<B, H> {
     /// Makes at most `turns` steps of a live node's machine, as the node's `step`. `WrongRole` if the host has no node.
+    #[tactic(auto, using(crate::proofs::Stepping::steps, crate::proofs::Going::stays))]
     pub fn step(&mut self, turns: u64) -> R<Ran>
         ensures { Goes B.state B.machine B.copied self.old self.new }
     {
@@ -19,6 +20,7 @@ impl<B: Copies<H> + Drop, H: Drop> HostNode<B, H> {
     }
 
     /// Makes at most `turns` moves of a backup, as the node's `replay`.
+    #[tactic(auto, using(crate::proofs::Stepping::replays, crate::proofs::Going::stays))]
     pub fn replay(&mut self, turns: u64) -> R<Replayed>
         ensures { Goes B.state B.machine B.copied self.old self.new }
     {
@@ -29,6 +31,7 @@ impl<B: Copies<H> + Drop, H: Drop> HostNode<B, H> {
     }
 
     /// Makes at most `turns` moves of a node that won, as the node's `drain`.
+    #[tactic(auto, using(crate::proofs::Stepping::drains, crate::proofs::Going::stays))]
     pub fn drain(&mut self, turns: u64) -> R<Drained>
         ensures { Goes B.state B.machine B.copied self.old self.new }
     {
@@ -39,6 +42,7 @@ impl<B: Copies<H> + Drop, H: Drop> HostNode<B, H> {
     }
 
     /// Copies at most `pages` stale pages of a node that is alone. Returns how many are still stale.
+    #[tactic(auto, using(crate::proofs::Stepping::freshens, crate::proofs::Going::stays))]
     pub fn freshen(&mut self, pages: u64) -> R<u64>
         ensures { Goes B.state B.machine B.copied self.old self.new }
     {

@@ -14,6 +14,7 @@ pub(crate) const PARTS: u8 = 0x4a;
 
 impl<B: Copies<H> + Drop, H: Drop> HostNode<B, H> {
     /// Sends the entry of a primary's log at an index. Returns false if there is no room, or the node gives none.
+    #[tactic(auto, using(crate::proofs::Sent::entry, crate::proofs::Going::stays, crate::proofs::Going::looked))]
     pub fn send_entry(&mut self, index: u64) -> R<bool>
         ensures { Goes B.state B.machine B.copied self.old self.new }
     {
@@ -36,6 +37,7 @@ impl<B: Copies<H> + Drop, H: Drop> HostNode<B, H> {
     }
 
     /// Sends a backup's acknowledgement of all that it holds. Returns false if there is no room, or the node gives none.
+    #[tactic(auto, using(crate::proofs::Sent::ack, crate::proofs::Going::stays, crate::proofs::Going::looked))]
     pub fn acknowledge(&mut self) -> R<bool>
         ensures { Goes B.state B.machine B.copied self.old self.new }
     {
@@ -58,6 +60,7 @@ impl<B: Copies<H> + Drop, H: Drop> HostNode<B, H> {
     }
 
     /// Sends a part of a primary's image. Returns false if there is no room, or the node gives none.
+    #[tactic(auto, using(crate::proofs::Sent::part, crate::proofs::Going::stays, crate::proofs::Going::looked))]
     pub fn send_part(&mut self, index: u64) -> R<bool>
         ensures { Goes B.state B.machine B.copied self.old self.new }
     {
@@ -65,6 +68,9 @@ impl<B: Copies<H> + Drop, H: Drop> HostNode<B, H> {
             return Err(Fault::WrongRole);
         };
         if !self.mail.has_room() {
+            return Ok(false);
+        }
+        if index > u64::from(u16::MAX) {
             return Ok(false);
         }
         let bytes = match node.send_part(self.alloc, index) {
@@ -79,24 +85,30 @@ impl<B: Copies<H> + Drop, H: Drop> HostNode<B, H> {
         Ok(true)
     }
 
-    /// Releases an operation to its device. `NotDue` or `NotCovered` as the node's `release`; Ok(false) if there is no room.
+    /// Releases an operation to its device. `Unknown` if no terminal has the port; otherwise `NotDue` or `NotCovered` as the
+    /// node's `release`; Ok(false) if there is no room.
+    #[tactic(auto, using(crate::proofs::Sent::byte, crate::proofs::Sent::write, crate::proofs::Going::stays, crate::proofs::Going::looked))]
     pub fn release(&mut self, id: OpId) -> R<bool>
         ensures { Goes B.state B.machine B.copied self.old self.new }
     {
         let Hosted::Node(node) = &self.node else {
             return Err(Fault::WrongRole);
         };
+        if let OpId::Byte(port, _) = id {
+            if usize::from(port) >= PORTS {
+                return Err(Fault::Unknown);
+            }
+        }
         if !self.mail.has_room() {
             return Ok(false);
         }
-        let transfer = match node.release(id)? {
-            Operation::Byte { port, .. } if usize::from(port) >= PORTS => {
-                return Err(Fault::Unknown);
+        match node.release(id)? {
+            Operation::Byte { port, number, byte } => {
+                let transfer = Transfer::Byte { port, number, byte };
+                self.mail.say(&Frame::Transfer(transfer))?;
             }
-            Operation::Byte { port, number, byte } => Transfer::Byte { port, number, byte },
-            Operation::Write(write) => Transfer::Write(write),
-        };
-        self.mail.say(&Frame::Transfer(transfer))?;
+            Operation::Write(write) => self.mail.say(&Frame::Transfer(Transfer::Write(write)))?,
+        }
         Ok(true)
     }
 
@@ -130,6 +142,7 @@ impl<B: Copies<H> + Drop, H: Drop> HostNode<B, H> {
 
     /// Asks the disk for the sector of this number under the head of a live node's machine. `NotDue` if no drive is selected;
     /// Ok(false) if there is no room.
+    #[tactic(auto, using(crate::proofs::Sent::place, crate::proofs::Going::stays, crate::proofs::Going::looked))]
     pub fn ask_under(&mut self, sector: u8) -> R<bool>
         ensures { Goes B.state B.machine B.copied self.old self.new }
     {
@@ -143,6 +156,7 @@ impl<B: Copies<H> + Drop, H: Drop> HostNode<B, H> {
 
     /// Asks the disk for the sector for whose bytes a replaying node waits. `NotDue` if it waits for none; Ok(false) if there
     /// is no room.
+    #[tactic(auto, using(crate::proofs::Sent::wanted, crate::proofs::Going::stays, crate::proofs::Going::looked))]
     pub fn ask_wanted(&mut self) -> R<bool>
         ensures { Goes B.state B.machine B.copied self.old self.new }
     {
@@ -179,6 +193,7 @@ impl<B: Copies<H> + Drop, H: Drop> HostNode<B, H> {
     }
 
     /// Says to the peer only that the host is there. Returns false if there is no room.
+    #[tactic(auto, using(crate::proofs::Calling::saying, crate::proofs::Going::stays, crate::proofs::Going::looked))]
     pub fn beat(&mut self) -> R<bool>
         ensures { Goes B.state B.machine B.copied self.old self.new }
     {
@@ -193,6 +208,7 @@ impl<B: Copies<H> + Drop, H: Drop> HostNode<B, H> {
     }
 
     /// Tells the peer how many parts of an image have come. Returns false if there is no room.
+    #[tactic(auto, using(crate::proofs::Calling::saying, crate::proofs::Going::stays, crate::proofs::Going::looked))]
     pub fn say_parts(&mut self, parts: u16) -> R<bool>
         ensures { Goes B.state B.machine B.copied self.old self.new }
     {
