@@ -11,6 +11,7 @@ use Rattle.host_law.specs.Host.{HostRun, HostStep}
 use Rattle.host_node.specs.Goes as goes
 use Rattle.host_node.specs.Goes.{AllBring, Goes, Ran, RunsTo, Says}
 use Rattle.host_node.specs.Hosts.{HasJoined, IsHosted, IsNumber}
+use Rattle.host_node.specs.Mail.{HasSaid}
 use Rattle.host_node.specs.declared.host.HostNode.{HostNode}
 use Rattle.pair_protocol.specs.Copying.{Copying}
 use Rattle.pair_protocol.specs.Lawful.{Among}
@@ -47,6 +48,12 @@ pub among_before : {A : Type 0} (x : A) (xs ys : List A) → Among x xs → Amon
 among_before x [] ys p = absurd p
 among_before x (z ∷ zs) ys (inl e) = inl e
 among_before x (z ∷ zs) ys (inr p) = inr (among_before x zs ys p)
+
+-- ---- what was sent
+
+-- a frame that went after the ring was looked at
+pub said_since : (said : Said) (a b d : List (List ℕ)) → b ≡ a → HasSaid said b d → HasSaid said a d
+said_since said a b d e p = subst (λ l. HasSaid said l d) e p
 
 -- ---- runs
 

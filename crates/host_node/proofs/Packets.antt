@@ -57,10 +57,10 @@ module _ {B S : Type 0} {H : Type 0} (state : B → S) (M : Machine S) (copied :
       absurd (not_ok _ next _ call)
   log_made C drives me place m y other bytes all (Some (Log generation index e)) next at call frames told =
       (let s = packet_takes bytes (Log generation index e) all at in
-      (law.Carries (message.LogEntry generation index e), (told (law.Carries (message.LogEntry generation index e))
+      (law.Carries (message.LogEntry generation index e), told (law.Carries (message.LogEntry generation index e))
       (subst (λ l. Means drives me (Packet place l) (law.Carries (message.LogEntry generation index e))) (sym s.1)
       (meaning.OfEntry place generation index e s.0)),
-      (are-steps M C me y other (IsNode state M C drives m)).on_log generation index e next call)))
+      (are-steps M C me y other (IsNode state M C drives m)).on_log generation index e next call))
 
   pub on_log : (old new : HostNode B H) (n m : code.Node B H) (place : ℕ) (bytes : List ℕ) (next : Bool)
       → old.node ≡ hosted.Node n → new.node ≡ hosted.Node m → new.number ≡ old.number → new.mail ≡ old.mail
@@ -83,10 +83,10 @@ module _ {B S : Type 0} {H : Type 0} (state : B → S) (M : Machine S) (copied :
   ack_made C drives me place m y other bytes all (Some (Ack generation held replayed)) covered at call frames told =
       (let s = packet_takes bytes (Ack generation held replayed) all at in
       (law.Carries (message.Acknowledgement generation held (unwrap_or replayed 0)),
-      (told (law.Carries (message.Acknowledgement generation held (unwrap_or replayed 0)))
+      told (law.Carries (message.Acknowledgement generation held (unwrap_or replayed 0)))
       (subst (λ l. Means drives me (Packet place l) (law.Carries (message.Acknowledgement generation held (unwrap_or replayed 0))))
       (sym s.1) (meaning.OfAcknowledgement place generation held replayed s.0)),
-      (are-steps M C me y other (IsNode state M C drives m)).on_ack generation held replayed covered call)))
+      (are-steps M C me y other (IsNode state M C drives m)).on_ack generation held replayed covered call))
 
   pub on_ack : (old new : HostNode B H) (n m : code.Node B H) (place : ℕ) (bytes : List ℕ) (covered : ℕ)
       → old.node ≡ hosted.Node n → new.node ≡ hosted.Node m → new.number ≡ old.number → new.mail ≡ old.mail
@@ -107,11 +107,11 @@ module _ {B S : Type 0} {H : Type 0} (state : B → S) (M : Machine S) (copied :
   part_made C drives me place m y other bytes all (Some p) came at call frames told =
       (let s = message_written drives bytes p all at in
       (law.Carries (message.ImagePart p.generation p.index p.payload),
-      (told (law.Carries (message.ImagePart p.generation p.index p.payload))
+      told (law.Carries (message.ImagePart p.generation p.index p.payload))
       (subst (λ l. Means drives me (Packet place l) (law.Carries (message.ImagePart p.generation p.index p.payload)))
       (sym s.1) (meaning.OfPart place p
       (record { some = s.0.some; generation = s.0.few; index = index_small drives bytes p all at }))),
-      (are-steps M C me y other (IsNode state M C drives m)).part p came call)))
+      (are-steps M C me y other (IsNode state M C drives m)).part p came call))
 
   pub on_part : (old new : HostNode B H) (n m : code.Node B H) (place : ℕ) (bytes : List ℕ) (came : PartCame)
       → old.node ≡ hosted.Node n → new.node ≡ hosted.Node m → new.number ≡ old.number → new.mail ≡ old.mail

@@ -52,9 +52,9 @@ module _ {S : Type 0} (M : Machine S) (C : Copying S) (drives me : ℕ) (y : Nod
   sends_entry place index bytes call =
       (let c = said (refusals.send_refusal index y) Ever (λ bytes x. calls.SendsEntry index x bytes) y bytes call in
       (law.Carries (message.LogEntry y.generation index c.1.e),
-      (subst (λ l. Means drives me (Packet place l) (law.Carries (message.LogEntry y.generation index c.1.e)))
+      subst (λ l. Means drives me (Packet place l) (law.Carries (message.LogEntry y.generation index c.1.e)))
       (sym c.1.spelled.1) (meaning.OfEntry place y.generation index c.1.e c.1.spelled.0),
-      host.SendsEntry index c.1.e (passes M C me y other (λ z. Unit {0}) (refusals.send_refusal index) c.0) c.1.entry)))
+      host.SendsEntry index c.1.e (passes M C me y other (λ z. Unit {0}) (refusals.send_refusal index) c.0) c.1.entry))
 
   told_so : (reads : Rattle.guest_lockstep.specs.declared.reads.Reads.Reads) (replayed : ℕ)
       → unwrap_or (reported_by reads replayed) 0 ≡ told_by reads replayed
@@ -67,44 +67,44 @@ module _ {S : Type 0} (M : Machine S) (C : Copying S) (drives me : ℕ) (y : Nod
           (λ bytes x. calls.IsSpelled (Ack x.generation (Rattle.std.specs.Prelude.length x.held) (reported_by x.reads x.replayed)) bytes)
           y bytes call in
       (law.Carries (message.Acknowledgement y.generation (Rattle.std.specs.Prelude.length y.held) (told_by y.reads y.replayed)),
-      (subst (λ k. Means drives me (Packet place bytes.items)
+      subst (λ k. Means drives me (Packet place bytes.items)
       (law.Carries (message.Acknowledgement y.generation (Rattle.std.specs.Prelude.length y.held) k))) (told_so y.reads y.replayed)
       (subst (λ l. Means drives me (Packet place l) (law.Carries
       (message.Acknowledgement y.generation (Rattle.std.specs.Prelude.length y.held) (unwrap_or (reported_by y.reads y.replayed) 0))))
       (sym c.1.1) (meaning.OfAcknowledgement place y.generation (Rattle.std.specs.Prelude.length y.held)
       (reported_by y.reads y.replayed) c.1.0)),
       host.Acknowledges (Rattle.std.specs.Prelude.length y.held) (told_by y.reads y.replayed)
-      (passes M C me y other (λ z. Unit {0}) refusals.acknowledge_refusal c.0) (refl, refl))))
+      (passes M C me y other (λ z. Unit {0}) refusals.acknowledge_refusal c.0) (refl, refl)))
 
   sends_part : (place index : ℕ) (bytes : Vec ℕ) → index < 2 ^ 16 → calls.SendsPart C index y (Ok bytes)
       → Sends (Packet place bytes.items)
   sends_part place index bytes few call =
       (let c = said (refusals.send_part_refusal C index y) Ever (λ bytes x. calls.SpellsPart C index x bytes) y bytes call in
       (law.Carries (message.ImagePart y.generation index c.1.part),
-      (subst (λ l. Means drives me (Packet place l) (law.Carries (message.ImagePart y.generation index c.1.part)))
+      subst (λ l. Means drives me (Packet place l) (law.Carries (message.ImagePart y.generation index c.1.part)))
       (sym c.1.spelled) (meaning.OfPart place (record { generation = y.generation; index = index; payload = c.1.part })
       (record { some = c.1.first; generation = c.1.within; index = few })),
-      host.SendsPart index c.1.part (passes M C me y other (λ z. Unit {0}) (refusals.send_part_refusal C index) c.0) c.1.has)))
+      host.SendsPart index c.1.part (passes M C me y other (λ z. Unit {0}) (refusals.send_part_refusal C index) c.0) c.1.has))
 
   sends_byte : (id : OpId) (port number byte : ℕ) → host.HasPort id → calls.Releases M id y (Ok (operation.Byte port number byte))
       → Sends (Transfers (Byte port number byte))
   sends_byte id port number byte has call =
-      (law.Carries (message.Released (operation.Byte port number byte)), (meaning.OfByte port number byte,
-      (are-steps M C me y other (λ z. Unit {0})).release id (operation.Byte port number byte) has call))
+      (law.Carries (message.Released (operation.Byte port number byte)), meaning.OfByte port number byte,
+      (are-steps M C me y other (λ z. Unit {0})).release id (operation.Byte port number byte) has call)
 
   sends_write : (id : OpId) (write : SectorWrite) → host.HasPort id → calls.Releases M id y (Ok (operation.Write write))
       → Sends (Transfers (Write write))
   sends_write id write has call =
-      (law.Carries (message.Released (operation.Write write)), (meaning.OfWrite write,
-      (are-steps M C me y other (λ z. Unit {0})).release id (operation.Write write) has call))
+      (law.Carries (message.Released (operation.Write write)), meaning.OfWrite write,
+      (are-steps M C me y other (λ z. Unit {0})).release id (operation.Write write) has call)
 
   sends_place : (sector : ℕ) (address : SectorAddress) → calls.Gets M sector y (Ok address) → Sends (Transfers (Get address))
   sends_place sector address call =
-      (law.AsksSector address, (meaning.OfGet address, (are-steps M C me y other (λ z. Unit {0})).place sector address call))
+      (law.AsksSector address, meaning.OfGet address, (are-steps M C me y other (λ z. Unit {0})).place sector address call)
 
   sends_wanted : (address : SectorAddress) → calls.Wanted M y (Ok address) → Sends (Transfers (Get address))
   sends_wanted address call =
-      (law.AsksSector address, (meaning.OfGet address, (are-steps M C me y other (λ z. Unit {0})).wanted address call))
+      (law.AsksSector address, meaning.OfGet address, (are-steps M C me y other (λ z. Unit {0})).wanted address call)
 
 module _ {B S : Type 0} {H : Type 0} (state : B → S) (M : Machine S) (copied : B → Guest) where
   pub entry : (old new : HostNode B H) (n : code.Node B H) (place index : ℕ) (bytes : Vec ℕ) → old.node ≡ hosted.Node n
@@ -134,21 +134,21 @@ module _ {B S : Type 0} {H : Type 0} (state : B → S) (M : Machine S) (copied :
       sending_it state M copied old new n (Packet place bytes.items) was same number came went refl
       (λ C drives me copies y other node. sends_part M C drives me y other place index bytes few (call C drives y node))
 
-  pub byte : (old new : HostNode B H) (n : code.Node B H) (id : OpId) (port number byte : ℕ) → host.HasPort id
+  pub byte_out : (old new : HostNode B H) (n : code.Node B H) (id : OpId) (port number byte : ℕ) → host.HasPort id
       → old.node ≡ hosted.Node n → new.node ≡ old.node → new.number ≡ old.number → new.mail.came ≡ old.mail.came
       → HasSaid (Transfers (Byte port number byte)) old.mail.gone new.mail.gone
       → ((C : Copying S) (drives : ℕ) (x : Node S) → IsNode state M C drives n x
       → calls.Releases M id x (Ok (operation.Byte port number byte))) → Goes state M copied old new
-  byte old new n id port number byte has was same numbered came went call =
+  byte_out old new n id port number byte has was same numbered came went call =
       sending_it state M copied old new n (Transfers (Byte port number byte)) was same numbered came went refl
       (λ C drives me copies y other node. sends_byte M C drives me y other id port number byte has (call C drives y node))
 
-  pub write : (old new : HostNode B H) (n : code.Node B H) (id : OpId) (w : SectorWrite) → host.HasPort id
+  pub write_out : (old new : HostNode B H) (n : code.Node B H) (id : OpId) (w : SectorWrite) → host.HasPort id
       → old.node ≡ hosted.Node n → new.node ≡ old.node → new.number ≡ old.number → new.mail.came ≡ old.mail.came
       → HasSaid (Transfers (Write w)) old.mail.gone new.mail.gone
       → ((C : Copying S) (drives : ℕ) (x : Node S) → IsNode state M C drives n x
       → calls.Releases M id x (Ok (operation.Write w))) → Goes state M copied old new
-  write old new n id w has was same numbered came went call =
+  write_out old new n id w has was same numbered came went call =
       sending_it state M copied old new n (Transfers (Write w)) was same numbered came went refl
       (λ C drives me copies y other node. sends_write M C drives me y other id w has (call C drives y node))
 

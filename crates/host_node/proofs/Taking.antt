@@ -41,9 +41,9 @@ module _ {B S : Type 0} {H : Type 0} (state : B → S) (M : Machine S) (copied :
       → Goes state M copied old new
   key old new n m port index byte was is number came gone from call =
       taking_it state M copied old new n m (Transfers (Key port index byte)) was is number came gone from
-      (λ C drives me copies y other node frames told. (law.Key port index byte, (told (law.Key port index byte)
+      (λ C drives me copies y other node frames told. (law.Key port index byte, told (law.Key port index byte)
       (meaning.OfKey port index byte),
-      (are-steps M C me y other (IsNode state M C drives m)).key port index byte (call C drives y node))))
+      (are-steps M C me y other (IsNode state M C drives m)).key port index byte (call C drives y node)))
 
   pub acceptance : (old new : HostNode B H) (n m : code.Node B H) (port number count : ℕ) → old.node ≡ hosted.Node n
       → new.node ≡ hosted.Node m → new.number ≡ old.number → new.mail.came ≡ old.mail.came → new.mail.gone ≡ old.mail.gone
@@ -53,9 +53,9 @@ module _ {B S : Type 0} {H : Type 0} (state : B → S) (M : Machine S) (copied :
       → Goes state M copied old new
   acceptance old new n m port number count was is numbered came gone from low few call =
       taking_it state M copied old new n m (Transfers (Accepted port count)) was is numbered came gone from
-      (λ C drives me copies y other node frames told. (law.AreAccepted port count, (told (law.AreAccepted port count)
+      (λ C drives me copies y other node frames told. (law.AreAccepted port count, told (law.AreAccepted port count)
       (meaning.OfAccepted port count),
-      (are-steps M C me y other (IsNode state M C drives m)).sent port number count low few (call C drives y node))))
+      (are-steps M C me y other (IsNode state M C drives m)).sent port number count low few (call C drives y node)))
 
   pub done : (old new : HostNode B H) (n m : code.Node B H) (write : ℕ) → old.node ≡ hosted.Node n
       → new.node ≡ hosted.Node m → new.number ≡ old.number → new.mail.came ≡ old.mail.came → new.mail.gone ≡ old.mail.gone
@@ -66,8 +66,8 @@ module _ {B S : Type 0} {H : Type 0} (state : B → S) (M : Machine S) (copied :
   done old new n m write was is numbered came gone from call =
       taking_it state M copied old new n m (Transfers (Written write)) was is numbered came gone from
       (λ C drives me copies y other node frames told. (law.Carries (message.WriteDone write),
-      (told (law.Carries (message.WriteDone write)) (meaning.OfWritten write),
-      (are-steps M C me y other (IsNode state M C drives m)).done write (call C drives y node))))
+      told (law.Carries (message.WriteDone write)) (meaning.OfWritten write),
+      (are-steps M C me y other (IsNode state M C drives m)).done write (call C drives y node)))
 
   -- a sector: an input, or what a replaying node waits for
   pub under : (old new : HostNode B H) (n m : code.Node B H) (read : SectorRead) → old.node ≡ hosted.Node n
@@ -81,9 +81,9 @@ module _ {B S : Type 0} {H : Type 0} (state : B → S) (M : Machine S) (copied :
       taking_it state M copied old new n m (Transfers (Sector read)) was is numbered came gone from
       (λ C drives me copies y other node frames told.
       (law.Carries (message.SectorRead (address_of_read read) read.number read.bytes),
-      (told (law.Carries (message.SectorRead (address_of_read read) read.number read.bytes)) (meaning.OfSector read),
+      told (law.Carries (message.SectorRead (address_of_read read) read.number read.bytes)) (meaning.OfSector read),
       (are-steps M C me y other (IsNode state M C drives m)).under (address_of_read read) read.number read.bytes
-      (call C drives y node))))
+      (call C drives y node)))
 
   pub fetched : (old new : HostNode B H) (n m : code.Node B H) (read : SectorRead) → old.node ≡ hosted.Node n
       → new.node ≡ hosted.Node m → new.number ≡ old.number → new.mail.came ≡ old.mail.came → new.mail.gone ≡ old.mail.gone
@@ -95,6 +95,6 @@ module _ {B S : Type 0} {H : Type 0} (state : B → S) (M : Machine S) (copied :
       taking_it state M copied old new n m (Transfers (Sector read)) was is numbered came gone from
       (λ C drives me copies y other node frames told.
       (law.Carries (message.SectorRead (address_of_read read) read.number read.bytes),
-      (told (law.Carries (message.SectorRead (address_of_read read) read.number read.bytes)) (meaning.OfSector read),
+      told (law.Carries (message.SectorRead (address_of_read read) read.number read.bytes)) (meaning.OfSector read),
       (are-steps M C me y other (IsNode state M C drives m)).fetched (address_of_read read) read.number read.bytes
-      (call C drives y node))))
+      (call C drives y node)))

@@ -2,3 +2,4 @@ pub mod Mail
 pub mod MailRings
 pub mod Hosts
 pub mod Goes
+pub mod Roles

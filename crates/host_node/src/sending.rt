@@ -1,4 +1,6 @@
 //! What a host sends: each frame has what one call of its node gave.
+ghost use Rattle.std.specs.Prelude.{IsTrue};
+ghost use Rattle.host_law.specs.Host.{HasPort};
 ghost use Rattle.host_node.specs.Goes.{Goes};
 
 use crate::host::{HostNode, Hosted};
@@ -87,17 +89,15 @@ impl<B: Copies<H> + Drop, H: Drop> HostNode<B, H> {
 
     /// Releases an operation to its device. `Unknown` if no terminal has the port; otherwise `NotDue` or `NotCovered` as the
     /// node's `release`; Ok(false) if there is no room.
-    #[tactic(auto, using(crate::proofs::Sent::byte, crate::proofs::Sent::write, crate::proofs::Going::stays, crate::proofs::Going::looked))]
+    #[tactic(auto, using(crate::proofs::Sent::byte_out, crate::proofs::Sent::write_out, crate::proofs::Going::stays, crate::proofs::Going::looked))]
     pub fn release(&mut self, id: OpId) -> R<bool>
         ensures { Goes B.state B.machine B.copied self.old self.new }
     {
         let Hosted::Node(node) = &self.node else {
             return Err(Fault::WrongRole);
         };
-        if let OpId::Byte(port, _) = id {
-            if usize::from(port) >= PORTS {
-                return Err(Fault::Unknown);
-            }
+        if !has_device(id) {
+            return Err(Fault::Unknown);
         }
         if !self.mail.has_room() {
             return Ok(false);
@@ -221,5 +221,15 @@ impl<B: Copies<H> + Drop, H: Drop> HostNode<B, H> {
             bytes: &[PARTS, high, low],
         })?;
         Ok(true)
+    }
+}
+
+// Whether there is a device for the operation: a byte has a terminal to go to.
+fn has_device(id: OpId) -> bool
+    ensures { IsTrue result → HasPort id }
+{
+    match id {
+        OpId::Byte(port, _) => usize::from(port) < PORTS,
+        OpId::Write(_) => true,
     }
 }

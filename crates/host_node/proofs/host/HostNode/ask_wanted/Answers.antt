@@ -1,0 +1,12 @@
+use Rattle.std.proofs.Common.{refl, subst, ◌∙◌}
+use Rattle.host_frames.specs.Frames.{Transfers}
+use Rattle.host_node.proofs.Going.{said_since}
+use Rattle.host_node.proofs.Sent.{wanted}
+use Rattle.host_node.specs.Mail.{HasSaid}
+use Rattle.host_node.proofs.host.HostNode.ask_wanted.Goals as goal
+
+pub returns : goal.returns
+returns g c =
+    wanted g.B.Lockstep.state g.B.Lockstep.machine g.B.Copies.copied _ _ _ c.in_ok-address.address c.in-Node.is refl refl
+    (c.in_ok-say.ensures.came ∙ c.has_room.ensures.came)
+    (said_since _ _ _ _ c.has_room.ensures.gone c.in_ok-say.ensures.gone) c.in_ok-address.ensures
