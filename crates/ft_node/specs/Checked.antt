@@ -4,7 +4,7 @@ use Rattle.std.specs.Prelude.{◌≡◌, ℕ, ◌<◌, drop, Result, Ok, Err}
 use Rattle.guest_lockstep.specs.Machine.{Machine}
 use Rattle.guest_lockstep.specs.Outstanding.{IsFrugal}
 use Rattle.i8080_words.specs.declared.refusal.Fault.{Fault}
-use Rattle.i8080_words.specs.declared.refusal.Fault.TheVariants.{LogFull, Malformed}
+use Rattle.i8080_words.specs.declared.refusal.Fault.TheVariants.{LogFull, Malformed, OutOfMemory}
 use Rattle.pair_protocol.specs.Node.{Node, Role, Primary, Backup, Draining}
 use Rattle.replayer.specs.Checking as checking
 use Rattle.replayer.specs.declared.replayer.Replayed as replayer
@@ -25,12 +25,18 @@ pub record Refuses {A S : Type 0} (M : Machine S) (role : Role) (turns : ℕ) (x
   pub diverges : Diverges M x
   pub stays : Is x
 
+-- a node that made fewer moves, or none, and does not diverge: it lacked an entry, bytes, or memory
+abbrev pub Fits : {A S : Type 0} → Machine S → ℕ → (A → ℕ) → Result A Fault → Node S → Type 0
+Fits M turns moves (Ok a) y = moves a < turns → Diverges M y → ⊥
+Fits M turns moves (Err OutOfMemory) y = Diverges M y → ⊥
+Fits M turns moves (Err _) y = Unit {0}
+
 -- moves of a node in this role by the entries that it holds: the row's, of this many turns; the row's, of as many as it
--- moved, and then it diverges; or none, since it diverges
+-- moved, at least one, and then it diverges; or none, since it diverges
 pub data MovesBy {A S : Type 0} (M : Machine S) (role : Role) (turns : ℕ) (x : Node S) (result : Result A Fault)
     (moves : A → ℕ) (Row : ℕ → (Node S → Type 0) → Type 0) (Is : Node S → Type 0) : Type 0 where
-  AllFit : Row turns Is → MovesBy M role turns x result moves Row Is
-  SomeFit : (a : A) → result ≡ Ok a → moves a < turns → Row (moves a) (λ y. Is y × Diverges M y)
+  AllFit : Row turns (λ y. Is y × Fits M turns moves result y) → MovesBy M role turns x result moves Row Is
+  SomeFit : (a : A) → result ≡ Ok a → 0 < moves a → moves a < turns → Row (moves a) (λ y. Is y × Diverges M y)
       → MovesBy M role turns x result moves Row Is
   NoneFits : Refuses M role turns x result Is → MovesBy M role turns x result moves Row Is
 

@@ -1,5 +1,5 @@
 -- A call that gives a value was not refused, so it is a step of the host.
-use Rattle.std.proofs.Common.{◌<◌, ◌∙◌, ◌≡◌, Bool, Err, List, None, Ok, Option, Result, Some, ap, cond, false, refl, subst, ℕ}
+use Rattle.std.proofs.Common.{◌<◌, ◌∙◌, ◌≡◌, List, None, Ok, Option, Some, ap, cond, false, refl, subst, ℕ}
 use Rattle.std.specs.Prelude.{length, unwrap_or}
 use Rattle.i8080_words.specs.declared.refusal.Fault.TheVariants.{Unknown}
 use Rattle.arbiter_core.specs.Winners.{winner_of}
@@ -89,8 +89,10 @@ module _ {S : Type 0} (M : Machine S) (C : Copying S) (me : ℕ) (x : Node S) (o
       }
 
   replays : (turns : ℕ) (r : Replayed) (Is : Node S → Type 0) → checked.Replays M turns x (Ok r) Is → Made M C me x quiet Is
-  replays turns r Is (checked.AllFit c) = replayed turns r Is c
-  replays turns r Is (checked.SomeFit q e lt c) =
+  replays turns r Is (checked.AllFit c) =
+      let m = replayed turns r (λ y. Is y × (r.moves < turns → checked.Diverges M y → ⊥)) c in
+      record { y = m.y; step = m.step; is = m.is.0 }
+  replays turns r Is (checked.SomeFit q e some lt c) =
       let m = replayed q.moves r (λ y. Is y × checked.Diverges M y) c in
       record { y = m.y; step = m.step; is = m.is.0 }
   replays turns r Is (checked.NoneFits n) = let e = n.refused in absurd (cc)
@@ -104,8 +106,10 @@ module _ {S : Type 0} (M : Machine S) (C : Copying S) (me : ℕ) (x : Node S) (o
       }
 
   drains : (turns : ℕ) (d : Drained) (Is : Node S → Type 0) → checked.Drains M turns x (Ok d) Is → Made M C me x quiet Is
-  drains turns d Is (checked.AllFit c) = drained turns d Is c
-  drains turns d Is (checked.SomeFit q e lt c) =
+  drains turns d Is (checked.AllFit c) =
+      let m = drained turns d (λ y. Is y × (d.moves < turns → checked.Diverges M y → ⊥)) c in
+      record { y = m.y; step = m.step; is = m.is.0 }
+  drains turns d Is (checked.SomeFit q e some lt c) =
       let m = drained q.moves d (λ y. Is y × checked.Diverges M y) c in
       record { y = m.y; step = m.step; is = m.is.0 }
   drains turns d Is (checked.NoneFits n) = let e = n.refused in absurd (cc)

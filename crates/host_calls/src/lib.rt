@@ -3,4 +3,4 @@
 
 mod laws;
 
-pub use laws::{calls_are_steps, hosts_begin};
+pub use laws::{alone_nodes_have_lists, calls_are_steps, hosts_begin, steps_are_followed};

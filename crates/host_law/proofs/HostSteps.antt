@@ -22,6 +22,7 @@ use Rattle.host_law.specs.Host.{Passes, recruit}
 use Rattle.host_law.specs.Shows.{IsNumbered, IsShown, IsShownAt}
 use Rattle.host_law.specs.Laws as law
 use Rattle.host_law.proofs.Following.{StillWait, follow, follows-changes, message-there, no-frame, node-there, numbered-set, one-frame, other, shown-set, told-same, wait-same, wait-set}
+use Rattle.host_law.proofs.Keeping.{has-taken-keys}
 use Rattle.host_law.proofs.Later.{changes-later}
 use Rattle.host_law.proofs.Passing.{accepted-there, at-most-highest, both-pass, name-there, passes-node, passes-too, past-end, port-there, typed-there}
 use Rattle.host_law.proofs.Winners.{IsPast, has_won, reached-past}
@@ -61,8 +62,7 @@ module _ {S : Type 0} (M : Machine S) (C : Copying S) (f : Fleet S) (w : World S
       (shown-set f.hosts w.nodes n y y (inl refl) h.nodes)
       (numbered-set M C f w h n x y (here part p) real on.1)
       (wait-set M C f w h n x y there real on.0) h.terminals h.winners h.puts (told-same M C f w h) refl
-      (length-set f.hosts n y)
-      (no-frame M C f w h (slice_set f.hosts n y) v f.outside)
+      (length-set f.hosts n y) (no-frame M C f w h (slice_set f.hosts n y) v f.outside)
 
   -- the host stays as it is
   stays : slice_set f.hosts n x ≡ f.hosts
@@ -364,8 +364,7 @@ module _ {S : Type 0} (M : Machine S) (C : Copying S) (f : Fleet S) (w : World S
   host-step laws copies act y (does.TakesKey port index byte z p d) came =
       let typed = h.frames (Key port index byte) came.0 in
       becomes (take_key_refusal M port index) p z (event.TakeKey n port index) reply.Taken
-      (Accepts
-      (both-pass _ _ (typed-there w port index byte typed) (free (take_key_refusal M port index) p))
+      (Accepts (both-pass _ _ (typed-there w port index byte typed) (free (take_key_refusal M port index) p))
       (record {
         byte = byte;
         typed = typed;
@@ -380,8 +379,7 @@ module _ {S : Type 0} (M : Machine S) (C : Copying S) (f : Fleet S) (w : World S
   host-step laws copies act y (does.TakesDone number z p d) came =
       let m = message-there M C f w h (WriteDone number) came.0 in
       becomes (put_reply_refusal M number) p z (event.PutReply m.0 n) reply.Taken
-      (Accepts
-      (ap (at_write_done M (slice_get w.nodes n)) m.1 ∙ free (put_reply_refusal M number) p)
+      (Accepts (ap (at_write_done M (slice_get w.nodes n)) m.1 ∙ free (put_reply_refusal M number) p)
       (record {
         number = number;
         message = m.1;
@@ -496,3 +494,5 @@ module _ {S : Type 0} (M : Machine S) (C : Copying S) (f : Fleet S) (w : World S
         at = record { x = x; there = here (part_comes_refusal generation) p; y = z; done = d; after = refl };
       }))
   host-step laws copies act y (does.Drops frame) came = none
+  host-step laws copies act y (does.Strays any alone stray) came =
+      absurd (stray (has-taken-keys M C laws copies f w h n x there alone))

@@ -1,11 +1,12 @@
 -- What the process of a host does: one call of its node after another, each with the frames that it took in and sent.
-use Rattle.std.specs.Prelude.{◌≡◌, ℕ, suc, ◌<◌, ◌≤◌, ◌⊎◌, Bool, Option, Some, None, List, [], ◌∷◌, replicate}
+use Rattle.std.specs.Prelude.{◌≡◌, ℕ, suc, ◌<◌, ◌≤◌, ◌⊎◌, Bool, Option, Some, None, List, [], ◌∷◌, length, replicate}
 use Rattle.disk_dcdd.specs.declared.address.SectorAddress.{SectorAddress}
 use Rattle.event_callbacks.specs.declared.devices.TheConstants.{PORTS}
 use Rattle.event_callbacks.specs.declared.operations.OpId.{OpId}
 use Rattle.event_callbacks.specs.declared.operations.OpId.TheVariants as id
 use Rattle.event_callbacks.specs.declared.operations.Operation.{Operation}
 use Rattle.guest_lockstep.specs.Machine.{Machine}
+use Rattle.guest_lockstep.specs.Reach.{keys}
 use Rattle.guest_lockstep.specs.declared.input.Input.TheVariants as input
 use Rattle.guest_lockstep.specs.declared.reads.Reads.{Reads}
 use Rattle.guest_lockstep.specs.declared.replay_end.ReplayEnd.{ReplayEnd}
@@ -16,7 +17,7 @@ use Rattle.log_entry.specs.declared.entry.Entry.{Entry}
 use Rattle.pair_protocol.specs.Copying.{Copying}
 use Rattle.pair_protocol.specs.Effects as effect
 use Rattle.pair_protocol.specs.Effects.{GotPart, HasCovered, HasEntry, HasHeld, HasOutstanding, HasPart, IsUnder, Wants}
-use Rattle.pair_protocol.specs.Node.{Node, Primary, Backup, Joining, Spare, begun, blank, wins}
+use Rattle.pair_protocol.specs.Node.{Node, Primary, Backup, Joining, Alone, Spare, begun, blank, wins}
 use Rattle.pair_protocol.specs.Refusals.{acknowledge_refusal, at_node, begin_pair_refusal, deliver_acknowledgement_refusal, deliver_log_refusal, drain_refusal, fetch_refusal, fetched_refusal, freshen_refusal, get_refusal, get_reply_refusal, part_comes_refusal, put_reply_refusal, release_refusal, replay_refusal, send_part_refusal, send_refusal, step_refusal, stop_refusal, suspect_refusal, take_key_refusal, tell_sent_refusal, told_refusal}
 use Rattle.pair_protocol.specs.Reply.{Reply}
 use Rattle.pair_protocol.specs.World.{LogEntry, Acknowledgement, ImagePart, Released, WriteDone, SectorRead}
@@ -38,6 +39,10 @@ recruit M C generation count reads list = record (blank Joining generation reads
   start = count;
   parts = replicate C.part_count None;
 }
+
+-- the machine has taken the keys of the node's list, at each port
+abbrev pub HasTakenKeys : {S : Type 0} → Machine S → Node S → Type 0
+HasTakenKeys M x = (port : ℕ) → port < PORTS → M.keys x.machine port ≡ length (keys port x.list)
 
 -- one call of its node, with the frames that go with it
 pub data HostStep {S : Type 0} (M : Machine S) (C : Copying S) (me : ℕ) (x : Node S) : Act → Node S → Type 0 where
@@ -108,6 +113,9 @@ pub data HostStep {S : Type 0} (M : Machine S) (C : Copying S) (me : ℕ) (x : N
       HostStep M C me x (taking (Carries (ImagePart generation index part))) y
   -- a frame that its node refuses, or for which there is no memory, is dropped
   Drops : (frame : Frame) → HostStep M C me x (taking frame) x
+  -- nothing is promised of a node that is alone with a machine which has not taken the keys of its list: its parts are
+  -- those of no copied machine. No fleet has one
+  Strays : (act : Act) → x.role ≡ Alone → (HasTakenKeys M x → ⊥) → HostStep M C me x act x
 
 -- one call after another
 pub data HostRun {S : Type 0} (M : Machine S) (C : Copying S) (me : ℕ) : Node S → List Act → Node S → Type 0 where

@@ -49,7 +49,7 @@ pub replayed : {S : Type 0} (M : Machine S) (s t : S) (held left : List Entry) (
     (turns : ℕ) (r : Result Replayed Fault) → AnswersUntrusted M s held fetched turns r t left still
     → (n : ℕ) × Replays M s held fetched n t left still
 replayed M s t held left fetched still turns (Ok r) (AllFit came fits) = (r.moves, came.replays)
-replayed M s t held left fetched still turns (Ok r) (SomeFit lt came stuck) = (r.moves, came.replays)
+replayed M s t held left fetched still turns (Ok r) (SomeFit some lt came stuck) = (r.moves, came.replays)
 replayed M s t held left fetched still turns (Err fault) a =
     (0, nothing_more M s s t held held left fetched fetched still 0 a.2 a.3 a.4 NoMoves)
 
@@ -202,7 +202,7 @@ stopped {S} M s v t held now left fetched come still turns most n fault lt some 
       ends = NeedsMemory some lt behind;
       why = memory M t left still turns n lt behind;
     }) (λ lt. fits)
-    go fault (NoneFits stuck) = SomeFit lt (so_far M s t held left fetched still n here stuck.ready) stuck
+    go fault (NoneFits stuck) = SomeFit some lt (so_far M s t held left fetched still n here stuck.ready) stuck
 
 -- ---- over the entries of a recorded run
 
@@ -210,7 +210,7 @@ pub exactly : {S : Type 0} (M : Machine S) (s t : S) (held left : List Entry) (f
     (turns : ℕ) (r : Result Replayed Fault) → Counts M → IsOnTrace M s held fetched
     → AnswersUntrusted M s held fetched turns r t left still → Answers M s held fetched turns r t left still
 exactly M s t held left fetched still turns (Ok r) counts on (AllFit came fits) = came
-exactly M s t held left fetched still turns (Ok r) counts on (SomeFit lt came stuck) =
+exactly M s t held left fetched still turns (Ok r) counts on (SomeFit some lt came stuck) =
     absurd (runs_do_not_diverge M t left still counts
     (still_on M s t held left fetched still r.moves counts on came.replays) stuck)
 exactly {S} M s t held left fetched still turns (Err fault) counts on a =

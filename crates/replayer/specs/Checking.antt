@@ -24,12 +24,13 @@ pub data Refuses {S : Type 0} (M : Machine S) (s : S) (held : List Entry) (fetch
   NoMemory : IsBehind M s held → (Diverges M s held fetched → ⊥) → Refuses M s held fetched OutOfMemory
   NoneFits : Diverges M s held fetched → Refuses M s held fetched Malformed
 
--- an answer is that of a replay of this many turns; or of as many as it made moves, since the entries fit no further
+-- an answer is that of a replay of this many turns; or of as many as it made moves, at least one, since the entries fit
+-- no further
 pub data CameOrDiverged {S : Type 0} (M : Machine S) (s : S) (held : List Entry) (fetched : Option (List ℕ)) (turns : ℕ)
     (r : Replayed) (t : S) (left : List Entry) (still : Option (List ℕ)) : Type 0 where
   AllFit : Came M s held fetched turns r t left still → (r.moves < turns → Diverges M t left still → ⊥)
       → CameOrDiverged M s held fetched turns r t left still
-  SomeFit : r.moves < turns → Came M s held fetched r.moves r t left still → Diverges M t left still
+  SomeFit : 0 < r.moves → r.moves < turns → Came M s held fetched r.moves r t left still → Diverges M t left still
       → CameOrDiverged M s held fetched turns r t left still
 
 -- what a replay over any entries returns and leaves; if it is refused, nothing changes

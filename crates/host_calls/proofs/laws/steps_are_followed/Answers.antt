@@ -1,0 +1,12 @@
+-- The law's node makes the same step, or strays with its frames.
+use Rattle.host_calls.proofs.Straying.{ran-to-more, ran-to-nothing, steps-follow}
+use Rattle.host_calls.proofs.laws.steps_are_followed.Goals as goal
+
+pub returns-clause-steps : goal.returns-clause-steps
+returns-clause-steps g c M C me x y z act follows step = steps-follow M C me x y z act follows step
+
+pub returns-clause-runs : goal.returns-clause-runs
+returns-clause-runs g c = λ M C me x. (
+  ran-to-nothing M C me x,
+  λ read written y z act r step. ran-to-more M C me x read written y z act r step,
+)
