@@ -17,8 +17,12 @@ use Rattle.host_frames.specs.Meaning as meaning
 use Rattle.host_frames.specs.declared.frame.Notice.TheVariants as notice
 use Rattle.host_law.specs.Frame as law
 use Rattle.host_law.specs.Host as host
-use Rattle.host_node.proofs.Calling.{sending_it, taking_it}
+use Rattle.host_calls.proofs.Straying.{steps-follow}
+use Rattle.host_node.proofs.Calling.{sending_it, taking_mine, told}
+use Rattle.host_node.proofs.Going.{ran_one}
+use Rattle.host_node.specs.Goes as goes
 use Rattle.host_node.specs.Goes.{Goes}
+use Rattle.host_node.specs.Hosts.{HasJoined, HasNode}
 use Rattle.host_node.specs.Mail.{HasSaid, IsFrom}
 use Rattle.host_node.specs.declared.host.HostNode.{HostNode}
 use Rattle.host_node.specs.declared.host.Hosted.TheVariants as hosted
@@ -61,4 +65,42 @@ module _ {B S : Type 0} {H : Type 0} (state : B → S) (M : Machine S) (copied :
       → ((C : Copying S) (drives : ℕ) (x : Node S) → IsNode state M C drives n x → x.generation ≡ generation)
       → ((C : Copying S) (drives : ℕ) (x : Node S) → IsNode state M C drives n x
       → calls.Suspects askings old.number x (Ok won) after (IsNode state M C drives m)) → Goes state M copied old new
-  wins old new n m r generation askings after won may was is number came gone from none role_is generation_is call = ?
+  wins old new n m r generation askings after won may was is number came gone from none role_is generation_is call =
+      taking_mine state M copied old new n m (Tells (notice.Won generation)) was is number came gone from
+      (λ C drives me copies mine y other node frames told.
+      (let e = generation_is C drives y node in
+      (law.HasWon generation me, told (law.HasWon generation me) (meaning.OfWon generation),
+      subst (λ k. Made M C me y (law.taking (law.HasWon k me)) (IsNode state M C drives m)) e
+      ((are-steps M C me y other (IsNode state M C drives m)).wins askings after won
+      (may_ask y r may (role_is C drives y node)).1 (ap (λ l. winner_of l y.generation) none)
+      (subst (λ k. calls.Suspects askings k y (Ok won) after (IsNode state M C drives m)) mine (call C drives y node))))))
+
+  -- it has lost: the node halts, and is kept no longer
+  pub loses : (old new : HostNode B H) (n m : code.Node B H) (generation : ℕ) → old.node ≡ hosted.Node n
+      → new.node ≡ hosted.Over → new.number ≡ old.number → new.mail ≡ old.mail
+      → IsFrom old.mail.came (Tells (notice.Lost generation))
+      → ((C : Copying S) (drives : ℕ) (x : Node S) → IsNode state M C drives n x → x.generation ≡ generation)
+      → ((C : Copying S) (drives : ℕ) (x : Node S) → IsNode state M C drives n x
+      → calls.Stops x (Ok tt) (IsNode state M C drives m)) → Goes state M copied old new
+  loses old new n m generation was is number mail from generation_is call = record {
+    heard = [];
+    said = [];
+    came = ap (λ p. p.came) mail ∙ sym (append-nil old.mail.came);
+    gone = ap (λ p. p.gone) mail ∙ sym (append-nil old.mail.gone);
+    stays = λ joined. (subst (λ h. HasJoined h) (sym is) tt, number);
+    runs = λ C drives me copies numbered x hosted frames brought.
+        (let h = subst (λ h. HasNode state M C drives old.number me h x) was hosted in
+        let y = h.1.y in
+        let e = generation_is C drives y h.1.is in
+        let t = told drives me new.mail.came frames (Tells (notice.Lost generation))
+            (subst (λ l. IsFrom l (Tells (notice.Lost generation))) (sym (ap (λ p. p.came) mail)) from) brought in
+        let made = subst (λ k. Made M C me y (law.taking (law.HasLost k me)) (IsNode state M C drives m)) e
+            ((are-steps M C me y h.1.other (IsNode state M C drives m)).loses (call C drives y h.1.is)) in
+        let l = steps-follow M C me x y made.y (law.taking (law.HasLost generation me)) h.1.follows made.step in
+        record {
+          y = l.next;
+          ran = ran_one M C drives me x l.next frames (law.taking (law.HasLost generation me)) [] l.step
+              (t (law.HasLost generation me) (meaning.OfLost generation), tt) goes.Nothing;
+          is = subst (λ h. HasNode state M C drives new.number me h l.next) (sym is) tt;
+        });
+  }

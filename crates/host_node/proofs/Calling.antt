@@ -5,8 +5,7 @@ use Rattle.ft_node.specs.AnyNode.{IsNode}
 use Rattle.ft_node.specs.declared.node.Node as code
 use Rattle.guest_lockstep.specs.Machine.{Machine}
 use Rattle.guest_parts.specs.Guest.{Guest}
-use Rattle.host_calls.specs.Follows as follows
-use Rattle.host_calls.specs.Follows.{Follows}
+use Rattle.host_calls.proofs.Straying.{steps-follow}
 use Rattle.host_calls.specs.Made.{Made}
 use Rattle.host_frames.specs.Frames.{IsSpelling, Said}
 use Rattle.host_frames.specs.Meaning.{IsTold, Means, Speaks, is_report}
@@ -26,16 +25,6 @@ use Rattle.pair_protocol.specs.Lawful.{Among}
 use Rattle.pair_protocol.specs.Node.{Node, Spare}
 use Rattle.std.specs.Prelude.{false}
 
--- a step of the node is one of the law's node
-pub record Led {S : Type 0} (M : Machine S) (C : Copying S) (me : ℕ) (x : Node S) (act : Act) (z : Node S) : Type 0 where
-  pub y : Node S
-  pub step : HostStep M C me x act y
-  pub follows : Follows M y z
-
-pub led : {S : Type 0} (M : Machine S) (C : Copying S) (me : ℕ) (x y z : Node S) (act : Act) → Follows M x y
-    → HostStep M C me y act z → Led M C me x act z
-led M C me x y z act follows.Same step = record { y = z; step = step; follows = follows.Same }
-
 -- what a body that came says was told
 pub told : (drives me : ℕ) (came : List (List ℕ)) (frames : List Frame) (said : Said) → IsFrom came said
     → AllBring drives me came frames → IsTold drives me said frames
@@ -53,9 +42,9 @@ module _ {B S : Type 0} {H : Type 0} (state : B → S) (M : Machine S) (copied :
   -- whatever the node is in the law
   abbrev pub IsCalled : HostNode B H → code.Node B H → code.Node B H → List (List ℕ) → Type 0
   IsCalled new n m said =
-      (C : Copying S) (drives me : ℕ) → CopiesAs state copied drives C.parts C.part_count C.assemble → (y : Node S)
-      → y.role ≢ Spare → IsNode state M C drives n y → (frames : List Frame) → AllBring drives me new.mail.came frames
-      → Called C drives me m y frames said
+      (C : Copying S) (drives me : ℕ) → CopiesAs state copied drives C.parts C.part_count C.assemble → new.number ≡ me
+      → (y : Node S) → y.role ≢ Spare → IsNode state M C drives n y → (frames : List Frame)
+      → AllBring drives me new.mail.came frames → Called C drives me m y frames said
 
   pub calls_once : (old new : HostNode B H) (n m : code.Node B H) (heard said : List (List ℕ)) → old.node ≡ hosted.Node n
       → new.node ≡ hosted.Node m → new.number ≡ old.number → new.mail.came ≡ old.mail.came ++ heard
@@ -68,12 +57,12 @@ module _ {B S : Type 0} {H : Type 0} (state : B → S) (M : Machine S) (copied :
     stays = λ joined. (subst (λ h. HasJoined h) (sym is) tt, number);
     runs = λ C drives me copies numbered x hosted frames brought.
         (let h = subst (λ h. HasNode state M C drives old.number me h x) was hosted in
-        let made = call C drives me copies h.1.y h.1.other h.1.is frames brought in
-        let l = led M C me x h.1.y made.made.y made.act h.1.follows made.made.step in
+        let made = call C drives me copies (number ∙ h.0) h.1.y h.1.other h.1.is frames brought in
+        let l = steps-follow M C me x h.1.y made.made.y made.act h.1.follows made.made.step in
         record {
-          y = l.y;
-          ran = ran_one M C drives me x l.y frames made.act said l.step made.came made.says;
-          is = subst (λ h. HasNode state M C drives new.number me h l.y) (sym is)
+          y = l.next;
+          ran = ran_one M C drives me x l.next frames made.act said l.step made.came made.says;
+          is = subst (λ h. HasNode state M C drives new.number me h l.next) (sym is)
               (number ∙ h.0, record {
                 y = made.made.y;
                 follows = l.follows;
@@ -91,7 +80,7 @@ module _ {B S : Type 0} {H : Type 0} (state : B → S) (M : Machine S) (copied :
       → Goes state M copied old new
   quietly old new n m was is number came gone call =
       calls_once old new n m [] [] was is number (came ∙ sym (append-nil old.mail.came)) (gone ∙ sym (append-nil old.mail.gone))
-      (λ C drives me copies y other node frames brought. record {
+      (λ C drives me copies mine y other node frames brought. record {
         act = quiet;
         made = call C drives me copies y other node;
         came = tt;
@@ -99,6 +88,21 @@ module _ {B S : Type 0} {H : Type 0} (state : B → S) (M : Machine S) (copied :
       })
 
   -- a call that takes a frame that came
+  pub taking_mine : (old new : HostNode B H) (n m : code.Node B H) (said : Said) → old.node ≡ hosted.Node n
+      → new.node ≡ hosted.Node m → new.number ≡ old.number → new.mail.came ≡ old.mail.came → new.mail.gone ≡ old.mail.gone
+      → IsFrom old.mail.came said
+      → ((C : Copying S) (drives me : ℕ) → CopiesAs state copied drives C.parts C.part_count C.assemble → old.number ≡ me
+      → (y : Node S) → y.role ≢ Spare → IsNode state M C drives n y → (frames : List Frame) → IsTold drives me said frames
+      → (frame : Frame) × Among frame frames × Made M C me y (taking frame) (IsNode state M C drives m))
+      → Goes state M copied old new
+  taking_mine old new n m said was is number came gone from call =
+      calls_once old new n m [] [] was is number (came ∙ sym (append-nil old.mail.came)) (gone ∙ sym (append-nil old.mail.gone))
+      (λ C drives me copies mine y other node frames brought.
+      (let t = told drives me new.mail.came frames said (subst (λ l. IsFrom l said) (sym came) from) brought in
+      let c = call C drives me copies (sym number ∙ mine) y other node frames t in
+      record { act = taking c.0; made = c.2; came = (c.1, tt); says = goes.Nothing }))
+
+  -- the same of a call that does not look at the host's number
   pub taking_it : (old new : HostNode B H) (n m : code.Node B H) (said : Said) → old.node ≡ hosted.Node n
       → new.node ≡ hosted.Node m → new.number ≡ old.number → new.mail.came ≡ old.mail.came → new.mail.gone ≡ old.mail.gone
       → IsFrom old.mail.came said
@@ -107,11 +111,8 @@ module _ {B S : Type 0} {H : Type 0} (state : B → S) (M : Machine S) (copied :
       → (frame : Frame) × Among frame frames × Made M C me y (taking frame) (IsNode state M C drives m))
       → Goes state M copied old new
   taking_it old new n m said was is number came gone from call =
-      calls_once old new n m [] [] was is number (came ∙ sym (append-nil old.mail.came)) (gone ∙ sym (append-nil old.mail.gone))
-      (λ C drives me copies y other node frames brought.
-      (let t = told drives me new.mail.came frames said (subst (λ l. IsFrom l said) (sym came) from) brought in
-      let c = call C drives me copies y other node frames t in
-      record { act = taking c.0; made = c.2; came = (c.1, tt); says = goes.Nothing }))
+      taking_mine old new n m said was is number came gone from
+      (λ C drives me copies mine y other node frames t. call C drives me copies y other node frames t)
 
   -- a call that leaves the node as it is, and whose answer is sent
   pub sending_it : (old new : HostNode B H) (n : code.Node B H) (said : Said) → old.node ≡ hosted.Node n
@@ -123,7 +124,7 @@ module _ {B S : Type 0} {H : Type 0} (state : B → S) (M : Machine S) (copied :
       → Goes state M copied old new
   sending_it old new n said was same number came went one call =
       calls_once old new n n [] (went.bytes ∷ []) was (same ∙ was) number (came ∙ sym (append-nil old.mail.came)) went.gone
-      (λ C drives me copies y other node frames brought.
+      (λ C drives me copies mine y other node frames brought.
       (let c = call C drives me copies y other node in
       record {
         act = sending c.0;

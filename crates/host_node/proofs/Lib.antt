@@ -7,3 +7,4 @@ pub mod Taking
 pub mod Indexes
 pub mod Packets
 pub mod Sent
+pub mod Asked

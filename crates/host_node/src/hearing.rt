@@ -62,6 +62,7 @@ impl<B: Copies<H> + Drop, H: Drop> HostNode<B, H> {
     }
 
     // Takes a packet of the log.
+    #[tactic(auto, using(crate::proofs::Packets::on_log, crate::proofs::Going::stays))]
     fn take_entry(&mut self, host: u8, bytes: &[u8]) -> R<Heard>
         requires { IsFrom self.old.mail.came (Packet host bytes.now) }
         ensures { Goes B.state B.machine B.copied self.old self.new }
@@ -78,6 +79,7 @@ impl<B: Copies<H> + Drop, H: Drop> HostNode<B, H> {
     }
 
     // Takes an acknowledgement.
+    #[tactic(auto, using(crate::proofs::Packets::on_ack, crate::proofs::Going::stays))]
     fn take_acknowledgement(&mut self, host: u8, bytes: &[u8]) -> R<Heard>
         requires { IsFrom self.old.mail.came (Packet host bytes.now) }
         ensures { Goes B.state B.machine B.copied self.old self.new }
@@ -93,6 +95,7 @@ impl<B: Copies<H> + Drop, H: Drop> HostNode<B, H> {
     }
 
     // Takes a part of an image.
+    #[tactic(auto, using(crate::proofs::Packets::on_part, crate::proofs::Going::stays))]
     fn take_part(&mut self, host: u8, bytes: &[u8]) -> R<Heard>
         requires { IsFrom self.old.mail.came (Packet host bytes.now) }
         ensures { Goes B.state B.machine B.copied self.old self.new }

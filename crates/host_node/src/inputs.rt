@@ -41,6 +41,7 @@ impl<B: Copies<H> + Drop, H: Drop> HostNode<B, H> {
     }
 
     // Keeps a key, if it is the next one.
+    #[tactic(auto, using(crate::proofs::Going::looked, crate::proofs::Going::stays))]
     fn keep(&mut self, key: KeptKey)
         requires { IsFrom self.old.mail.came (Transfers (transfer.Key key.port key.index key.byte)) }
         ensures { Goes B.state B.machine B.copied self.old self.new }
@@ -71,6 +72,7 @@ impl<B: Copies<H> + Drop, H: Drop> HostNode<B, H> {
     }
 
     // Takes the acceptance of the oldest byte of a port, if it is within this count.
+    #[tactic(auto, using(crate::proofs::Taking::acceptance, crate::proofs::Going::stays))]
     fn take_acceptance(&mut self, port: u8, count: u64) -> bool
         requires { IsFrom self.old.mail.came (Transfers (transfer.Accepted port count)) }
         ensures { Goes B.state B.machine B.copied self.old self.new }
@@ -88,6 +90,7 @@ impl<B: Copies<H> + Drop, H: Drop> HostNode<B, H> {
     }
 
     // Takes the completion of a write.
+    #[tactic(auto, using(crate::proofs::Taking::done, crate::proofs::Going::stays))]
     fn take_written(&mut self, number: u64) -> R<Heard>
         requires { IsFrom self.old.mail.came (Transfers (transfer.Written number)) }
         ensures { Goes B.state B.machine B.copied self.old self.new }
@@ -102,6 +105,7 @@ impl<B: Copies<H> + Drop, H: Drop> HostNode<B, H> {
     }
 
     // Takes a sector of the disk: as a live node's input, or as what a replaying node waits for.
+    #[tactic(auto, using(crate::proofs::Taking::under, crate::proofs::Taking::fetched, crate::proofs::Going::stays))]
     fn take_sector(&mut self, read: &SectorRead) -> R<Heard>
         requires { IsFrom self.old.mail.came (Transfers (transfer.Sector read.now)) }
         ensures { Goes B.state B.machine B.copied self.old self.new }

@@ -1,8 +1,10 @@
 //! The arbiter's answers, and the generations that begin.
+ghost use Rattle.std.specs.Prelude.{IsTrue};
 ghost use Rattle.host_frames.specs.Frames.{Tells};
 ghost use Rattle.host_frames.specs.declared.frame.Notice.TheVariants as notice;
 ghost use Rattle.host_node.specs.Goes.{Goes};
 ghost use Rattle.host_node.specs.Mail.{IsFrom};
+ghost use Rattle.host_node.specs.Roles.{MayAsk};
 
 use crate::heard::Heard;
 use crate::host::{HostNode, Hosted};
@@ -18,6 +20,7 @@ use std::mem;
 
 impl<B: Copies<H> + Drop, H: Drop> HostNode<B, H> {
     // The node has won its generation, if that was asked. It asks an arbiter of its own, whom nobody else asks.
+    #[tactic(auto, using(crate::proofs::Asked::wins, crate::proofs::Going::stays, crate::proofs::Going::looked))]
     pub(crate) fn win(&mut self, generation: u32) -> R<Heard>
         requires { IsFrom self.old.mail.came (Tells (notice.Won generation)) }
         ensures { Goes B.state B.machine B.copied self.old self.new }
@@ -36,6 +39,7 @@ impl<B: Copies<H> + Drop, H: Drop> HostNode<B, H> {
     }
 
     // Another host has won the node's generation: the node halts, and is kept no longer.
+    #[tactic(auto, using(crate::proofs::Asked::loses, crate::proofs::Going::stays))]
     pub(crate) fn lose(&mut self, generation: u32) -> R<Heard>
         requires { IsFrom self.old.mail.came (Tells (notice.Lost generation)) }
         ensures { Goes B.state B.machine B.copied self.old self.new }
@@ -105,7 +109,9 @@ impl<B: Copies<H> + Drop, H: Drop> HostNode<B, H> {
 }
 
 /// Whether a node in this role may ask the arbiter.
-pub(crate) fn may_ask(role: Role) -> bool {
+pub(crate) fn may_ask(role: Role) -> bool
+    ensures { IsTrue result → MayAsk role }
+{
     match role {
         Role::Primary | Role::Backup => true,
         Role::Joining | Role::Draining | Role::Alone | Role::Halted => false,

@@ -54,6 +54,7 @@ impl<B: Copies<H> + Drop, H: Drop> HostNode<B, H> {
 
     /// Takes the first key of a port that waits. Returns false if none waits, or if the node does not take it now; a key that
     /// the guest has taken before is forgotten.
+    #[tactic(auto, using(crate::proofs::Taking::key, crate::proofs::Going::stays, crate::proofs::Going::looked))]
     pub fn take_key(&mut self, port: u8) -> R<bool>
         ensures { Goes B.state B.machine B.copied self.old self.new }
     {

@@ -173,6 +173,7 @@ impl<B: Copies<H> + Drop, H: Drop> HostNode<B, H> {
 
     /// Asks the arbiter for the node's generation. Until the answer comes the host takes no packet. Returns false if there is no
     /// room; `WrongRole` if the node is neither primary nor backup.
+    #[tactic(auto, using(crate::proofs::Asked::asks, crate::proofs::Going::stays, crate::proofs::Going::looked))]
     pub fn suspect(&mut self) -> R<bool>
         ensures { Goes B.state B.machine B.copied self.old self.new }
     {
