@@ -1,6 +1,6 @@
 -- How an alone node makes steps. A refusal of the first step refuses the call, and a refusal of a later one is only why
 -- the node stopped.
-use Rattle.std.proofs.Common.{◌≡◌, ℕ, zero, suc, ◌<◌, ◌⊎◌, inl, inr, Option, Some, None, is_none, [], Ok, Err, refl, sym, ap, subst, ◌∙◌, arith}
+use Rattle.std.proofs.Common.{◌≡◌, ℕ, zero, suc, ◌<◌, ◌⊎◌, inl, inr, Option, Some, None, is_none, Ok, Err, refl, sym, ap, subst, ◌∙◌, arith}
 use Rattle.ft_node.proofs.Words.{Fault, IsAlone, Machine, Node, OpId, Operation, Reads, RunsOn, Stopped, fault_of, stepped}
 use Rattle.guest_lockstep.proofs.QuietSteps.{start_allowed, first_allowed, none_made}
 use Rattle.guest_lockstep.specs.Lockstep as lockstep

@@ -19,7 +19,7 @@ module _ {S : Type 0} (M : Machine S) (reads : Reads) (s : S) (generation : ℕ)
   taken_are : HasTakenKeys M x → (port : ℕ) → port < PORTS
       → slice_index (taken_keys M s) port ≡ length (keys port (x.list ++ []))
   taken_are has port within =
-      each port within ∙ ap (λ s. M.keys s port) (sym a.machine) ∙ has port
+      each port within ∙ ap (λ s. M.keys s port) (sym a.machine) ∙ has port within
       ∙ ap (λ (list : List Timed). length (keys port list)) (sym (append-nil x.list))
     where
       each : (port : ℕ) → port < PORTS → slice_index (taken_keys M s) port ≡ M.keys s port

@@ -1,8 +1,8 @@
 -- How a follower moves. A replayer makes its moves one after another over the entries that are held, while the protocol
 -- counts from the first entry and knows only how many were replayed; those held are the ones after them. So the moves
 -- of a replayer come before whatever ends them.
-use Rattle.std.proofs.Common.{◌≡◌, ℕ, zero, suc, ◌+◌, ◌-◌, ◌≤◌, inl, inr, Bool, true, false, eqb, cond, Option, Some, None, List, [], ◌∷◌, length, drop, Result, Ok, Err, refl, sym, ap, subst, ◌∙◌, arith, length-drop}
-use Rattle.std.specs.Prelude.{is_none, slice_get, ◌==◌, if◌then◌else◌}
+use Rattle.std.proofs.Common.{◌≡◌, ℕ, zero, suc, ◌+◌, ◌-◌, ◌≤◌, inl, inr, Bool, true, false, cond, Option, Some, None, List, [], ◌∷◌, length, drop, Result, Ok, Err, refl, sym, ap, subst, ◌∙◌, arith, length-drop}
+use Rattle.std.specs.Prelude.{is_none, slice_get, ◌==◌}
 use Rattle.std.proofs.lemmas.Bool.{eq-eqb, eqb-true}
 use Rattle.ft_node.proofs.Words.{AtEnd, AwaitsBytes, Backup, Entry, Fault, IsBehind, IsFollower, Machine, MovesSome, NeedsMoves, NoMemory, NoTurns, Node, OneInput, OneMark, OneRead, OneStep, Reads, Receiving, Replays, Role, is_role}
 use Rattle.guest_lockstep.specs.declared.replay_end.ReplayEnd.{ReplayEnd}

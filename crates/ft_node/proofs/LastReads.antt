@@ -1,5 +1,5 @@
 -- Where the last read of a log is, as entries are added.
-use Rattle.std.proofs.Common.{◌≡◌, ℕ, zero, suc, ◌+◌, Bool, true, false, cond, List, [], ◌∷◌, ◌++◌, length, refl, sym, ap, ◌∙◌, arith}
+use Rattle.std.proofs.Common.{◌≡◌, ℕ, suc, ◌+◌, Bool, true, false, cond, List, [], ◌∷◌, ◌++◌, length, refl, sym, ap, ◌∙◌, arith}
 use Rattle.ft_node.proofs.Words.{Covering, Entry, is_read, reads_in, up_to_read, with_entry}
 
 up_to_later : (read : Bool) (n : ℕ) → up_to_read read (suc n) ≡ suc (suc n)

@@ -5,7 +5,7 @@ use Rattle.std.specs.Prelude.{slice_get, slice_index_or, slice_set}
 use Rattle.std.proofs.lemmas.List.{length-set}
 use Rattle.std.proofs.lemmas.Option.{same_Some}
 use Rattle.clone_state.specs.Assembly as table
-use Rattle.ft_node.proofs.Words.{Again, Backup, Call, Comes, Completes, Copying, Fault, Gathering, GetsPart, GotPart, IsFollower, IsJoining, IsLast, Joining, Malformed, Node, OutOfMemory, PartMessage, Slots, Unless, WrongGeneration, answer_to, fault_if, first_of, gathered, generation_refusal, gets_part, is_missing, is_whole, joins, last_refusal, part_comes_refusal, part_refusal, parts_with, refused_as, part_reply, role_refusal, unfit, with_part, without_part}
+use Rattle.ft_node.proofs.Words.{Again, Backup, Call, Comes, Completes, Copying, Fault, Gathering, GetsPart, GotPart, IsFollower, IsJoining, IsLast, Joining, Malformed, Node, OutOfMemory, PartMessage, Slots, Unless, WrongGeneration, answer_to, fault_if, first_of, gathered, generation_refusal, gets_part, is_missing, is_whole, joins, last_refusal, part_comes_refusal, part_refusal, parts_with, refused_as, part_reply, role_refusal, unfit, with_part}
 use Rattle.ft_node.specs.Joined.{Joined}
 use Rattle.ft_node.specs.declared.ran.PartCame.{PartCame}
 use Rattle.ft_node.specs.declared.ran.PartCame.TheVariants as reply

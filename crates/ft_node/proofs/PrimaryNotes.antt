@@ -2,13 +2,12 @@
 -- has one, and every other is found and noted as before: so the notes are those of the protocol, and only outstanding
 -- operations, of which there are few, have notes.
 use Rattle.std.specs.Option.{option_map}
-use Rattle.std.proofs.Common.{◌≡◌, ◌≢◌, ℕ, zero, suc, ◌<◌, ◌≤◌, ◌⊎◌, inl, inr, ⊎_elim, Bool, true, cond, Option, Some, None, List, [], ◌∷◌, ◌++◌, length, take, get_or, length-append, refl, sym, ap, ◌∙◌, arith}
+use Rattle.std.proofs.Common.{◌≡◌, ◌≢◌, ℕ, zero, suc, ◌<◌, ◌≤◌, ◌⊎◌, inl, inr, ⊎_elim, cond, Some, None, List, [], ◌∷◌, ◌++◌, length, take, get_or, length-append, refl, sym, ap, ◌∙◌, arith}
 use Rattle.std.specs.Prelude.{AllPairs}
 use Rattle.std.proofs.lemmas.Bool.{cases_Bool}
 use Rattle.std.proofs.lemmas.List.{take-append-le}
 use Rattle.std.proofs.lemmas.List.Kept.{AllPairs-filter}
 use Rattle.ft_node.proofs.Words.{AreFew, AreOfOutstanding, ComesAndGoes, Covering, Covers, Entry, IsCovering, Machine, Node, OpId, Operation, Timed, after_forget, after_note, id_of, inputs_of, marks, note_of, notes_after, primary_steps, reads_in, waits_for, waits_in, waits_of}
-use Rattle.event_callbacks.specs.declared.operations.OpId.TheVariants as id
 use Rattle.event_callbacks.specs.declared.operations.Operation.TheVariants as operation
 use Rattle.event_callbacks.proofs.Names.{name_cases, same_name-different, same_name-itself}
 use Rattle.log_entry.specs.declared.entry.Entry.TheVariants as entry

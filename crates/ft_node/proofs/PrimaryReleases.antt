@@ -1,8 +1,8 @@
 -- What a primary may release. Its coverage has the index of each outstanding operation's mark, and how many entries must
 -- be replayed; so the coverage's test is the protocol's.
 use Rattle.std.specs.Option.{option_map}
-use Rattle.std.proofs.Common.{◌≡◌, ℕ, Bool, true, false, not, Option, Some, None, is_none, [], ◌∷◌, refl, sym, ap, ◌∙◌, arith}
-use Rattle.std.specs.Prelude.{nat_lt, nat_le, ◌&&◌, ◌||◌}
+use Rattle.std.proofs.Common.{◌≡◌, ℕ, false, not, Option, Some, None, is_none, [], ◌∷◌, refl, ap, ◌∙◌}
+use Rattle.std.specs.Prelude.{◌&&◌}
 use Rattle.ft_node.proofs.Words.{Covering, Covers, IsPrimary, Log, Machine, Node, NotCovered, NotDue, Note, OpId, Operation, Primary, Reads, Sending, covers, fault_if, first_of, is_noted_covered, is_role, note_of, release_refusal, waits_in}
 use Rattle.output_rule.specs.Notes.{note_in}
 use Rattle.output_rule.specs.declared.notes.Note as notes

@@ -1,7 +1,7 @@
 -- Steps of a primary. Quiet steps leave its log, its notes and its operations as they were; a last step that gives an
 -- operation pushes its mark and notes it.
-use Rattle.std.proofs.Common.{◌≡◌, ℕ, ◌+◌, ◌<◌, ◌≤◌, Option, Some, None, Ok, Err, [], ◌∷◌, length, drop, length-append, refl, sym, ap, subst, ◌∙◌, arith}
-use Rattle.std.proofs.lemmas.List.{append-nil, length-drop, drop-append-le}
+use Rattle.std.proofs.Common.{◌≡◌, ℕ, ◌<◌, ◌≤◌, Option, Some, None, Ok, Err, [], ◌∷◌, length, drop, length-append, refl, sym, ap, subst, ◌∙◌, arith}
+use Rattle.std.proofs.lemmas.List.{append-nil, drop-append-le}
 use Rattle.std.proofs.lemmas.List.Elements.{All-push}
 use Rattle.i8080_words.specs.declared.limits.TheConstants.{GREATEST_NUMBER}
 use Rattle.ft_node.proofs.Words.{AdvancesUnless, ComesAndGoes, Covering, Fault, IsEntry, IsPrimary, Log, Machine, Node, Operation, Reads, Sending, Stopped, Unless, advance_refusal, id_of, log, logged, next_of, noted, primary_steps, pushed, reads_in, stepped}

@@ -3,6 +3,7 @@
 use Rattle.std.specs.Prelude.{◌≡◌, ◌≢◌, ℕ, suc, ◌<◌, ◌^◌, Bool, true, Option, Some, None, is_none, List, [], ◌∷◌, length, replicate, slice_index_or, unwrap_or, ◌==◌, nat_le, if◌then◌else◌, Result, Ok, Err}
 use Rattle.std.specs.Global.{Vec}
 use Rattle.disk_dcdd.specs.declared.address.SectorAddress.{SectorAddress}
+use Rattle.event_callbacks.specs.declared.devices.TheConstants.{PORTS}
 use Rattle.event_callbacks.specs.declared.operations.OpId.{OpId}
 use Rattle.event_callbacks.specs.declared.operations.Operation.{Operation}
 use Rattle.guest_lockstep.specs.Machine.{Machine}
@@ -226,9 +227,9 @@ Suspects old n x result new Is =
 
 -- ---- a generation that begins with a copied machine
 
--- the machine has taken the keys of the node's list
+-- the machine has taken the keys of the node's list, at each port
 abbrev pub HasTakenKeys : {S : Type 0} → Machine S → Node S → Type 0
-HasTakenKeys M x = (port : ℕ) → M.keys x.machine port ≡ length (keys port x.list)
+HasTakenKeys M x = (port : ℕ) → port < PORTS → M.keys x.machine port ≡ length (keys port x.list)
 
 -- the next generation, for a machine of this many drives
 pub record IsNext {S : Type 0} (drives : ℕ) (next : NextGeneration) (x : Node S) : Type 0 where

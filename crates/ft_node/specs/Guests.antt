@@ -1,5 +1,5 @@
 -- The machine that a node shows.
-use Rattle.std.specs.Prelude.{Bool, true, false, if◌then◌else◌, Option, Some, None}
+use Rattle.std.specs.Prelude.{if◌then◌else◌, Option, Some, None}
 use Rattle.pair_protocol.specs.Node.{Node, Role, Primary, Backup, Joining, Draining, Alone, Spare}
 
 -- what a running node has in a role: a joining node is still given its machine, and a spare host has none

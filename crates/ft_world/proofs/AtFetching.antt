@@ -3,9 +3,9 @@
 -- the answer has the number of the read, its bytes are those that the run takes, as in every world that actions reach; so
 -- they may be kept.
 use Rattle.ft_world.proofs.Words.{Applies, Backup, Course, Do, Draining, Entry, Fault, Fetched, GetsSector, Guest, Host, Input, Machine, Message, Move, Never, Node, NotDue, OfNode, OutOfMemory, Reads, Record, Replaying, Reply, Running, SectorAddress, SectorRead, Shows, Stays, Take, Unknown, Wants, World, acts_as, at_fetched, at_node, before_failures, drop-at, entries, entry_of, faults_in, fetch_refusal, fetched_refusal, first-passed, has_sector, is-at-read, machine_of, next_read, node-passed, nodes_stand, read_address, refusal, replaying, role_refusal, sector_of, wanted, wanted_of}
-use Rattle.std.proofs.Common.{◌≡◌, ◌≤◌, ◌+◌, ◌∙◌, ◌++◌, [], ◌∷◌, Bool, Err, List, None, Ok, Option, Some, ap, arith, drop, false, inr, not, refl, subst, suc, sym, true, ℕ}
+use Rattle.std.proofs.Common.{◌≡◌, ◌≤◌, ◌∙◌, ◌++◌, [], ◌∷◌, Bool, Err, List, None, Ok, Option, Some, ap, arith, drop, false, inr, not, refl, subst, suc, sym, true, ℕ}
 use Rattle.std.specs.Option.{option_and_then}
-use Rattle.std.specs.Prelude.{IfErr, IsTrue, Result, if◌then◌else◌, is_none, slice_get, ◌==◌}
+use Rattle.std.specs.Prelude.{IfErr, IsTrue, Result, if◌then◌else◌, is_none, slice_get}
 use Rattle.guest_lockstep.specs.Recorded.{Accepts, Recorded}
 use Rattle.guest_lockstep.specs.declared.input.Input.TheVariants.{Rx, Sector, Sent, Written}
 use Rattle.guest_lockstep.specs.declared.reads.Reads.TheVariants.{Logged, Shared}

@@ -1,6 +1,5 @@
 -- What is settled before rows of events is a prefix of what is settled after them, since rows are actions.
 use Rattle.std.proofs.Common.{List}
-use Rattle.std.specs.Prelude.{map}
 use Rattle.ft_world.proofs.Words.{Changes, Copying, Event, First, IsCopying, Lawful, Machine, Nothing, Reached, Rows, World, changes-append, changes_grow, row_changes}
 use Rattle.pair_protocol.specs.Change.{Stays}
 use Rattle.pair_protocol.specs.Reply as protocol

@@ -135,7 +135,7 @@ module _ {B H D S : Type 0} (state : B → S) (copied : B → Guest) (M : Machin
 
   -- what an alone node of this world brings to the call
   pub alone_keys : (x : Node S) → slice_get c.world.nodes n ≡ Some x → x.role ≡ Alone → calls.HasTakenKeys M x
-  alone_keys x there alone = λ port.
+  alone_keys x there alone = λ port within.
       (nodes_stand N c.copying h.machine.lawful h.machine.copies c.world h.reached n x there).keys (inr alone) port
       ∙ ap (λ q. length (keys port (list_of x q))) alone
 

@@ -6,7 +6,6 @@ use Rattle.std.proofs.Common.{◌≡◌, ◌<◌, ◌≤◌, [], ◌∷◌, ◌�
 use Rattle.std.specs.Prelude.{Option, Result, length, max, nat_le, slice_get, slice_set}
 use Rattle.event_callbacks.specs.declared.operations.OpId.{OpId}
 use Rattle.event_callbacks.specs.declared.operations.OpId.TheVariants as id
-use Rattle.event_callbacks.specs.declared.operations.Operation.TheVariants as operation
 use Rattle.pair_protocol.specs.World as world
 use Rattle.ft_world.proofs.AtHosts.{AsksNode}
 use Rattle.pair_events.specs.declared.event.Event.TheVariants as event

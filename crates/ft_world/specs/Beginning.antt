@@ -1,6 +1,6 @@
 -- How a pair begins: both guests are in the same state, and the disk has each sector of its drives, none written yet.
 use Rattle.guest_parts.specs.Guest.{Guest}
-use Rattle.std.specs.Prelude.{◌≡◌, ℕ, List, []}
+use Rattle.std.specs.Prelude.{◌≡◌, ℕ, List}
 use Rattle.clone_state.specs.Copies.{CopiesAs}
 use Rattle.guest_lockstep.specs.Machine.{Machine, booted_from}
 use Rattle.guest_lockstep.specs.declared.reads.Reads.{Reads}

@@ -113,8 +113,8 @@ pub data HostStep {S : Type 0} (M : Machine S) (C : Copying S) (me : ℕ) (x : N
       HostStep M C me x (taking (Carries (ImagePart generation index part))) y
   -- a frame that its node refuses, or for which there is no memory, is dropped
   Drops : (frame : Frame) → HostStep M C me x (taking frame) x
-  -- nothing is promised of a node that is alone with a machine which has not taken the keys of its list: its parts are
-  -- those of no copied machine. No fleet has one
+  -- nothing is promised of a node that is alone with a machine which has not taken the keys of its list: it was given
+  -- parts, or a list, that no pair sent. No fleet has such a node
   Strays : (act : Act) → x.role ≡ Alone → (HasTakenKeys M x → ⊥) → HostStep M C me x act x
 
 -- one call after another

@@ -8,12 +8,13 @@ use Rattle.pair_protocol.specs.Copying.{Copying, IsCopying}
 use Rattle.pair_protocol.specs.Faithful.{Faithful}
 use Rattle.pair_protocol.specs.Grows.{Grows}
 use Rattle.pair_protocol.specs.Lawful.{Lawful}
-use Rattle.pair_protocol.specs.Node.{Node, Spare}
+use Rattle.pair_protocol.specs.Node.{Node, Alone, Spare}
 use Rattle.pair_protocol.specs.NodeStands.{NodeStands}
 use Rattle.pair_protocol.specs.Reply.{Reply}
 use Rattle.pair_protocol.specs.Row.{Row}
 use Rattle.pair_protocol.specs.World.{World, opening, with_read}
 use Rattle.host_law.specs.Fleet.{Deed, Fleet, FleetStep, Happened, booted, with_spares}
+use Rattle.host_law.specs.Host.{HasTakenKeys}
 use Rattle.host_law.specs.Kept.{IsKept, Kept}
 use Rattle.host_law.specs.Shows.{Shows}
 
@@ -60,6 +61,12 @@ abbrev pub HostsStand : (S : Type 0) → Type 0
 HostsStand S =
     (M : Machine S) (C : Copying S) → Lawful M → IsCopying M C → (f : Fleet S) (w : World S) → Shows M C f w →
     (n : ℕ) (x : Node S) → slice_get f.hosts n ≡ Some x → (x.role ≡ Spare → ⊥) → NodeStands M x
+
+-- so no host of a fleet strays: the machine of one that is alone has taken the keys of its list
+abbrev pub NoHostStrays : (S : Type 0) → Type 0
+NoHostStrays S =
+    (M : Machine S) (C : Copying S) → Lawful M → IsCopying M C → (f : Fleet S) (w : World S) → Shows M C f w →
+    (n : ℕ) (x : Node S) → slice_get f.hosts n ≡ Some x → x.role ≡ Alone → HasTakenKeys M x
 
 -- the law: a run of each host and one of the outside, interleaved in any order, have such worlds
 pub record IsCourse {S : Type 0} (M : Machine S) (C : Copying S) (first : Fleet S) (w : World S) (deeds : List Deed)

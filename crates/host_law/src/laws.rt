@@ -1,6 +1,6 @@
 //! What processes that exchange frames promise together. Nothing here runs.
 ghost use Rattle.host_law.specs.Examples.{HostTakesOver};
-ghost use Rattle.host_law.specs.Laws.{BootIsShown, DevicesAreKept, HostsStand, RunsAreFaithful, RunsAreKept, StepsAreFollowed};
+ghost use Rattle.host_law.specs.Laws.{BootIsShown, DevicesAreKept, HostsStand, NoHostStrays, RunsAreFaithful, RunsAreKept, StepsAreFollowed};
 ghost use Rattle.host_law.specs.Ran.{RunsGoOn};
 ghost use Rattle.host_law.specs.Relying.{RelyingRunsAreFaithful};
 ghost use Rattle.host_law.specs.Survival.{LosersHaveAWinner, OneHostWins, WholeHostsWin};
@@ -20,6 +20,7 @@ pub fn hosts_are_faithful<S>()
     ensures devices { DevicesAreKept S }
     ensures kept { RunsAreKept S }
     ensures stand { HostsStand S }
+    ensures keys { NoHostStrays S }
 {}
 
 /// A pair of processes survives a stop: a whole host that asks the arbiter first has won its generation, no two hosts

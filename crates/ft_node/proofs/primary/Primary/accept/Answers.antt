@@ -1,7 +1,6 @@
 -- The recorder takes the input, the coverage knows of its read, and the operation that it completes no longer has a note.
 use Rattle.std.proofs.Common.{Some, None, sym, ap, ◌∙◌}
 use Rattle.guest_lockstep.specs.Outstanding.{completed_by}
-use Rattle.ft_node.specs.Noting.{with_read}
 use Rattle.ft_node.proofs.PassedChecks.{none_there}
 use Rattle.ft_node.proofs.PrimaryInputs.{accepts}
 use Rattle.ft_node.proofs.primary.Primary.accept.Goals as goal
