@@ -1,6 +1,8 @@
 -- How a host goes on when it asks the arbiter, when it is answered, and when it joins a generation or begins one.
 use Rattle.std.proofs.Common.{ℕ, ◌≡◌, ◌≢◌, ◌<◌, suc, Bool, true, false, Option, Some, None, List, [], ◌∷◌, ◌++◌, append-nil, refl, sym, ap, ◌∙◌, subst, inl, inr}
-use Rattle.std.specs.Prelude.{Ok, ◌⊎◌}
+use Rattle.std.specs.Prelude.{Ok, Err, ◌⊎◌}
+use Rattle.i8080_words.specs.declared.refusal.Fault.{Fault}
+use Rattle.i8080_words.specs.declared.refusal.Fault.TheVariants.{Lost}
 use Rattle.arbiter_core.specs.Winners.{winner_of}
 use Rattle.arbiter_core.specs.declared.arbiter.Asking.{Asking}
 use Rattle.arbiter_core.specs.declared.arbiter.Won.{Won}
@@ -43,6 +45,14 @@ may_ask y role.Draining may is = absurd may
 may_ask y role.Alone may is = absurd may
 may_ask y role.Halted may is = absurd may
 
+-- who asks an arbiter that nobody has asked does not lose
+has_won : {S : Type 0} (y : Node S) (n : ℕ) (after : List Asking) (Is : Node S → Type 0) → suspect_refusal y ≡ None
+    → calls.Suspects [] n y (Err Lost) after Is → ⊥
+has_won y n after Is free asked =
+    (let k = subst (λ o. calls.Unless {A = Won} o (Err Lost) (Is y × (after ≡ []))
+        (calls.SuspectsOf None [] n y (Err Lost) after Is)) free asked in
+    let e = k.0 in absurd (cc))
+
 module _ {B S : Type 0} {H : Type 0} (state : B → S) (M : Machine S) (copied : B → Guest) where
   pub asks : (old new : HostNode B H) (n : code.Node B H) (r : shown.Role) (generation : ℕ) → MayAsk r
       → old.node ≡ hosted.Node n → new.node ≡ old.node → new.number ≡ old.number → new.mail.came ≡ old.mail.came
@@ -57,15 +67,15 @@ module _ {B S : Type 0} {H : Type 0} (state : B → S) (M : Machine S) (copied :
       (host.Asks (passes M C me y other (λ z. Unit {0}) suspect_refusal (may_ask y r may (role_is C drives y node)).0))))
 
   -- the answer: the node asks an arbiter of its own
-  pub wins : (old new : HostNode B H) (n m : code.Node B H) (r : shown.Role) (generation : ℕ) (askings after : List Asking)
-      (won : Won) → MayAsk r → old.node ≡ hosted.Node n → new.node ≡ hosted.Node m → new.number ≡ old.number
+  pub wins : (old new : HostNode B H) (n m : code.Node B H) (r : shown.Role) (generation : ℕ) (asker : ℕ)
+      (askings after : List Asking) (won : Won) → asker ≡ old.number → MayAsk r → old.node ≡ hosted.Node n → new.node ≡ hosted.Node m → new.number ≡ old.number
       → new.mail.came ≡ old.mail.came → new.mail.gone ≡ old.mail.gone
       → IsFrom old.mail.came (Tells (notice.Won generation)) → askings ≡ []
       → ((C : Copying S) (drives : ℕ) (x : Node S) → IsNode state M C drives n x → IsRole x r)
       → ((C : Copying S) (drives : ℕ) (x : Node S) → IsNode state M C drives n x → x.generation ≡ generation)
       → ((C : Copying S) (drives : ℕ) (x : Node S) → IsNode state M C drives n x
-      → calls.Suspects askings old.number x (Ok won) after (IsNode state M C drives m)) → Goes state M copied old new
-  wins old new n m r generation askings after won may was is number came gone from none role_is generation_is call =
+      → calls.Suspects askings asker x (Ok won) after (IsNode state M C drives m)) → Goes state M copied old new
+  wins old new n m r generation asker askings after won mine_is may was is number came gone from none role_is generation_is call =
       taking_mine state M copied old new n m (Tells (notice.Won generation)) was is number came gone from
       (λ C drives me copies mine y other node frames told.
       (let e = generation_is C drives y node in
@@ -73,7 +83,27 @@ module _ {B S : Type 0} {H : Type 0} (state : B → S) (M : Machine S) (copied :
       subst (λ k. Made M C me y (law.taking (law.HasWon k me)) (IsNode state M C drives m)) e
       ((are-steps M C me y other (IsNode state M C drives m)).wins askings after won
       (may_ask y r may (role_is C drives y node)).1 (ap (λ l. winner_of l y.generation) none)
-      (subst (λ k. calls.Suspects askings k y (Ok won) after (IsNode state M C drives m)) mine (call C drives y node))))))
+      (subst (λ k. calls.Suspects askings k y (Ok won) after (IsNode state M C drives m)) (mine_is ∙ mine) (call C drives y node))))))
+
+  -- whom nobody else asks, so it has not lost
+  pub never_lost : (old new : HostNode B H) (n m : code.Node B H) (r : shown.Role) (asker : ℕ) (askings after : List Asking)
+      (fault : Fault) → fault ≡ Lost → MayAsk r → old.node ≡ hosted.Node n → new.node ≡ hosted.Over → new.number ≡ old.number → new.mail ≡ old.mail → askings ≡ []
+      → ((C : Copying S) (drives : ℕ) (x : Node S) → IsNode state M C drives n x → IsRole x r)
+      → ((C : Copying S) (drives : ℕ) (x : Node S) → IsNode state M C drives n x
+      → calls.Suspects askings asker x (Err fault) after (IsNode state M C drives m)) → Goes state M copied old new
+  never_lost old new n m r asker askings after fault lost may was is number mail none role_is call = record {
+    heard = [];
+    said = [];
+    came = ap (λ p. p.came) mail ∙ sym (append-nil old.mail.came);
+    gone = ap (λ p. p.gone) mail ∙ sym (append-nil old.mail.gone);
+    stays = λ joined. (subst (λ h. HasJoined h) (sym is) tt, number);
+    runs = λ C drives me copies numbered x hosted frames brought.
+        (let h = subst (λ h. HasNode state M C drives old.number me h x) was hosted in
+        absurd (has_won h.1.y asker after (IsNode state M C drives m) (may_ask h.1.y r may (role_is C drives h.1.y h.1.is)).0
+        (subst (λ l. calls.Suspects l asker h.1.y (Err Lost) after (IsNode state M C drives m)) none
+        (subst (λ f. calls.Suspects askings asker h.1.y (Err f) after (IsNode state M C drives m)) lost
+        (call C drives h.1.y h.1.is)))));
+  }
 
   -- it has lost: the node halts, and is kept no longer
   pub loses : (old new : HostNode B H) (n m : code.Node B H) (generation : ℕ) → old.node ≡ hosted.Node n

@@ -3,7 +3,7 @@ use Rattle.std.proofs.Common.{ℕ, ◌≡◌, ◌≢◌, List, [], ◌∷◌, �
 use Rattle.clone_state.specs.Copies.{CopiesAs}
 use Rattle.guest_lockstep.specs.Machine.{Machine}
 use Rattle.guest_parts.specs.Guest.{Guest}
-use Rattle.host_frames.specs.Frames.{IsSpelling, Said}
+use Rattle.host_frames.specs.Frames.{IsBodyOf, IsSpelling, Said}
 use Rattle.host_frames.specs.Meaning.{Brings, Speaks}
 use Rattle.host_law.specs.Frame.{Act, Came, Frame, sent, taken}
 use Rattle.host_law.specs.Host as host
@@ -11,7 +11,7 @@ use Rattle.host_law.specs.Host.{HostRun, HostStep}
 use Rattle.host_node.specs.Goes as goes
 use Rattle.host_node.specs.Goes.{AllBring, Goes, Ran, RunsTo, Says}
 use Rattle.host_node.specs.Hosts.{HasJoined, IsHosted, IsNumber}
-use Rattle.host_node.specs.Mail.{HasSaid}
+use Rattle.host_node.specs.Mail.{HasSaid, IsFrom}
 use Rattle.host_node.specs.declared.host.HostNode.{HostNode}
 use Rattle.pair_protocol.specs.Copying.{Copying}
 use Rattle.pair_protocol.specs.Lawful.{Among}
@@ -54,6 +54,16 @@ among_before x (z ∷ zs) ys (inr p) = inr (among_before x zs ys p)
 -- a frame that went after the ring was looked at
 pub said_since : (said : Said) (a b d : List (List ℕ)) → b ≡ a → HasSaid said b d → HasSaid said a d
 said_since said a b d e p = subst (λ l. HasSaid said l d) e p
+
+-- the last of what came is among it
+pub among_last : (xs : List (List ℕ)) (x : List ℕ) → Among x (xs ++ x ∷ [])
+among_last [] x = inl refl
+among_last (y ∷ ys) x = inr (among_last ys x)
+
+pub from_last : (came old : List (List ℕ)) (body : List ℕ) (said : Said) → came ≡ old ++ body ∷ [] → IsBodyOf said body
+    → IsFrom came said
+from_last came old body said e says =
+    record { body = body; among = subst (λ l. Among body l) (sym e) (among_last old body); says = says }
 
 -- ---- runs
 
@@ -111,6 +121,15 @@ module _ {B S : Type 0} {H : Type 0} (state : B → S) (M : Machine S) (copied :
       → new.mail.came ≡ old.mail.came → new.mail.gone ≡ old.mail.gone → Goes state M copied old new
   looked old new node number came gone =
       nothing_yet old new [] node number (came ∙ sym (append-nil old.mail.came)) gone
+
+  -- no body came, or one came that says nothing
+  pub heard_none : (old new : HostNode B H) → new.node ≡ old.node → new.number ≡ old.number
+      → new.mail.came ≡ old.mail.came → new.mail.gone ≡ old.mail.gone → Goes state M copied old new
+  heard_none old new node number came gone = looked old new node number came gone
+
+  pub heard_one : (old new : HostNode B H) (body : List ℕ) → new.node ≡ old.node → new.number ≡ old.number
+      → new.mail.came ≡ old.mail.came ++ body ∷ [] → new.mail.gone ≡ old.mail.gone → Goes state M copied old new
+  heard_one old new body node number came gone = nothing_yet old new (body ∷ []) node number came gone
 
   pub and_then : (a b c : HostNode B H) → Goes state M copied a b → Goes state M copied b c → Goes state M copied a c
   and_then a b c p q = record {

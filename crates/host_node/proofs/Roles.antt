@@ -119,3 +119,4 @@ never_spare M C me x y act (host.Joins count reads list p) other = absurd (other
 never_spare M C me x y act (host.SendsPart index part p q) other = other
 never_spare M C me x y act (host.TakesPart generation index part r z p q) other = got C index part x y r q other
 never_spare M C me x y act (host.Drops frame) other = other
+never_spare M C me x y act (host.Strays same alone stray) other = other

@@ -23,8 +23,8 @@ pub enum Heard {
     Progress { entries: u64, count: u64 },
     /// A key waits.
     Key,
-    /// So many bytes of a port were accepted, and the node took so many of these acceptances.
-    Accepted { port: u8, count: u64, taken: u64 },
+    /// Bytes of a port were accepted.
+    Accepted,
     /// A write is done.
     Written(u64),
     /// The device refused a write.

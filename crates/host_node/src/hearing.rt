@@ -19,6 +19,7 @@ const PART: u8 = 0x50;
 impl<B: Copies<H> + Drop, H: Drop> HostNode<B, H> {
     /// Takes the next frame that has come, if there is one, and says what it was. `OutOfMemory` if there was none for what
     /// the frame asks.
+    #[tactic(auto, using(crate::proofs::Going::heard_none, crate::proofs::Going::heard_one, crate::proofs::Going::from_last, crate::proofs::Going::and_then))]
     pub fn hear(&mut self) -> R<Option<Heard>>
         ensures { Goes B.state B.machine B.copied self.old self.new }
     {
@@ -32,6 +33,7 @@ impl<B: Copies<H> + Drop, H: Drop> HostNode<B, H> {
     }
 
     // Takes a frame.
+    #[tactic(auto, using(crate::proofs::Going::stays))]
     fn take(&mut self, frame: &Frame<'_>) -> R<Heard>
         requires { IsFrom self.old.mail.came (said_by frame.now) }
         ensures { Goes B.state B.machine B.copied self.old self.new }
@@ -44,6 +46,7 @@ impl<B: Copies<H> + Drop, H: Drop> HostNode<B, H> {
     }
 
     // Takes a packet of the peer. A host that waits for the arbiter's answer takes none.
+    #[tactic(auto, using(crate::proofs::Going::stays))]
     fn take_packet(&mut self, host: u8, bytes: &[u8]) -> R<Heard>
         requires { IsFrom self.old.mail.came (Packet host bytes.now) }
         ensures { Goes B.state B.machine B.copied self.old self.new }
@@ -112,6 +115,7 @@ impl<B: Copies<H> + Drop, H: Drop> HostNode<B, H> {
     }
 
     // Takes what the arbiter or the switch says.
+    #[tactic(auto, using(crate::proofs::Going::stays))]
     fn take_notice(&mut self, notice: &Notice) -> R<Heard>
         requires { IsFrom self.old.mail.came (Tells notice.now) }
         ensures { Goes B.state B.machine B.copied self.old self.new }

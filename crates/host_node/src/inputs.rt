@@ -1,4 +1,7 @@
 //! What a host does with what its terminals and the disk send: its node takes it as an input.
+ghost use Rattle.std.specs.Prelude.{◌≡◌, ◌<◌};
+ghost use Rattle.disk_dcdd.specs.declared.controller.TheConstants.{DRIVES};
+ghost use Rattle.disk_dcdd.specs.declared.sector.TheConstants.{SECTORS};
 ghost use Rattle.host_frames.specs.Frames.{Transfers};
 ghost use Rattle.host_frames.specs.declared.frame.Transfer.TheVariants as transfer;
 ghost use Rattle.host_node.specs.Goes.{Goes};
@@ -12,6 +15,7 @@ use disk_dcdd::{DRIVES, SECTORS, SectorAddress};
 use event_callbacks::PORTS;
 use host_frames::Transfer;
 use i8080_words::R;
+use pair_events::Role;
 use shared_disk::SectorRead;
 
 // How many acceptances are taken at once: as many as bytes may be outstanding.
@@ -19,6 +23,7 @@ const ACCEPTANCES: u64 = 16;
 
 impl<B: Copies<H> + Drop, H: Drop> HostNode<B, H> {
     // Takes what a terminal or the disk sends.
+    #[tactic(auto, using(crate::proofs::Going::stays))]
     pub(crate) fn take_transfer(&mut self, transfer: &Transfer) -> R<Heard>
         requires { IsFrom self.old.mail.came (Transfers transfer.now) }
         ensures { Goes B.state B.machine B.copied self.old self.new }
@@ -57,25 +62,25 @@ impl<B: Copies<H> + Drop, H: Drop> HostNode<B, H> {
     }
 
     // Takes the acceptance of bytes of a port, up to this count.
+    #[tactic(auto, using(crate::proofs::Going::stays, crate::proofs::Going::and_then))]
     fn take_accepted(&mut self, port: u8, count: u64) -> R<Heard>
         requires { IsFrom self.old.mail.came (Transfers (transfer.Accepted port count)) }
         ensures { Goes B.state B.machine B.copied self.old self.new }
     {
-        let mut taken = 0;
         for _ in 0..ACCEPTANCES {
             if !self.take_acceptance(port, count) {
                 break;
             }
-            taken += 1;
         }
-        Ok(Heard::Accepted { port, count, taken })
+        Ok(Heard::Accepted)
     }
 
     // Takes the acceptance of the oldest byte of a port, if it is within this count.
     #[tactic(auto, using(crate::proofs::Taking::acceptance, crate::proofs::Going::stays))]
     fn take_acceptance(&mut self, port: u8, count: u64) -> bool
         requires { IsFrom self.old.mail.came (Transfers (transfer.Accepted port count)) }
-        ensures { Goes B.state B.machine B.copied self.old self.new }
+        ensures goes { Goes B.state B.machine B.copied self.old self.new }
+        ensures mail { self.new.mail ≡ self.old.mail }
     {
         let Some(number) = self.due_byte(port) else {
             return false;
@@ -86,7 +91,10 @@ impl<B: Copies<H> + Drop, H: Drop> HostNode<B, H> {
         if number == 0 || number > count || usize::from(port) >= PORTS {
             return false;
         }
-        node.sent(port, number).is_ok()
+        match node.sent(port, number) {
+            Ok(()) => true,
+            Err(_) => false,
+        }
     }
 
     // Takes the completion of a write.
@@ -104,32 +112,58 @@ impl<B: Copies<H> + Drop, H: Drop> HostNode<B, H> {
         }
     }
 
-    // Takes a sector of the disk: as a live node's input, or as what a replaying node waits for.
-    #[tactic(auto, using(crate::proofs::Taking::under, crate::proofs::Taking::fetched, crate::proofs::Going::stays))]
+    // Takes a sector of the disk: as what a replaying node waits for, or as a live node's input.
+    #[tactic(auto, using(crate::proofs::Going::stays))]
     fn take_sector(&mut self, read: &SectorRead) -> R<Heard>
         requires { IsFrom self.old.mail.came (Transfers (transfer.Sector read.now)) }
         ensures { Goes B.state B.machine B.copied self.old self.new }
     {
         let sector = read.sector;
-        let Hosted::Node(node) = &mut self.node else {
-            return Ok(Heard::Nothing);
-        };
         if usize::from(read.drive) >= DRIVES || sector >= SECTORS {
             return Ok(Heard::Nonsense);
         }
+        let is_taken = match self.role() {
+            Some(Role::Backup) | Some(Role::Draining) => self.take_wanted(read),
+            _ => self.take_under(read),
+        };
+        Ok(Heard::Sector { sector, is_taken })
+    }
+
+    // Takes the sector for whose bytes a replaying node waits.
+    #[tactic(auto, using(crate::proofs::Taking::fetched, crate::proofs::Going::stays))]
+    fn take_wanted(&mut self, read: &SectorRead) -> bool
+        requires { IsFrom self.old.mail.came (Transfers (transfer.Sector read.now)) }
+        ensures { Goes B.state B.machine B.copied self.old self.new }
+    {
+        let Hosted::Node(node) = &mut self.node else {
+            return false;
+        };
+        match node.fetched(read) {
+            Ok(()) => true,
+            Err(_) => false,
+        }
+    }
+
+    // Takes a sector as an input.
+    #[tactic(auto, using(crate::proofs::Taking::under, crate::proofs::Going::stays))]
+    fn take_under(&mut self, read: &SectorRead) -> bool
+        requires drive { read.now.drive < DRIVES }
+        requires sector { read.now.sector < SECTORS }
+        requires from { IsFrom self.old.mail.came (Transfers (transfer.Sector read.now)) }
+        ensures { Goes B.state B.machine B.copied self.old self.new }
+    {
+        let Hosted::Node(node) = &mut self.node else {
+            return false;
+        };
         let address = SectorAddress {
             drive: read.drive,
             track: read.track,
-            sector,
+            sector: read.sector,
         };
         let bytes = read.bytes;
-        if node.under(address, read.number, bytes).is_ok() {
-            return Ok(Heard::Sector {
-                sector,
-                is_taken: true,
-            });
+        match node.under(address, read.number, bytes) {
+            Ok(()) => true,
+            Err(_) => false,
         }
-        let is_taken = node.fetched(read).is_ok();
-        Ok(Heard::Sector { sector, is_taken })
     }
 }

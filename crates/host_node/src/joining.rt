@@ -20,7 +20,7 @@ use std::mem;
 
 impl<B: Copies<H> + Drop, H: Drop> HostNode<B, H> {
     // The node has won its generation, if that was asked. It asks an arbiter of its own, whom nobody else asks.
-    #[tactic(auto, using(crate::proofs::Asked::wins, crate::proofs::Going::stays, crate::proofs::Going::looked))]
+    #[tactic(auto, using(crate::proofs::Asked::wins, crate::proofs::Asked::never_lost, crate::proofs::Going::stays, crate::proofs::Going::looked))]
     pub(crate) fn win(&mut self, generation: u32) -> R<Heard>
         requires { IsFrom self.old.mail.came (Tells (notice.Won generation)) }
         ensures { Goes B.state B.machine B.copied self.old self.new }
@@ -32,10 +32,18 @@ impl<B: Copies<H> + Drop, H: Drop> HostNode<B, H> {
             return Ok(Heard::Nothing);
         }
         let mut arbiter = Arbiter::new(self.alloc);
-        node.suspect(u64::from(self.number), &mut arbiter)?;
-        self.is_waiting = false;
-        self.mail.forget_keys();
-        Ok(Heard::Won)
+        match node.suspect(u64::from(self.number), &mut arbiter) {
+            Ok(_) => {
+                self.is_waiting = false;
+                self.mail.forget_keys();
+                Ok(Heard::Won)
+            }
+            Err(Fault::Lost) => {
+                self.node = Hosted::Over;
+                Ok(Heard::Lost)
+            }
+            Err(fault) => Err(fault),
+        }
     }
 
     // Another host has won the node's generation: the node halts, and is kept no longer.

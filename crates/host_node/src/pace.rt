@@ -141,7 +141,7 @@ impl Pace {
             Heard::Parts(parts) => self.note_parts(parts),
             Heard::Failed(number) => self.next_write = self.next_write.min(number),
             Heard::Sector { sector, is_taken } => self.note_sector(sector, is_taken),
-            Heard::Accepted { .. } | Heard::Written(_) | Heard::Key => self.is_idle = false,
+            Heard::Accepted | Heard::Written(_) | Heard::Key => self.is_idle = false,
             Heard::Won => self.forget_peer(),
             Heard::Lost => self.end = Some(End::Lost),
             Heard::Gone(host) => self.is_gone = self.is_gone || host == peer,

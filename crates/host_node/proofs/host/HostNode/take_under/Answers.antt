@@ -1,0 +1,7 @@
+use Rattle.std.proofs.Common.{refl}
+use Rattle.host_node.proofs.Taking.{under}
+use Rattle.host_node.proofs.host.HostNode.take_under.Goals as goal
+
+pub returns-in-Ok : goal.returns-in-Ok
+returns-in-Ok g c =
+    under g.B.Lockstep.state g.B.Lockstep.machine g.B.Copies.copied _ _ _ _ c.args.read.now c.in-Node.is refl refl refl refl c.requires.from c.in-Ok.ensures.answer
