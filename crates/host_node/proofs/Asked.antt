@@ -24,7 +24,7 @@ use Rattle.host_node.proofs.Calling.{sending_it, taking_mine, told}
 use Rattle.host_node.proofs.Going.{ran_one}
 use Rattle.host_node.specs.Goes as goes
 use Rattle.host_node.specs.Goes.{Goes}
-use Rattle.host_node.specs.Hosts.{HasJoined, HasNode}
+use Rattle.host_node.specs.Hosts.{HasJoined, HasNode, SameHost}
 use Rattle.host_node.specs.Mail.{HasSaid, IsFrom}
 use Rattle.host_node.specs.declared.host.HostNode.{HostNode}
 use Rattle.host_node.specs.declared.host.Hosted.TheVariants as hosted
@@ -55,7 +55,7 @@ has_won y n after Is free asked =
 
 module _ {B S : Type 0} {H : Type 0} (state : B → S) (M : Machine S) (copied : B → Guest) where
   pub asks : (old new : HostNode B H) (n : code.Node B H) (r : shown.Role) (generation : ℕ) → MayAsk r
-      → old.node ≡ hosted.Node n → new.node ≡ old.node → new.number ≡ old.number → new.mail.came ≡ old.mail.came
+      → old.node ≡ hosted.Node n → new.node ≡ old.node → SameHost old new → new.mail.came ≡ old.mail.came
       → HasSaid (Tells (notice.Suspect generation)) old.mail.gone new.mail.gone
       → ((C : Copying S) (drives : ℕ) (x : Node S) → IsNode state M C drives n x → IsRole x r)
       → ((C : Copying S) (drives : ℕ) (x : Node S) → IsNode state M C drives n x → x.generation ≡ generation)
@@ -68,7 +68,7 @@ module _ {B S : Type 0} {H : Type 0} (state : B → S) (M : Machine S) (copied :
 
   -- the answer: the node asks an arbiter of its own
   pub wins : (old new : HostNode B H) (n m : code.Node B H) (r : shown.Role) (generation : ℕ) (asker : ℕ)
-      (askings after : List Asking) (won : Won) → asker ≡ old.number → MayAsk r → old.node ≡ hosted.Node n → new.node ≡ hosted.Node m → new.number ≡ old.number
+      (askings after : List Asking) (won : Won) → asker ≡ old.number → MayAsk r → old.node ≡ hosted.Node n → new.node ≡ hosted.Node m → SameHost old new
       → new.mail.came ≡ old.mail.came → new.mail.gone ≡ old.mail.gone
       → IsFrom old.mail.came (Tells (notice.Won generation)) → askings ≡ []
       → ((C : Copying S) (drives : ℕ) (x : Node S) → IsNode state M C drives n x → IsRole x r)
@@ -87,7 +87,7 @@ module _ {B S : Type 0} {H : Type 0} (state : B → S) (M : Machine S) (copied :
 
   -- whom nobody else asks, so it has not lost
   pub never_lost : (old new : HostNode B H) (n m : code.Node B H) (r : shown.Role) (asker : ℕ) (askings after : List Asking)
-      (fault : Fault) → fault ≡ Lost → MayAsk r → old.node ≡ hosted.Node n → new.node ≡ hosted.Over → new.number ≡ old.number → new.mail ≡ old.mail → askings ≡ []
+      (fault : Fault) → fault ≡ Lost → MayAsk r → old.node ≡ hosted.Node n → new.node ≡ hosted.Over → SameHost old new → new.mail ≡ old.mail → askings ≡ []
       → ((C : Copying S) (drives : ℕ) (x : Node S) → IsNode state M C drives n x → IsRole x r)
       → ((C : Copying S) (drives : ℕ) (x : Node S) → IsNode state M C drives n x
       → calls.Suspects askings asker x (Err fault) after (IsNode state M C drives m)) → Goes state M copied old new
@@ -96,9 +96,11 @@ module _ {B S : Type 0} {H : Type 0} (state : B → S) (M : Machine S) (copied :
     said = [];
     came = ap (λ p. p.came) mail ∙ sym (append-nil old.mail.came);
     gone = ap (λ p. p.gone) mail ∙ sym (append-nil old.mail.gone);
-    stays = λ joined. (subst (λ h. HasJoined h) (sym is) tt, number);
-    runs = λ C drives me copies numbered x hosted frames brought.
-        (let h = subst (λ h. HasNode state M C drives old.number me h x) was hosted in
+    stays = λ joined. (subst (λ h. HasJoined h) (sym is) tt, number.number);
+    drives = number.drives;
+    runs = λ C me copies numbered x hosted frames brought.
+        (let drives = old.drives in
+        let h = subst (λ h. HasNode state M C drives old.number me h x) was hosted in
         absurd (has_won h.1.y asker after (IsNode state M C drives m) (may_ask h.1.y r may (role_is C drives h.1.y h.1.is)).0
         (subst (λ l. calls.Suspects l asker h.1.y (Err Lost) after (IsNode state M C drives m)) none
         (subst (λ f. calls.Suspects askings asker h.1.y (Err f) after (IsNode state M C drives m)) lost
@@ -107,7 +109,7 @@ module _ {B S : Type 0} {H : Type 0} (state : B → S) (M : Machine S) (copied :
 
   -- it has lost: the node halts, and is kept no longer
   pub loses : (old new : HostNode B H) (n m : code.Node B H) (generation : ℕ) → old.node ≡ hosted.Node n
-      → new.node ≡ hosted.Over → new.number ≡ old.number → new.mail ≡ old.mail
+      → new.node ≡ hosted.Over → SameHost old new → new.mail ≡ old.mail
       → IsFrom old.mail.came (Tells (notice.Lost generation))
       → ((C : Copying S) (drives : ℕ) (x : Node S) → IsNode state M C drives n x → x.generation ≡ generation)
       → ((C : Copying S) (drives : ℕ) (x : Node S) → IsNode state M C drives n x
@@ -117,9 +119,11 @@ module _ {B S : Type 0} {H : Type 0} (state : B → S) (M : Machine S) (copied :
     said = [];
     came = ap (λ p. p.came) mail ∙ sym (append-nil old.mail.came);
     gone = ap (λ p. p.gone) mail ∙ sym (append-nil old.mail.gone);
-    stays = λ joined. (subst (λ h. HasJoined h) (sym is) tt, number);
-    runs = λ C drives me copies numbered x hosted frames brought.
-        (let h = subst (λ h. HasNode state M C drives old.number me h x) was hosted in
+    stays = λ joined. (subst (λ h. HasJoined h) (sym is) tt, number.number);
+    drives = number.drives;
+    runs = λ C me copies numbered x hosted frames brought.
+        (let drives = old.drives in
+        let h = subst (λ h. HasNode state M C drives old.number me h x) was hosted in
         let y = h.1.y in
         let e = generation_is C drives y h.1.is in
         let t = told drives me new.mail.came frames (Tells (notice.Lost generation))

@@ -13,10 +13,10 @@ use Rattle.host_frames.specs.Meaning as meaning
 use Rattle.host_law.specs.Frame.{Act, Came, Frame, quiet, sending, taking}
 use Rattle.host_law.specs.Host.{HostStep}
 use Rattle.host_node.proofs.Going.{ran_one}
-use Rattle.host_node.proofs.Roles.{never_spare}
+use Rattle.host_node.proofs.Roles.{keeps_reads, never_spare}
 use Rattle.host_node.specs.Goes as goes
 use Rattle.host_node.specs.Goes.{AllBring, Goes, RunsTo, Says}
-use Rattle.host_node.specs.Hosts.{HasJoined, HasNode, Stands}
+use Rattle.host_node.specs.Hosts.{HasJoined, HasNode, SameHost, Stands}
 use Rattle.host_node.specs.Mail.{HasSaid, IsFrom}
 use Rattle.host_node.specs.declared.host.HostNode.{HostNode}
 use Rattle.host_node.specs.declared.host.Hosted.TheVariants as hosted
@@ -47,34 +47,37 @@ module _ {B S : Type 0} {H : Type 0} (state : B → S) (M : Machine S) (copied :
       → AllBring drives me new.mail.came frames → Called C drives me m y frames said
 
   pub calls_once : (old new : HostNode B H) (n m : code.Node B H) (heard said : List (List ℕ)) → old.node ≡ hosted.Node n
-      → new.node ≡ hosted.Node m → new.number ≡ old.number → new.mail.came ≡ old.mail.came ++ heard
+      → new.node ≡ hosted.Node m → SameHost old new → new.mail.came ≡ old.mail.came ++ heard
       → new.mail.gone ≡ old.mail.gone ++ said → IsCalled new n m said → Goes state M copied old new
   calls_once old new n m heard said was is number came gone call = record {
     heard = heard;
     said = said;
     came = came;
     gone = gone;
-    stays = λ joined. (subst (λ h. HasJoined h) (sym is) tt, number);
-    runs = λ C drives me copies numbered x hosted frames brought.
-        (let h = subst (λ h. HasNode state M C drives old.number me h x) was hosted in
-        let made = call C drives me copies (number ∙ h.0) h.1.y h.1.other h.1.is frames brought in
+    stays = λ joined. (subst (λ h. HasJoined h) (sym is) tt, number.number);
+    drives = number.drives;
+    runs = λ C me copies numbered x hosted frames brought.
+        (let drives = old.drives in
+        let h = subst (λ h. HasNode state M C drives old.number me h x) was hosted in
+        let made = call C drives me copies (number.number ∙ h.0) h.1.y h.1.other h.1.is frames brought in
         let l = steps-follow M C me x h.1.y made.made.y made.act h.1.follows made.made.step in
         record {
           y = l.next;
           ran = ran_one M C drives me x l.next frames made.act said l.step made.came made.says;
           is = subst (λ h. HasNode state M C drives new.number me h l.next) (sym is)
-              (number ∙ h.0, record {
+              (number.number ∙ h.0, record {
                 y = made.made.y;
                 follows = l.follows;
                 is = made.made.is;
                 other = never_spare M C me h.1.y made.made.y made.act made.made.step h.1.other;
+                reads = keeps_reads M C me h.1.y made.made.y made.act made.made.step h.1.other ∙ h.1.reads;
               });
         });
   }
 
   -- a call with no frame
   pub quietly : (old new : HostNode B H) (n m : code.Node B H) → old.node ≡ hosted.Node n → new.node ≡ hosted.Node m
-      → new.number ≡ old.number → new.mail.came ≡ old.mail.came → new.mail.gone ≡ old.mail.gone
+      → SameHost old new → new.mail.came ≡ old.mail.came → new.mail.gone ≡ old.mail.gone
       → ((C : Copying S) (drives me : ℕ) → CopiesAs state copied drives C.parts C.part_count C.assemble → (y : Node S)
       → y.role ≢ Spare → IsNode state M C drives n y → Made M C me y quiet (IsNode state M C drives m))
       → Goes state M copied old new
@@ -89,7 +92,7 @@ module _ {B S : Type 0} {H : Type 0} (state : B → S) (M : Machine S) (copied :
 
   -- a call that takes a frame that came
   pub taking_mine : (old new : HostNode B H) (n m : code.Node B H) (said : Said) → old.node ≡ hosted.Node n
-      → new.node ≡ hosted.Node m → new.number ≡ old.number → new.mail.came ≡ old.mail.came → new.mail.gone ≡ old.mail.gone
+      → new.node ≡ hosted.Node m → SameHost old new → new.mail.came ≡ old.mail.came → new.mail.gone ≡ old.mail.gone
       → IsFrom old.mail.came said
       → ((C : Copying S) (drives me : ℕ) → CopiesAs state copied drives C.parts C.part_count C.assemble → old.number ≡ me
       → (y : Node S) → y.role ≢ Spare → IsNode state M C drives n y → (frames : List Frame) → IsTold drives me said frames
@@ -99,12 +102,12 @@ module _ {B S : Type 0} {H : Type 0} (state : B → S) (M : Machine S) (copied :
       calls_once old new n m [] [] was is number (came ∙ sym (append-nil old.mail.came)) (gone ∙ sym (append-nil old.mail.gone))
       (λ C drives me copies mine y other node frames brought.
       (let t = told drives me new.mail.came frames said (subst (λ l. IsFrom l said) (sym came) from) brought in
-      let c = call C drives me copies (sym number ∙ mine) y other node frames t in
+      let c = call C drives me copies (sym number.number ∙ mine) y other node frames t in
       record { act = taking c.0; made = c.2; came = (c.1, tt); says = goes.Nothing }))
 
   -- the same of a call that does not look at the host's number
   pub taking_it : (old new : HostNode B H) (n m : code.Node B H) (said : Said) → old.node ≡ hosted.Node n
-      → new.node ≡ hosted.Node m → new.number ≡ old.number → new.mail.came ≡ old.mail.came → new.mail.gone ≡ old.mail.gone
+      → new.node ≡ hosted.Node m → SameHost old new → new.mail.came ≡ old.mail.came → new.mail.gone ≡ old.mail.gone
       → IsFrom old.mail.came said
       → ((C : Copying S) (drives me : ℕ) → CopiesAs state copied drives C.parts C.part_count C.assemble → (y : Node S)
       → y.role ≢ Spare → IsNode state M C drives n y → (frames : List Frame) → IsTold drives me said frames
@@ -116,7 +119,7 @@ module _ {B S : Type 0} {H : Type 0} (state : B → S) (M : Machine S) (copied :
 
   -- a call that leaves the node as it is, and whose answer is sent
   pub sending_it : (old new : HostNode B H) (n : code.Node B H) (said : Said) → old.node ≡ hosted.Node n
-      → new.node ≡ old.node → new.number ≡ old.number → new.mail.came ≡ old.mail.came
+      → new.node ≡ old.node → SameHost old new → new.mail.came ≡ old.mail.came
       → HasSaid said old.mail.gone new.mail.gone → is_report said ≡ false
       → ((C : Copying S) (drives me : ℕ) → CopiesAs state copied drives C.parts C.part_count C.assemble → (y : Node S)
       → y.role ≢ Spare → IsNode state M C drives n y
@@ -134,7 +137,7 @@ module _ {B S : Type 0} {H : Type 0} (state : B → S) (M : Machine S) (copied :
       }))
 
   -- a frame that means nothing is sent
-  pub saying : (old new : HostNode B H) (said : Said) → new.node ≡ old.node → new.number ≡ old.number
+  pub saying : (old new : HostNode B H) (said : Said) → new.node ≡ old.node → SameHost old new
       → new.mail.came ≡ old.mail.came → HasSaid said old.mail.gone new.mail.gone
       → ((drives me : ℕ) → Speaks drives me said []) → Goes state M copied old new
   saying old new said same number came went speaks = record {
@@ -142,15 +145,16 @@ module _ {B S : Type 0} {H : Type 0} (state : B → S) (M : Machine S) (copied :
     said = went.bytes ∷ [];
     came = came ∙ sym (append-nil old.mail.came);
     gone = went.gone;
-    stays = λ joined. (subst (λ h. HasJoined h) (sym same) joined, number);
-    runs = λ C drives me copies numbered x hosted frames brought. record {
+    stays = λ joined. (subst (λ h. HasJoined h) (sym same) joined, number.number);
+    drives = number.drives;
+    runs = λ C me copies numbered x hosted frames brought. record {
       y = x;
       ran = record {
         acts = [];
         run = Rattle.host_law.specs.Host.Rests;
         came = tt;
-        says = goes.Then went.bytes said [] went.spells (speaks drives me) goes.Nothing;
+        says = goes.Then went.bytes said [] went.spells (speaks old.drives me) goes.Nothing;
       };
-      is = rw same (rw number hosted);
+      is = rw same (rw number.number hosted);
     };
   }

@@ -10,7 +10,7 @@ use Rattle.host_law.specs.Host as host
 use Rattle.host_law.specs.Host.{HostRun, HostStep}
 use Rattle.host_node.specs.Goes as goes
 use Rattle.host_node.specs.Goes.{AllBring, Goes, Ran, RunsTo, Says}
-use Rattle.host_node.specs.Hosts.{HasJoined, IsHosted, IsNumber}
+use Rattle.host_node.specs.Hosts.{HasJoined, IsHosted, IsNumber, SameHost}
 use Rattle.host_node.specs.Mail.{HasSaid, IsFrom}
 use Rattle.host_node.specs.declared.host.HostNode.{HostNode}
 use Rattle.pair_protocol.specs.Copying.{Copying}
@@ -94,40 +94,41 @@ module _ {S : Type 0} (M : Machine S) (C : Copying S) (drives me : ℕ) where
 
 module _ {B S : Type 0} {H : Type 0} (state : B → S) (M : Machine S) (copied : B → Guest) where
   -- nothing was called
-  pub nothing_yet : (old new : HostNode B H) (heard : List (List ℕ)) → new.node ≡ old.node → new.number ≡ old.number
+  pub nothing_yet : (old new : HostNode B H) (heard : List (List ℕ)) → new.node ≡ old.node → SameHost old new
       → new.mail.came ≡ old.mail.came ++ heard → new.mail.gone ≡ old.mail.gone → Goes state M copied old new
   nothing_yet old new heard node number came gone = record {
     heard = heard;
     said = [];
     came = came;
     gone = gone ∙ sym (append-nil old.mail.gone);
-    stays = λ joined. (subst (λ n. HasJoined n) (sym node) joined, number);
-    runs = λ C drives me copies is x hosted frames brought. record {
+    stays = λ joined. (subst (λ n. HasJoined n) (sym node) joined, number.number);
+    drives = number.drives;
+    runs = λ C me copies is x hosted frames brought. record {
       y = x;
-      ran = ran_none M C drives me x frames;
-      is = rw node (rw number hosted);
+      ran = ran_none M C old.drives me x frames;
+      is = rw node (rw number.number hosted);
     };
   }
 
   -- nothing changed, or nothing that is promised
-  pub stays : (old new : HostNode B H) → new.node ≡ old.node → new.number ≡ old.number → new.mail ≡ old.mail
+  pub stays : (old new : HostNode B H) → new.node ≡ old.node → SameHost old new → new.mail ≡ old.mail
       → Goes state M copied old new
   stays old new node number mail =
       nothing_yet old new [] node number
       (ap (λ p. p.came) mail ∙ sym (append-nil old.mail.came)) (ap (λ p. p.gone) mail)
 
   -- only the ring was looked at
-  pub looked : (old new : HostNode B H) → new.node ≡ old.node → new.number ≡ old.number
+  pub looked : (old new : HostNode B H) → new.node ≡ old.node → SameHost old new
       → new.mail.came ≡ old.mail.came → new.mail.gone ≡ old.mail.gone → Goes state M copied old new
   looked old new node number came gone =
       nothing_yet old new [] node number (came ∙ sym (append-nil old.mail.came)) gone
 
   -- no body came, or one came that says nothing
-  pub heard_none : (old new : HostNode B H) → new.node ≡ old.node → new.number ≡ old.number
+  pub heard_none : (old new : HostNode B H) → new.node ≡ old.node → SameHost old new
       → new.mail.came ≡ old.mail.came → new.mail.gone ≡ old.mail.gone → Goes state M copied old new
   heard_none old new node number came gone = looked old new node number came gone
 
-  pub heard_one : (old new : HostNode B H) (body : List ℕ) → new.node ≡ old.node → new.number ≡ old.number
+  pub heard_one : (old new : HostNode B H) (body : List ℕ) → new.node ≡ old.node → SameHost old new
       → new.mail.came ≡ old.mail.came ++ body ∷ [] → new.mail.gone ≡ old.mail.gone → Goes state M copied old new
   heard_one old new body node number came gone = nothing_yet old new (body ∷ []) node number came gone
 
@@ -138,14 +139,18 @@ module _ {B S : Type 0} {H : Type 0} (state : B → S) (M : Machine S) (copied :
     came = q.came ∙ ap (λ l. l ++ q.heard) p.came ∙ append_assoc a.mail.came p.heard q.heard;
     gone = q.gone ∙ ap (λ l. l ++ q.said) p.gone ∙ append_assoc a.mail.gone p.said q.said;
     stays = λ joined. (let s = p.stays joined in let t = q.stays s.0 in (t.0, t.1 ∙ s.1));
-    runs = λ C drives me copies is x hosted frames brought.
-        (let first = p.runs C drives me copies (λ joined. (let t = q.stays joined in sym t.1 ∙ is t.0)) x hosted frames
+    drives = q.drives ∙ p.drives;
+    runs = λ C me copies is x hosted frames brought.
+        (let first = p.runs C me copies (λ joined. (let t = q.stays joined in sym t.1 ∙ is t.0)) x hosted frames
             (λ body among. brought body (subst (λ l. Among body l) (sym q.came)
             (among_before body b.mail.came q.heard among))) in
-        let then = q.runs C drives me copies is first.y first.is frames brought in
+        let then = subst (λ d. CopiesAs state copied d C.parts C.part_count C.assemble
+            → IsHosted state M C d me b first.y → AllBring d me c.mail.came frames
+            → RunsTo state M C d me first.y frames q.said c) p.drives
+            (λ copies hosted brought. q.runs C me copies is first.y hosted frames brought) copies first.is brought in
         record {
           y = then.y;
-          ran = ran_both M C drives me x first.y then.y frames p.said q.said first.ran then.ran;
+          ran = ran_both M C a.drives me x first.y then.y frames p.said q.said first.ran then.ran;
           is = then.is;
         });
   }

@@ -8,3 +8,4 @@ pub mod Indexes
 pub mod Packets
 pub mod Sent
 pub mod Asked
+pub mod Begun

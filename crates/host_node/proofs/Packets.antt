@@ -18,6 +18,7 @@ use Rattle.host_law.specs.Frame as law
 use Rattle.host_law.specs.Frame.{taking}
 use Rattle.host_node.proofs.Calling.{taking_it}
 use Rattle.host_node.specs.Goes.{Goes}
+use Rattle.host_node.specs.Hosts.{SameHost}
 use Rattle.host_node.specs.Mail.{IsFrom}
 use Rattle.host_node.specs.declared.host.HostNode.{HostNode}
 use Rattle.host_node.specs.declared.host.Hosted.TheVariants as hosted
@@ -63,7 +64,7 @@ module _ {B S : Type 0} {H : Type 0} (state : B → S) (M : Machine S) (copied :
       (are-steps M C me y other (IsNode state M C drives m)).on_log generation index e next call))
 
   pub on_log : (old new : HostNode B H) (n m : code.Node B H) (place : ℕ) (bytes : List ℕ) (next : Bool)
-      → old.node ≡ hosted.Node n → new.node ≡ hosted.Node m → new.number ≡ old.number → new.mail ≡ old.mail
+      → old.node ≡ hosted.Node n → new.node ≡ hosted.Node m → SameHost old new → new.mail ≡ old.mail
       → IsFrom old.mail.came (Packet place bytes) → IsBytes bytes
       → ((C : Copying S) (drives : ℕ) (x : Node S) → IsNode state M C drives n x
       → calls.DeliversLog calls.NeedsRoom (packet_at bytes) x (Ok next) (IsNode state M C drives m))
@@ -89,7 +90,7 @@ module _ {B S : Type 0} {H : Type 0} (state : B → S) (M : Machine S) (copied :
       (are-steps M C me y other (IsNode state M C drives m)).on_ack generation held replayed covered call))
 
   pub on_ack : (old new : HostNode B H) (n m : code.Node B H) (place : ℕ) (bytes : List ℕ) (covered : ℕ)
-      → old.node ≡ hosted.Node n → new.node ≡ hosted.Node m → new.number ≡ old.number → new.mail ≡ old.mail
+      → old.node ≡ hosted.Node n → new.node ≡ hosted.Node m → SameHost old new → new.mail ≡ old.mail
       → IsFrom old.mail.came (Packet place bytes) → IsBytes bytes
       → ((C : Copying S) (drives : ℕ) (x : Node S) → IsNode state M C drives n x
       → calls.DeliversAcknowledgement (packet_at bytes) x (Ok covered) (IsNode state M C drives m))
@@ -114,7 +115,7 @@ module _ {B S : Type 0} {H : Type 0} (state : B → S) (M : Machine S) (copied :
       (are-steps M C me y other (IsNode state M C drives m)).part p came call))
 
   pub on_part : (old new : HostNode B H) (n m : code.Node B H) (place : ℕ) (bytes : List ℕ) (came : PartCame)
-      → old.node ≡ hosted.Node n → new.node ≡ hosted.Node m → new.number ≡ old.number → new.mail ≡ old.mail
+      → old.node ≡ hosted.Node n → new.node ≡ hosted.Node m → SameHost old new → new.mail ≡ old.mail
       → IsFrom old.mail.came (Packet place bytes) → IsBytes bytes
       → ((C : Copying S) (drives : ℕ) (x : Node S) → CopiesAs state copied drives C.parts C.part_count C.assemble
       → IsNode state M C drives n x → calls.GetsPart C (message_at drives bytes) x (Ok came) (IsNode state M C drives m))

@@ -120,3 +120,97 @@ never_spare M C me x y act (host.SendsPart index part p q) other = other
 never_spare M C me x y act (host.TakesPart generation index part r z p q) other = got C index part x y r q other
 never_spare M C me x y act (host.Drops frame) other = other
 never_spare M C me x y act (host.Strays same alone stray) other = other
+
+-- ---- and its log carries sectors as it did
+
+module _ {S : Type 0} (M : Machine S) where
+  reads_stepped : (x : Node S) (r : Role) (s : S) (gives : Option Operation) → (stepped M x r s gives).reads ≡ x.reads
+  reads_stepped x Primary s gives = refl
+  reads_stepped x Alone s gives = refl
+  reads_stepped x Backup s gives = refl
+  reads_stepped x Joining s gives = refl
+  reads_stepped x Draining s gives = refl
+  reads_stepped x Spare s gives = refl
+
+  reads_took : (x : Node S) (r : Role) (s : S) (i : Input) → (took M x r s i).reads ≡ x.reads
+  reads_took x Primary s i = refl
+  reads_took x Alone s i = refl
+  reads_took x Backup s i = refl
+  reads_took x Joining s i = refl
+  reads_took x Draining s i = refl
+  reads_took x Spare s i = refl
+
+  reads_advances : (x y : Node S) (turns made : ℕ) (why : StopReason) → Advances M x turns y made why → y.reads ≡ x.reads
+  reads_advances x y turns made why effect.NoneLeft = refl
+  reads_advances x y turns made why (effect.Ends spent) = refl
+  reads_advances x y turns made why (effect.Waits a b) = refl
+  reads_advances x y turns made why (effect.Short a b) = refl
+  reads_advances x y turns made why (effect.Gives s o step) = reads_stepped x x.role s (Some o)
+  reads_advances x y turns made why (effect.Goes {turns = fewer} {made = less} s step more) =
+      reads_advances (stepped M x x.role s None) y fewer less why more ∙ reads_stepped x x.role s None
+
+  reads_replays : (x y : Node S) (turns made : ℕ) → Replays M x turns y made → y.reads ≡ x.reads
+  reads_replays x y turns made effect.NoTurns = refl
+  reads_replays x y turns made (effect.AtEnd a) = refl
+  reads_replays x y turns made (effect.AwaitsBytes a) = refl
+  reads_replays x y turns made (effect.NoMemory a) = refl
+  reads_replays x y turns made (effect.OneStep {turns = fewer} {made = less} e s gives a b c more) =
+      reads_replays (Rattle.pair_protocol.specs.Node.plainly_steps x s) y fewer less more
+  reads_replays x y turns made (effect.OneMark {turns = fewer} {made = less} e a b c more) =
+      reads_replays (Rattle.pair_protocol.specs.Node.passes_mark x) y fewer less more
+  reads_replays x y turns made (effect.OneInput {turns = fewer} {made = less} e i s a b c d more) =
+      reads_replays (Rattle.pair_protocol.specs.Node.passes_input x s) y fewer less more
+  reads_replays x y turns made (effect.OneRead {turns = fewer} {made = less} drive sector number bytes s a b c more) =
+      reads_replays (Rattle.pair_protocol.specs.Node.passes_read x s) y fewer less more
+
+reads_drained : {S : Type 0} (z : Node S) (why : ReplayEnd) → (after_drain z why).reads ≡ z.reads
+reads_drained z end.Turns = refl
+reads_drained z end.End = refl
+reads_drained z end.Wait = refl
+reads_drained z end.Memory = refl
+
+reads_held : {S : Type 0} (x y : Node S) (index : ℕ) (e : Entry) (next : Bool) → Held index e next x y → y.reads ≡ x.reads
+reads_held x y index e true p = ap (λ z. z.reads) p.1
+reads_held x y index e false p = ap (λ z. z.reads) p.1
+
+reads_got : {S : Type 0} (C : Copying S) (index : ℕ) (part : List ℕ) (x y : Node S) (r : Reply) → GotPart C index part x r y
+    → y.reads ≡ x.reads
+reads_got C index part x y r (effect.Again a) = refl
+reads_got C index part x y r (effect.Comes a b) = refl
+reads_got C index part x y r (effect.Completes parts s a b c) = refl
+
+pub keeps_reads : {S : Type 0} (M : Machine S) (C : Copying S) (me : ℕ) (x y : Node S) (act : Act) → HostStep M C me x act y
+    → x.role ≢ Spare → y.reads ≡ x.reads
+keeps_reads M C me x y act (host.Steps turns made count why z p q) other = reads_advances M x y turns made why q.advances
+keeps_reads M C me x y act (host.Replays turns made why z p q) other = reads_replays M x y turns made q.moves
+keeps_reads M C me x y act (host.Drains turns made why z p q) other =
+    ap (λ n. n.reads) q.after ∙ reads_drained q.z why ∙ reads_replays M x q.z turns made q.replayed.moves
+keeps_reads M C me x y act (host.Freshens p) other = refl
+keeps_reads M C me x y act (host.Stops z p q) other = ap (λ n. n.reads) q
+keeps_reads M C me x y act (host.TakesKey port index byte z p q) other =
+    ap (λ n. n.reads) q.after ∙ reads_took M x x.role q.s _
+keeps_reads M C me x y act (host.TakesAcceptance port number count z p a b q) other =
+    ap (λ n. n.reads) q.after ∙ reads_took M x x.role q.s _
+keeps_reads M C me x y act (host.TakesDone number z p q) other =
+    ap (λ n. n.reads) q.after ∙ reads_took M x x.role q.s _
+keeps_reads M C me x y act (host.TakesSector address number bytes z p q) other =
+    ap (λ n. n.reads) q.after ∙ reads_took M x x.role q.s _
+keeps_reads M C me x y act (host.TakesRead address number bytes z p q) other = ap (λ n. n.reads) q
+keeps_reads M C me x y act (host.AsksUnder sector address p q) other = refl
+keeps_reads M C me x y act (host.AsksWanted address p q) other = refl
+keeps_reads M C me x y act (host.SendsEntry index e p q) other = refl
+keeps_reads M C me x y act (host.TakesEntry generation index e next z p q) other = reads_held x y index e next q
+keeps_reads M C me x y act (host.Acknowledges number replayed p q) other = refl
+keeps_reads M C me x y act (host.TakesAcknowledgement generation number replayed covered z p q) other =
+    ap (λ n. n.reads) q.1
+keeps_reads M C me x y act (host.Releases name o p q r) other = refl
+keeps_reads M C me x y act (host.Tells port keys p q r) other = refl
+keeps_reads M C me x y act (host.Asks p) other = refl
+keeps_reads M C me x y act (host.Wins p q) other = refl
+keeps_reads M C me x y act (host.Loses z p q) other = ap (λ n. n.reads) q
+keeps_reads M C me x y act (host.BeginsPair p) other = refl
+keeps_reads M C me x y act (host.Joins count reads list p) other = absurd (other p)
+keeps_reads M C me x y act (host.SendsPart index part p q) other = refl
+keeps_reads M C me x y act (host.TakesPart generation index part r z p q) other = reads_got C index part x y r q
+keeps_reads M C me x y act (host.Drops frame) other = refl
+keeps_reads M C me x y act (host.Strays same alone stray) other = refl

@@ -29,6 +29,7 @@ use Rattle.host_law.specs.Host as host
 use Rattle.host_law.specs.Host.{HostStep, Passes}
 use Rattle.host_node.proofs.Calling.{sending_it}
 use Rattle.host_node.specs.Goes.{Goes}
+use Rattle.host_node.specs.Hosts.{SameHost}
 use Rattle.host_node.specs.Mail.{HasSaid}
 use Rattle.host_node.specs.declared.host.HostNode.{HostNode}
 use Rattle.host_node.specs.declared.host.Hosted.TheVariants as hosted
@@ -108,7 +109,7 @@ module _ {S : Type 0} (M : Machine S) (C : Copying S) (drives me : ℕ) (y : Nod
 
 module _ {B S : Type 0} {H : Type 0} (state : B → S) (M : Machine S) (copied : B → Guest) where
   pub entry : (old new : HostNode B H) (n : code.Node B H) (place index : ℕ) (bytes : Vec ℕ) → old.node ≡ hosted.Node n
-      → new.node ≡ old.node → new.number ≡ old.number → new.mail.came ≡ old.mail.came
+      → new.node ≡ old.node → SameHost old new → new.mail.came ≡ old.mail.came
       → HasSaid (Packet place bytes.items) old.mail.gone new.mail.gone
       → ((C : Copying S) (drives : ℕ) (x : Node S) → IsNode state M C drives n x → calls.Sends index x (Ok bytes))
       → Goes state M copied old new
@@ -117,7 +118,7 @@ module _ {B S : Type 0} {H : Type 0} (state : B → S) (M : Machine S) (copied :
       (λ C drives me copies y other node. sends_entry M C drives me y other place index bytes (call C drives y node))
 
   pub ack : (old new : HostNode B H) (n : code.Node B H) (place : ℕ) (bytes : Vec ℕ) → old.node ≡ hosted.Node n
-      → new.node ≡ old.node → new.number ≡ old.number → new.mail.came ≡ old.mail.came
+      → new.node ≡ old.node → SameHost old new → new.mail.came ≡ old.mail.came
       → HasSaid (Packet place bytes.items) old.mail.gone new.mail.gone
       → ((C : Copying S) (drives : ℕ) (x : Node S) → IsNode state M C drives n x → calls.Acknowledges x (Ok bytes))
       → Goes state M copied old new
@@ -126,7 +127,7 @@ module _ {B S : Type 0} {H : Type 0} (state : B → S) (M : Machine S) (copied :
       (λ C drives me copies y other node. sends_ack M C drives me y other place bytes (call C drives y node))
 
   pub part : (old new : HostNode B H) (n : code.Node B H) (place index : ℕ) (bytes : Vec ℕ) → index < 2 ^ 16
-      → old.node ≡ hosted.Node n → new.node ≡ old.node → new.number ≡ old.number → new.mail.came ≡ old.mail.came
+      → old.node ≡ hosted.Node n → new.node ≡ old.node → SameHost old new → new.mail.came ≡ old.mail.came
       → HasSaid (Packet place bytes.items) old.mail.gone new.mail.gone
       → ((C : Copying S) (drives : ℕ) (x : Node S) → IsNode state M C drives n x → calls.SendsPart C index x (Ok bytes))
       → Goes state M copied old new
@@ -135,7 +136,7 @@ module _ {B S : Type 0} {H : Type 0} (state : B → S) (M : Machine S) (copied :
       (λ C drives me copies y other node. sends_part M C drives me y other place index bytes few (call C drives y node))
 
   pub byte_out : (old new : HostNode B H) (n : code.Node B H) (id : OpId) (port number byte : ℕ) → host.HasPort id
-      → old.node ≡ hosted.Node n → new.node ≡ old.node → new.number ≡ old.number → new.mail.came ≡ old.mail.came
+      → old.node ≡ hosted.Node n → new.node ≡ old.node → SameHost old new → new.mail.came ≡ old.mail.came
       → HasSaid (Transfers (Byte port number byte)) old.mail.gone new.mail.gone
       → ((C : Copying S) (drives : ℕ) (x : Node S) → IsNode state M C drives n x
       → calls.Releases M id x (Ok (operation.Byte port number byte))) → Goes state M copied old new
@@ -144,7 +145,7 @@ module _ {B S : Type 0} {H : Type 0} (state : B → S) (M : Machine S) (copied :
       (λ C drives me copies y other node. sends_byte M C drives me y other id port number byte has (call C drives y node))
 
   pub write_out : (old new : HostNode B H) (n : code.Node B H) (id : OpId) (w : SectorWrite) → host.HasPort id
-      → old.node ≡ hosted.Node n → new.node ≡ old.node → new.number ≡ old.number → new.mail.came ≡ old.mail.came
+      → old.node ≡ hosted.Node n → new.node ≡ old.node → SameHost old new → new.mail.came ≡ old.mail.came
       → HasSaid (Transfers (Write w)) old.mail.gone new.mail.gone
       → ((C : Copying S) (drives : ℕ) (x : Node S) → IsNode state M C drives n x
       → calls.Releases M id x (Ok (operation.Write w))) → Goes state M copied old new
@@ -153,7 +154,7 @@ module _ {B S : Type 0} {H : Type 0} (state : B → S) (M : Machine S) (copied :
       (λ C drives me copies y other node. sends_write M C drives me y other id w has (call C drives y node))
 
   pub place : (old new : HostNode B H) (n : code.Node B H) (sector : ℕ) (address : SectorAddress) → old.node ≡ hosted.Node n
-      → new.node ≡ old.node → new.number ≡ old.number → new.mail.came ≡ old.mail.came
+      → new.node ≡ old.node → SameHost old new → new.mail.came ≡ old.mail.came
       → HasSaid (Transfers (Get address)) old.mail.gone new.mail.gone
       → ((C : Copying S) (drives : ℕ) (x : Node S) → IsNode state M C drives n x → calls.Gets M sector x (Ok address))
       → Goes state M copied old new
@@ -162,7 +163,7 @@ module _ {B S : Type 0} {H : Type 0} (state : B → S) (M : Machine S) (copied :
       (λ C drives me copies y other node. sends_place M C drives me y other sector address (call C drives y node))
 
   pub wanted : (old new : HostNode B H) (n : code.Node B H) (address : SectorAddress) → old.node ≡ hosted.Node n
-      → new.node ≡ old.node → new.number ≡ old.number → new.mail.came ≡ old.mail.came
+      → new.node ≡ old.node → SameHost old new → new.mail.came ≡ old.mail.came
       → HasSaid (Transfers (Get address)) old.mail.gone new.mail.gone
       → ((C : Copying S) (drives : ℕ) (x : Node S) → IsNode state M C drives n x → calls.Wanted M x (Ok address))
       → Goes state M copied old new

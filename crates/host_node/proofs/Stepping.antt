@@ -15,6 +15,7 @@ use Rattle.host_node.proofs.Calling.{quietly}
 use Rattle.host_node.proofs.Going.{stays}
 use Rattle.i8080_words.specs.declared.refusal.Fault.{Fault}
 use Rattle.host_node.specs.Goes.{Goes}
+use Rattle.host_node.specs.Hosts.{SameHost}
 use Rattle.host_node.specs.declared.host.HostNode.{HostNode}
 use Rattle.host_node.specs.declared.host.Hosted.TheVariants as hosted
 use Rattle.pair_protocol.specs.Copying.{Copying}
@@ -23,7 +24,7 @@ use Rattle.replayer.specs.declared.replayer.Replayed.{Replayed}
 
 module _ {B S : Type 0} {H : Type 0} (state : B → S) (M : Machine S) (copied : B → Guest) where
   pub steps : (old new : HostNode B H) (n m : code.Node B H) (turns : ℕ) (r : Result Ran Fault) → old.node ≡ hosted.Node n
-      → new.node ≡ hosted.Node m → new.number ≡ old.number → new.mail ≡ old.mail → OnErr r (m ≡ n)
+      → new.node ≡ hosted.Node m → SameHost old new → new.mail ≡ old.mail → OnErr r (m ≡ n)
       → ((C : Copying S) (drives : ℕ) (x : Node S) → IsNode state M C drives n x
       → checked.Steps M turns x r (IsNode state M C drives m)) → Goes state M copied old new
   steps old new n m turns (Ok value) was is number mail same call =
@@ -34,7 +35,7 @@ module _ {B S : Type 0} {H : Type 0} (state : B → S) (M : Machine S) (copied :
       stays state M copied old new (is ∙ ap (λ n. hosted.Node n) same ∙ sym was) number mail
 
   pub replays : (old new : HostNode B H) (n m : code.Node B H) (turns : ℕ) (r : Result Replayed Fault) → old.node ≡ hosted.Node n
-      → new.node ≡ hosted.Node m → new.number ≡ old.number → new.mail ≡ old.mail → OnErr r (m ≡ n)
+      → new.node ≡ hosted.Node m → SameHost old new → new.mail ≡ old.mail → OnErr r (m ≡ n)
       → ((C : Copying S) (drives : ℕ) (x : Node S) → IsNode state M C drives n x
       → checked.Replays M turns x r (IsNode state M C drives m)) → Goes state M copied old new
   replays old new n m turns (Ok value) was is number mail same call =
@@ -45,7 +46,7 @@ module _ {B S : Type 0} {H : Type 0} (state : B → S) (M : Machine S) (copied :
       stays state M copied old new (is ∙ ap (λ n. hosted.Node n) same ∙ sym was) number mail
 
   pub drains : (old new : HostNode B H) (n m : code.Node B H) (turns : ℕ) (r : Result Drained Fault) → old.node ≡ hosted.Node n
-      → new.node ≡ hosted.Node m → new.number ≡ old.number → new.mail ≡ old.mail → OnErr r (m ≡ n)
+      → new.node ≡ hosted.Node m → SameHost old new → new.mail ≡ old.mail → OnErr r (m ≡ n)
       → ((C : Copying S) (drives : ℕ) (x : Node S) → IsNode state M C drives n x
       → checked.Drains M turns x r (IsNode state M C drives m)) → Goes state M copied old new
   drains old new n m turns (Ok value) was is number mail same call =
@@ -56,7 +57,7 @@ module _ {B S : Type 0} {H : Type 0} (state : B → S) (M : Machine S) (copied :
       stays state M copied old new (is ∙ ap (λ n. hosted.Node n) same ∙ sym was) number mail
 
   pub freshens : (old new : HostNode B H) (n m : code.Node B H) (r : Result ℕ Fault) → old.node ≡ hosted.Node n
-      → new.node ≡ hosted.Node m → new.number ≡ old.number → new.mail ≡ old.mail → OnErr r (m ≡ n)
+      → new.node ≡ hosted.Node m → SameHost old new → new.mail ≡ old.mail → OnErr r (m ≡ n)
       → ((C : Copying S) (drives : ℕ) (x : Node S) → IsNode state M C drives n x
       → calls.Freshens x r (IsNode state M C drives m)) → Goes state M copied old new
   freshens old new n m (Ok value) was is number mail same call =

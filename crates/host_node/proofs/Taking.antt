@@ -19,6 +19,7 @@ use Rattle.host_frames.specs.declared.frame.Transfer.TheVariants.{Accepted, Key,
 use Rattle.host_law.specs.Frame as law
 use Rattle.host_node.proofs.Calling.{taking_it}
 use Rattle.host_node.specs.Goes.{Goes}
+use Rattle.host_node.specs.Hosts.{SameHost}
 use Rattle.host_node.specs.Mail.{IsFrom}
 use Rattle.host_node.specs.declared.host.HostNode.{HostNode}
 use Rattle.host_node.specs.declared.host.Hosted.TheVariants as hosted
@@ -34,7 +35,7 @@ use Rattle.shared_disk.specs.declared.disk.SectorRead.{SectorRead}
 module _ {B S : Type 0} {H : Type 0} (state : B → S) (M : Machine S) (copied : B → Guest) where
   -- a key, the acceptance of a byte, the completion of a write
   pub key : (old new : HostNode B H) (n m : code.Node B H) (port index byte : ℕ) → old.node ≡ hosted.Node n
-      → new.node ≡ hosted.Node m → new.number ≡ old.number → new.mail.came ≡ old.mail.came → new.mail.gone ≡ old.mail.gone
+      → new.node ≡ hosted.Node m → SameHost old new → new.mail.came ≡ old.mail.came → new.mail.gone ≡ old.mail.gone
       → IsFrom old.mail.came (Transfers (Key port index byte))
       → ((C : Copying S) (drives : ℕ) (x : Node S) → IsNode state M C drives n x
       → calls.Takes M (input.Rx port byte) (refusals.take_key_refusal M port index x) x (Ok tt) (IsNode state M C drives m))
@@ -46,7 +47,7 @@ module _ {B S : Type 0} {H : Type 0} (state : B → S) (M : Machine S) (copied :
       (are-steps M C me y other (IsNode state M C drives m)).key port index byte (call C drives y node)))
 
   pub acceptance : (old new : HostNode B H) (n m : code.Node B H) (port number count : ℕ) → old.node ≡ hosted.Node n
-      → new.node ≡ hosted.Node m → new.number ≡ old.number → new.mail.came ≡ old.mail.came → new.mail.gone ≡ old.mail.gone
+      → new.node ≡ hosted.Node m → SameHost old new → new.mail.came ≡ old.mail.came → new.mail.gone ≡ old.mail.gone
       → IsFrom old.mail.came (Transfers (Accepted port count)) → 1 ≤ number → number ≤ count
       → ((C : Copying S) (drives : ℕ) (x : Node S) → IsNode state M C drives n x
       → calls.Takes M (input.Sent port) (refusals.tell_sent_refusal M port number x) x (Ok tt) (IsNode state M C drives m))
@@ -58,7 +59,7 @@ module _ {B S : Type 0} {H : Type 0} (state : B → S) (M : Machine S) (copied :
       (are-steps M C me y other (IsNode state M C drives m)).sent port number count low few (call C drives y node)))
 
   pub done : (old new : HostNode B H) (n m : code.Node B H) (write : ℕ) → old.node ≡ hosted.Node n
-      → new.node ≡ hosted.Node m → new.number ≡ old.number → new.mail.came ≡ old.mail.came → new.mail.gone ≡ old.mail.gone
+      → new.node ≡ hosted.Node m → SameHost old new → new.mail.came ≡ old.mail.came → new.mail.gone ≡ old.mail.gone
       → IsFrom old.mail.came (Transfers (Written write))
       → ((C : Copying S) (drives : ℕ) (x : Node S) → IsNode state M C drives n x
       → calls.Takes M (input.Written write) (refusals.put_reply_refusal M write x) x (Ok tt) (IsNode state M C drives m))
@@ -71,7 +72,7 @@ module _ {B S : Type 0} {H : Type 0} (state : B → S) (M : Machine S) (copied :
 
   -- a sector: an input, or what a replaying node waits for
   pub under : (old new : HostNode B H) (n m : code.Node B H) (read : SectorRead) → old.node ≡ hosted.Node n
-      → new.node ≡ hosted.Node m → new.number ≡ old.number → new.mail.came ≡ old.mail.came → new.mail.gone ≡ old.mail.gone
+      → new.node ≡ hosted.Node m → SameHost old new → new.mail.came ≡ old.mail.came → new.mail.gone ≡ old.mail.gone
       → IsFrom old.mail.came (Transfers (Sector read))
       → ((C : Copying S) (drives : ℕ) (x : Node S) → IsNode state M C drives n x
       → calls.Takes M (input.Sector read.drive read.sector read.number read.bytes)
@@ -86,7 +87,7 @@ module _ {B S : Type 0} {H : Type 0} (state : B → S) (M : Machine S) (copied :
       (call C drives y node)))
 
   pub fetched : (old new : HostNode B H) (n m : code.Node B H) (read : SectorRead) → old.node ≡ hosted.Node n
-      → new.node ≡ hosted.Node m → new.number ≡ old.number → new.mail.came ≡ old.mail.came → new.mail.gone ≡ old.mail.gone
+      → new.node ≡ hosted.Node m → SameHost old new → new.mail.came ≡ old.mail.came → new.mail.gone ≡ old.mail.gone
       → IsFrom old.mail.came (Transfers (Sector read))
       → ((C : Copying S) (drives : ℕ) (x : Node S) → IsNode state M C drives n x
       → calls.Fetches M (address_of_read read) read.number read.bytes x (Ok tt) (IsNode state M C drives m))

@@ -49,6 +49,7 @@ pub record Goes {B S : Type 0} {H : Type 0} (state : B → S) (M : Machine S) (c
   pub came : new.mail.came ≡ old.mail.came ++ heard
   pub gone : new.mail.gone ≡ old.mail.gone ++ said
   pub stays : HasJoined old.node → HasJoined new.node × (new.number ≡ old.number)
-  pub runs : (C : Copying S) (drives me : ℕ) → CopiesAs state copied drives C.parts C.part_count C.assemble →
-      IsNumber me new → (x : Node S) → IsHosted state M C drives me old x → (frames : List Frame) →
-      AllBring drives me new.mail.came frames → RunsTo state M C drives me x frames said new
+  pub drives : new.drives ≡ old.drives
+  pub runs : (C : Copying S) (me : ℕ) → CopiesAs state copied old.drives C.parts C.part_count C.assemble →
+      IsNumber me new → (x : Node S) → IsHosted state M C old.drives me old x → (frames : List Frame) →
+      AllBring old.drives me new.mail.came frames → RunsTo state M C old.drives me x frames said new

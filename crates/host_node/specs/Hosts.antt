@@ -2,6 +2,7 @@
 use Rattle.std.specs.Prelude.{◌≡◌, ◌≢◌, ℕ}
 use Rattle.ft_node.specs.AnyNode.{IsNode}
 use Rattle.guest_lockstep.specs.Machine.{Machine}
+use Rattle.guest_lockstep.specs.declared.reads.Reads.TheVariants.{Shared}
 use Rattle.host_calls.specs.Follows.{Follows}
 use Rattle.pair_protocol.specs.Copying.{Copying}
 use Rattle.pair_protocol.specs.Node.{Node, Spare}
@@ -17,6 +18,8 @@ pub record Stands {B S : Type 0} {H : Type 0} (state : B → S) (M : Machine S) 
   pub follows : Follows M x y
   pub is : IsNode state M C drives node y
   pub other : y.role ≢ Spare
+  -- the log of a pair of processes always leaves sectors to the shared disk
+  pub reads : y.reads ≡ Shared
 
 -- what a host has is the node of the host of this number in the law; of a host whose node has halted nothing is said, as
 -- it does nothing more
@@ -35,6 +38,11 @@ abbrev pub HasJoined : {B : Type 0} {H : Type 0} → Hosted B H → Type 0
 HasJoined (hosted.Spare callbacks) = ⊥
 HasJoined (hosted.Node node) = Unit {0}
 HasJoined hosted.Over = Unit {0}
+
+-- it is the same host: its number, and the drives of the pair's machines
+pub record SameHost {B : Type 0} {H : Type 0} (old new : HostNode B H) : Type 0 where
+  pub number : new.number ≡ old.number
+  pub drives : new.drives ≡ old.drives
 
 -- this is its number, if it has one
 abbrev pub IsNumber : {B : Type 0} {H : Type 0} → ℕ → HostNode B H → Type 0

@@ -1,6 +1,6 @@
 //! The node of a host, or what the host has in its place, and its mail.
-ghost use Rattle.std.specs.Prelude.{◌≡◌, IfOk};
-ghost use Rattle.host_node.specs.Hosts as table;
+ghost use Rattle.std.specs.Prelude.{◌≡◌};
+ghost use Rattle.host_node.specs.declared.host.Hosted.TheVariants as hosted;
 
 use crate::mail::Mail;
 use clone_state::Copies;
@@ -18,12 +18,13 @@ pub enum Hosted<B: Copies<H> + Drop, H: Drop> {
     Over,
 }
 
-/// A host: the number of its node among the hosts of the pair, the place of the node's peer at the switch, the node, and the
-/// mail. A spare has no number yet: it joins the generation of its number.
+/// A host: the number of its node among the hosts of the pair, how many drives the pair's machines have, the place of the
+/// node's peer at the switch, the node, and the mail. A spare has no number yet: it joins the generation of its number.
 #[derive(Drop)]
 pub struct HostNode<B: Copies<H> + Drop, H: Drop> {
     pub(crate) alloc: Global,
     pub(crate) number: u32,
+    pub(crate) drives: u8,
     pub(crate) peer: u8,
     pub(crate) is_waiting: bool,
     pub(crate) node: Hosted<B, H>,
@@ -32,13 +33,23 @@ pub struct HostNode<B: Copies<H> + Drop, H: Drop> {
 
 impl<B: Copies<H> + Drop, H: Drop> HostNode<B, H> {
     /// The host of a node of generation 1: host 0 has the primary and host 1 the backup, each at the place of its number.
-    pub fn of(alloc: Global, number: u32, node: Node<B, H>, mail: Mail) -> HostNode<B, H>
-        ensures { (result.mail ≡ mail) × (result.number ≡ number) × (result.node ≡ table.hosted.Node node) }
+    pub fn of(
+        alloc: Global,
+        number: u32,
+        drives: u8,
+        node: Node<B, H>,
+        mail: Mail,
+    ) -> HostNode<B, H>
+        ensures mail { result.mail ≡ mail }
+        ensures number { result.number ≡ number }
+        ensures drives { result.drives ≡ drives }
+        ensures node { result.node ≡ hosted.Node node }
     {
         let peer = if number == 0 { 1 } else { 0 };
         HostNode {
             alloc,
             number,
+            drives,
             peer,
             is_waiting: false,
             node: Hosted::Node(node),
@@ -47,12 +58,15 @@ impl<B: Copies<H> + Drop, H: Drop> HostNode<B, H> {
     }
 
     /// A host without a node, with the closures of one.
-    pub fn spare(alloc: Global, callbacks: H, mail: Mail) -> HostNode<B, H>
-        ensures { (result.mail ≡ mail) × (result.node ≡ table.hosted.Spare callbacks) }
+    pub fn spare(alloc: Global, drives: u8, callbacks: H, mail: Mail) -> HostNode<B, H>
+        ensures mail { result.mail ≡ mail }
+        ensures drives { result.drives ≡ drives }
+        ensures node { result.node ≡ hosted.Spare callbacks }
     {
         HostNode {
             alloc,
             number: 0,
+            drives,
             peer: 0,
             is_waiting: false,
             node: Hosted::Spare(callbacks),

@@ -64,6 +64,7 @@ impl<B: Copies<H> + Drop, H: Drop> HostNode<B, H> {
     }
 
     // A node that is alone begins this generation with the host at that place.
+    #[tactic(auto, using(crate::proofs::Begun::begins, crate::proofs::Going::stays, crate::proofs::Going::looked))]
     pub(crate) fn begin(&mut self, generation: u32, host: u8) -> R<Heard>
         requires { IsFrom self.old.mail.came (Tells (notice.Begin generation host)) }
         ensures { Goes B.state B.machine B.copied self.old self.new }
@@ -71,21 +72,18 @@ impl<B: Copies<H> + Drop, H: Drop> HostNode<B, H> {
         let Hosted::Node(node) = &mut self.node else {
             return Ok(Heard::Nothing);
         };
-        let Ok(next) = node.next_generation() else {
+        let Role::Alone = node.role() else {
             return Ok(Heard::Nothing);
         };
-        if next.generation != generation || next.reads != Reads::Shared {
+        let before = node.generation();
+        if before == u32::MAX || before + 1 != generation || !self.mail.has_room() {
             return Ok(Heard::Nothing);
         }
-        if !self.mail.has_room() {
-            return Ok(Heard::Nothing);
-        }
-        let count = node.count();
         let join = Frame::Notice(Notice::Join {
             generation,
             host,
-            drives: next.drives,
-            count,
+            drives: self.drives,
+            count: node.count(),
         });
         let bytes = host_frames::spelled(self.alloc, &join)?;
         node.begin(self.alloc)?;
@@ -95,6 +93,7 @@ impl<B: Copies<H> + Drop, H: Drop> HostNode<B, H> {
     }
 
     // A spare joins the generation that is to be its number, with the host at that place as its primary.
+    #[tactic(auto, using(crate::proofs::Begun::joins_it, crate::proofs::Going::stays))]
     pub(crate) fn join(&mut self, generation: u32, host: u8, drives: u8, count: u64) -> R<Heard>
         requires { IsFrom self.old.mail.came (Tells (notice.Join generation host drives count)) }
         ensures { Goes B.state B.machine B.copied self.old self.new }
@@ -102,17 +101,23 @@ impl<B: Copies<H> + Drop, H: Drop> HostNode<B, H> {
         if generation == 0 || drives == 0 || usize::from(drives) > DRIVES {
             return Ok(Heard::Nonsense);
         }
-        let Hosted::Spare(_) = &self.node else {
+        if drives != self.drives {
             return Ok(Heard::Nothing);
-        };
-        let assembly = Assembly::new(self.alloc, generation, drives)?;
-        if let Hosted::Spare(callbacks) = mem::replace(&mut self.node, Hosted::Over) {
-            let node = Node::joining(assembly, callbacks, generation, count, Reads::Shared);
-            self.node = Hosted::Node(node);
-            self.number = generation;
-            self.peer = host;
         }
-        Ok(Heard::Joined)
+        let assembly = Assembly::new(self.alloc, generation, drives)?;
+        match mem::replace(&mut self.node, Hosted::Over) {
+            Hosted::Spare(callbacks) => {
+                let node = Node::joining(assembly, callbacks, generation, count, Reads::Shared);
+                self.node = Hosted::Node(node);
+                self.number = generation;
+                self.peer = host;
+                Ok(Heard::Joined)
+            }
+            other => {
+                self.node = other;
+                Ok(Heard::Nothing)
+            }
+        }
     }
 }
 
