@@ -5,7 +5,7 @@ use Rattle.clone_state.specs.Parts.{PartMessage, message_bytes}
 use Rattle.disk_dcdd.specs.declared.address.SectorAddress.{SectorAddress}
 use Rattle.disk_dcdd.specs.declared.sector.SectorWrite.{SectorWrite}
 use Rattle.event_callbacks.specs.declared.operations.Operation.TheVariants as operation
-use Rattle.guest_lockstep.specs.declared.reads.Reads.{Reads}
+use Rattle.guest_lockstep.specs.declared.reads.Reads.TheVariants.{Shared}
 use Rattle.guest_lockstep.specs.declared.timed.Timed.{Timed}
 use Rattle.host_law.specs.Frame as law
 use Rattle.log_channel.specs.Packet.{IsPacket, packet_bytes}
@@ -56,7 +56,8 @@ pub data Means (node : ℕ) : Said → law.Frame → Type 0 where
   OfSuspect : (generation : ℕ) → Means node (Tells (Suspect generation)) (law.AsksArbiter node generation)
   OfWon : (generation : ℕ) → Means node (Tells (Won generation)) (law.HasWon generation node)
   OfLost : (generation : ℕ) → Means node (Tells (Lost generation)) (law.HasLost generation node)
-  -- the next generation; no bytes spell the inputs that a copied machine has
+  -- the next generation. The log of a pair of processes always leaves sectors to the shared disk, so a host that joins
+  -- shares its reads; and no bytes spell the inputs that the copied machine has, so they may be any
   OfBegin : (generation place : ℕ) → Means node (Tells (Begin generation place)) (law.MayBegin generation)
-  OfJoin : (generation place drives count : ℕ) (reads : Reads) (list : List Timed) →
-      Means node (Tells (Join generation place drives count)) (law.Recruits generation count reads list)
+  OfJoin : (generation place drives count : ℕ) (list : List Timed) →
+      Means node (Tells (Join generation place drives count)) (law.Recruits generation count Shared list)
