@@ -1,20 +1,26 @@
 -- A node that strays makes any step and stays, so whatever the host's node does, it does too. And some list has as many
 -- keys at each port as a machine has taken.
-use Rattle.std.proofs.Common.{◌++◌, ◌∙◌, ◌≡◌, ◌⊎◌, List, [], ◌∷◌, ap, arith, inl, inr, length, refl, suc, sym, zero, ℕ}
+use Rattle.std.proofs.Common.{◌++◌, ◌∙◌, ◌≡◌, ◌⊎◌, List, Some, [], ◌∷◌, ap, arith, inl, inr, length, refl, suc, sym, zero, ℕ}
+use Rattle.std.specs.Prelude.{slice_get}
 use Rattle.guest_lockstep.specs.Machine.{Machine}
 use Rattle.guest_lockstep.specs.Reach.{keys}
 use Rattle.guest_lockstep.specs.declared.timed.Bare.TheVariants.{Rx}
 use Rattle.guest_lockstep.specs.declared.timed.Timed.{Timed}
-use Rattle.pair_protocol.specs.Copying.{Copying}
+use Rattle.pair_protocol.specs.Copying.{Copying, IsCopying}
+use Rattle.pair_protocol.specs.Lawful.{Lawful}
 use Rattle.pair_protocol.specs.Node.{Alone, Node}
+use Rattle.pair_protocol.specs.World.{World}
 use Rattle.pair_protocol.proofs.Traces.Lists.{same_or_not}
 use Rattle.ft_node.specs.AnyNode.{IsNode}
 use Rattle.ft_node.specs.Roles.{node_count}
 use Rattle.ft_node.specs.declared.node.Node as code
 use Rattle.ft_node.specs.declared.node.Node.TheVariants as node
+use Rattle.host_law.specs.Fleet.{Fleet}
 use Rattle.host_law.specs.Frame.{Act, Frame}
 use Rattle.host_law.specs.Host as host
 use Rattle.host_law.specs.Host.{HasTakenKeys, HostStep}
+use Rattle.host_law.specs.Shows.{Shows}
+use Rattle.host_law.proofs.Keeping.{has-taken-keys}
 use Rattle.host_law.proofs.Running.{ran-more, ran-nothing}
 use Rattle.host_calls.specs.Follows.{Follows, HasList, IsStray, RanTo, Same, StepsToo}
 
@@ -38,6 +44,12 @@ ran-to-more M C me x read written y z act r step =
 
 pub ran-to-nothing : {S : Type 0} (M : Machine S) (C : Copying S) (me : ℕ) (x : Node S) → RanTo M C me x [] [] x
 ran-to-nothing M C me x = record { last = x; ran = ran-nothing M C me x; follows = Same }
+
+pub is-the-laws : {S : Type 0} (M : Machine S) (C : Copying S) → Lawful M → IsCopying M C → (f : Fleet S) (w : World S) →
+    Shows M C f w → (n : ℕ) (x y : Node S) → slice_get f.hosts n ≡ Some x → Follows M x y → y ≡ x
+is-the-laws M C laws copies f w h n x y there Same = refl
+is-the-laws M C laws copies f w h n x y there (IsStray u alone stray) =
+    absurd (stray (has-taken-keys M C laws copies f w h n x there alone))
 
 -- ---- keys
 

@@ -1,17 +1,21 @@
 -- Which node of the protocol the node of a host may be, where the law has a run to a node. They are one, unless the law's
 -- has strayed: then nothing is promised of the host's. So a loop over the calls of a node has a run for what it reads and
 -- writes, whoever sent the parts of its machine.
-use Rattle.std.specs.Prelude.{◌≡◌, ◌↔◌, ℕ, List, [], ◌++◌}
+use Rattle.std.specs.Prelude.{◌≡◌, ◌↔◌, ℕ, Some, List, [], ◌++◌, slice_get}
 use Rattle.guest_lockstep.specs.Machine.{Machine}
 use Rattle.guest_lockstep.specs.declared.timed.Timed.{Timed}
-use Rattle.pair_protocol.specs.Copying.{Copying}
+use Rattle.pair_protocol.specs.Copying.{Copying, IsCopying}
+use Rattle.pair_protocol.specs.Lawful.{Lawful}
 use Rattle.pair_protocol.specs.Node.{Node, Alone}
+use Rattle.pair_protocol.specs.World.{World}
 use Rattle.ft_node.specs.AnyNode.{IsNode}
 use Rattle.ft_node.specs.Calls as calls
 use Rattle.ft_node.specs.declared.node.Node as code
+use Rattle.host_law.specs.Fleet.{Fleet}
 use Rattle.host_law.specs.Frame.{Act, Frame}
 use Rattle.host_law.specs.Host.{HasTakenKeys, HostStep}
 use Rattle.host_law.specs.Ran.{HostRan}
+use Rattle.host_law.specs.Shows.{Shows}
 
 -- a node of a host may stand for the law's
 pub data Follows {S : Type 0} (M : Machine S) (x : Node S) : Node S → Type 0 where
@@ -49,6 +53,12 @@ RunsFollow S =
     RanTo M C me x [] [] x
     × ((read written : List Frame) (y z : Node S) (act : Act) → RanTo M C me x read written y → HostStep M C me y act z →
     RanTo M C me x (read ++ act.takes) (written ++ act.sends) z)
+
+-- in a fleet no host strays, so there the node of a host is the law's
+abbrev pub IsTheLaws : (S : Type 0) → Type 0
+IsTheLaws S =
+    (M : Machine S) (C : Copying S) → Lawful M → IsCopying M C → (f : Fleet S) (w : World S) → Shows M C f w →
+    (n : ℕ) (x y : Node S) → slice_get f.hosts n ≡ Some x → Follows M x y → y ≡ x
 
 -- ---- the list of a node that is alone
 

@@ -1,5 +1,5 @@
 -- The law's node makes the same step, or strays with its frames.
-use Rattle.host_calls.proofs.Straying.{ran-to-more, ran-to-nothing, steps-follow}
+use Rattle.host_calls.proofs.Straying.{is-the-laws, ran-to-more, ran-to-nothing, steps-follow}
 use Rattle.host_calls.proofs.laws.steps_are_followed.Goals as goal
 
 pub returns-clause-steps : goal.returns-clause-steps
@@ -10,3 +10,7 @@ returns-clause-runs g c = λ M C me x. (
   ran-to-nothing M C me x,
   λ read written y z act r step. ran-to-more M C me x read written y z act r step,
 )
+
+pub returns-clause-fleets : goal.returns-clause-fleets
+returns-clause-fleets g c M C laws copies f w h n x y there follows =
+    is-the-laws M C laws copies f w h n x y there follows
