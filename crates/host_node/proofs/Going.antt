@@ -19,15 +19,15 @@ use Rattle.pair_protocol.specs.Node.{Node}
 
 -- ---- lists
 
-taken_both : (xs ys : List Act) → taken (xs ++ ys) ≡ taken xs ++ taken ys
+pub taken_both : (xs ys : List Act) → taken (xs ++ ys) ≡ taken xs ++ taken ys
 taken_both [] ys = refl
 taken_both (x ∷ xs) ys = ap (λ l. x.takes ++ l) (taken_both xs ys) ∙ sym (append_assoc x.takes (taken xs) (taken ys))
 
-sent_both : (xs ys : List Act) → sent (xs ++ ys) ≡ sent xs ++ sent ys
+pub sent_both : (xs ys : List Act) → sent (xs ++ ys) ≡ sent xs ++ sent ys
 sent_both [] ys = refl
 sent_both (x ∷ xs) ys = ap (λ l. x.sends ++ l) (sent_both xs ys) ∙ sym (append_assoc x.sends (sent xs) (sent ys))
 
-came_both : (xs ys before : List Frame) → Came xs before → Came ys before → Came (xs ++ ys) before
+pub came_both : (xs ys before : List Frame) → Came xs before → Came ys before → Came (xs ++ ys) before
 came_both [] ys before p q = q
 came_both (x ∷ xs) ys before p q = (p.0, came_both xs ys before p.1 q)
 
@@ -38,7 +38,7 @@ says_both drives me a b f g (goes.Then {rest = rest} {more = more} bytes said fr
     subst (λ l. Says drives me (bytes ∷ (rest ++ b)) l) (sym (append_assoc frames more g))
     (goes.Then bytes said frames spells speaks (says_both drives me rest b more g p q))
 
-run_both : {S : Type 0} (M : Machine S) (C : Copying S) (me : ℕ) (x y z : Node S) (a b : List Act) → HostRun M C me x a y
+pub run_both : {S : Type 0} (M : Machine S) (C : Copying S) (me : ℕ) (x y z : Node S) (a b : List Act) → HostRun M C me x a y
     → HostRun M C me y b z → HostRun M C me x (a ++ b) z
 run_both M C me x y z a b host.Rests q = q
 run_both M C me x y z a b (host.Goes {mid = mid} {act = act} {acts = acts} step p) q =

@@ -9,3 +9,4 @@ pub mod Packets
 pub mod Sent
 pub mod Asked
 pub mod Begun
+pub mod Reported

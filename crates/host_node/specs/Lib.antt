@@ -3,3 +3,4 @@ pub mod MailRings
 pub mod Hosts
 pub mod Goes
 pub mod Roles
+pub mod Reports

@@ -26,6 +26,7 @@ const PAGES: u64 = 8;
 
 impl<B: Copies<H> + Drop, H: Drop> Serving<B, H> {
     // A primary runs its guest, and sends its log; before its backup is whole, the image.
+    #[tactic(auto, using(crate::proofs::Going::stays, crate::proofs::Going::and_then))]
     pub(crate) fn serve_as_primary(&mut self) -> R<bool>
         ensures { Goes B.state B.machine B.copied self.old.host self.new.host }
     {
@@ -39,6 +40,7 @@ impl<B: Copies<H> + Drop, H: Drop> Serving<B, H> {
     }
 
     // A node that is alone runs its guest, and copies pages early for the next backup.
+    #[tactic(auto, using(crate::proofs::Going::stays, crate::proofs::Going::and_then))]
     pub(crate) fn run_alone(&mut self) -> R<bool>
         ensures { Goes B.state B.machine B.copied self.old.host self.new.host }
     {
@@ -52,6 +54,7 @@ impl<B: Copies<H> + Drop, H: Drop> Serving<B, H> {
     }
 
     // A live node takes keys, runs its guest, and releases what it may.
+    #[tactic(auto, using(crate::proofs::Going::stays, crate::proofs::Going::and_then))]
     fn run(&mut self) -> R<bool>
         ensures { Goes B.state B.machine B.copied self.old.host self.new.host }
     {
@@ -63,6 +66,7 @@ impl<B: Copies<H> + Drop, H: Drop> Serving<B, H> {
     }
 
     // Takes a key of each port, if the guest may look for one.
+    #[tactic(auto, using(crate::proofs::Going::stays, crate::proofs::Going::and_then))]
     fn take_keys(&mut self) -> R<bool>
         ensures { Goes B.state B.machine B.copied self.old.host self.new.host }
     {
@@ -72,14 +76,16 @@ impl<B: Copies<H> + Drop, H: Drop> Serving<B, H> {
         }
         let first = self.host.take_key(0)?;
         let second = self.host.take_key(1)?;
-        if first || second {
+        let has_taken = first | second;
+        if has_taken {
             self.pace.key_at = count;
             self.pace.is_idle = false;
         }
-        Ok(first || second)
+        Ok(has_taken)
     }
 
     // Makes steps.
+    #[tactic(auto, using(crate::proofs::Going::stays, crate::proofs::Going::and_then))]
     fn step(&mut self) -> R<bool>
         ensures { Goes B.state B.machine B.copied self.old.host self.new.host }
     {
@@ -101,6 +107,7 @@ impl<B: Copies<H> + Drop, H: Drop> Serving<B, H> {
     }
 
     // Releases what is covered; after a while from the first that is outstanding again.
+    #[tactic(auto, using(crate::proofs::Going::stays, crate::proofs::Going::and_then))]
     fn release(&mut self) -> R<()>
         ensures { Goes B.state B.machine B.copied self.old.host self.new.host }
     {
@@ -115,6 +122,7 @@ impl<B: Copies<H> + Drop, H: Drop> Serving<B, H> {
     }
 
     // Releases bytes of a port.
+    #[tactic(auto, using(crate::proofs::Going::stays, crate::proofs::Going::and_then))]
     fn release_bytes(&mut self, port: u8) -> R<()>
         ensures { Goes B.state B.machine B.copied self.old.host self.new.host }
     {
@@ -130,6 +138,7 @@ impl<B: Copies<H> + Drop, H: Drop> Serving<B, H> {
     }
 
     // Releases the next byte of a port whose oldest outstanding one is this.
+    #[tactic(auto, using(crate::proofs::Going::stays, crate::proofs::Going::and_then))]
     fn release_byte(&mut self, port: u8, due: u64) -> R<bool>
         ensures { Goes B.state B.machine B.copied self.old.host self.new.host }
     {
@@ -148,6 +157,7 @@ impl<B: Copies<H> + Drop, H: Drop> Serving<B, H> {
     }
 
     // Releases writes.
+    #[tactic(auto, using(crate::proofs::Going::stays, crate::proofs::Going::and_then))]
     fn release_writes(&mut self) -> R<()>
         ensures { Goes B.state B.machine B.copied self.old.host self.new.host }
     {
@@ -161,6 +171,7 @@ impl<B: Copies<H> + Drop, H: Drop> Serving<B, H> {
     }
 
     // Releases the write of this number, if it is outstanding. Returns false if no later one can be released.
+    #[tactic(auto, using(crate::proofs::Going::stays, crate::proofs::Going::and_then))]
     fn release_write(&mut self, number: u64) -> R<bool>
         ensures { Goes B.state B.machine B.copied self.old.host self.new.host }
     {
@@ -176,6 +187,7 @@ impl<B: Copies<H> + Drop, H: Drop> Serving<B, H> {
     }
 
     // Asks the disk for the next sector, if the guest looks for one.
+    #[tactic(auto, using(crate::proofs::Going::stays, crate::proofs::Going::and_then))]
     fn read(&mut self) -> R<()>
         ensures { Goes B.state B.machine B.copied self.old.host self.new.host }
     {
@@ -198,6 +210,7 @@ impl<B: Copies<H> + Drop, H: Drop> Serving<B, H> {
     }
 
     // Sends entries that were not sent yet; from the first that is not acknowledged again, if none was for a while.
+    #[tactic(auto, using(crate::proofs::Going::stays, crate::proofs::Going::and_then))]
     fn send_log(&mut self) -> R<bool>
         ensures { Goes B.state B.machine B.copied self.old.host self.new.host }
     {
@@ -220,6 +233,7 @@ impl<B: Copies<H> + Drop, H: Drop> Serving<B, H> {
     }
 
     // Sends parts of the image, at most so many past those that have come; from the first again, if none came for a while.
+    #[tactic(auto, using(crate::proofs::Going::stays, crate::proofs::Going::and_then))]
     fn send_parts(&mut self) -> R<bool>
         ensures { Goes B.state B.machine B.copied self.old.host self.new.host }
     {
@@ -242,19 +256,33 @@ impl<B: Copies<H> + Drop, H: Drop> Serving<B, H> {
     }
 
     // A backup acknowledges what it holds, and repeats it.
+    #[tactic(auto, using(crate::proofs::Going::stays, crate::proofs::Going::and_then))]
     pub(crate) fn follow(&mut self) -> R<bool>
         ensures { Goes B.state B.machine B.copied self.old.host self.new.host }
     {
         self.tell_parts()?;
-        if self.pace.owes_acknowledgement && self.host.acknowledge()? {
-            self.pace.owes_acknowledgement = false;
-        }
+        self.acknowledge()?;
         let replayed = self.host.replay(self.settings.steps)?;
         self.fetch(replayed.why)?;
         Ok(replayed.moves > 0)
     }
 
+    // Acknowledges what is held, if that is due.
+    #[tactic(auto, using(crate::proofs::Going::stays, crate::proofs::Going::and_then))]
+    fn acknowledge(&mut self) -> R<()>
+        ensures { Goes B.state B.machine B.copied self.old.host self.new.host }
+    {
+        if !self.pace.owes_acknowledgement {
+            return Ok(());
+        }
+        if self.host.acknowledge()? {
+            self.pace.owes_acknowledgement = false;
+        }
+        Ok(())
+    }
+
     // A node that won repeats what it holds.
+    #[tactic(auto, using(crate::proofs::Going::stays, crate::proofs::Going::and_then))]
     pub(crate) fn drain(&mut self) -> R<bool>
         ensures { Goes B.state B.machine B.copied self.old.host self.new.host }
     {
@@ -264,6 +292,7 @@ impl<B: Copies<H> + Drop, H: Drop> Serving<B, H> {
     }
 
     // Asks the disk for the sector for which a replaying node waits, if it waits for one.
+    #[tactic(auto, using(crate::proofs::Going::stays, crate::proofs::Going::and_then))]
     fn fetch(&mut self, why: ReplayEnd) -> R<()>
         ensures { Goes B.state B.machine B.copied self.old.host self.new.host }
     {
@@ -284,6 +313,7 @@ impl<B: Copies<H> + Drop, H: Drop> Serving<B, H> {
     }
 
     // A joining node says how many parts have come. If its primary is gone, it can never be whole.
+    #[tactic(auto, using(crate::proofs::Going::stays, crate::proofs::Going::and_then))]
     pub(crate) fn await_parts(&mut self) -> R<bool>
         ensures { Goes B.state B.machine B.copied self.old.host self.new.host }
     {
@@ -295,6 +325,7 @@ impl<B: Copies<H> + Drop, H: Drop> Serving<B, H> {
     }
 
     // Says how many parts have come, if that was not said.
+    #[tactic(auto, using(crate::proofs::Going::stays, crate::proofs::Going::and_then))]
     fn tell_parts(&mut self) -> R<bool>
         ensures { Goes B.state B.machine B.copied self.old.host self.new.host }
     {

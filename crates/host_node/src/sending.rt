@@ -112,8 +112,8 @@ impl<B: Copies<H> + Drop, H: Drop> HostNode<B, H> {
         Ok(true)
     }
 
-    /// The sector of this number on the track under the head of the selected drive, if its guest would take it now.
-    pub fn place(&self, sector: u8) -> R<SectorAddress> {
+    // The sector of this number on the track under the head of the selected drive.
+    fn place(&self, sector: u8) -> R<SectorAddress> {
         let Hosted::Node(node) = &self.node else {
             return Err(Fault::WrongRole);
         };
@@ -146,7 +146,13 @@ impl<B: Copies<H> + Drop, H: Drop> HostNode<B, H> {
     pub fn ask_under(&mut self, sector: u8) -> R<bool>
         ensures { Goes B.state B.machine B.copied self.old self.new }
     {
-        let address = self.place(sector)?;
+        let Hosted::Node(node) = &self.node else {
+            return Err(Fault::WrongRole);
+        };
+        if sector >= SECTORS {
+            return Err(Fault::Unknown);
+        }
+        let address = node.place(sector)?;
         if !self.mail.has_room() {
             return Ok(false);
         }

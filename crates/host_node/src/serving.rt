@@ -45,6 +45,7 @@ pub fn serve<B: Copies<H> + Drop, H: Drop, C: Wait + Clock>(
 
 impl<B: Copies<H> + Drop, H: Drop> Serving<B, H> {
     // Takes turns until there is a reason to end.
+    #[tactic(auto, using(crate::proofs::Going::stays, crate::proofs::Going::and_then))]
     fn serve_all<C: Wait + Clock>(&mut self, rt: &C, wake: &Parker) -> End
         ensures { Goes B.state B.machine B.copied self.old.host self.new.host }
     {
@@ -68,6 +69,7 @@ impl<B: Copies<H> + Drop, H: Drop> Serving<B, H> {
     }
 
     // One turn. Returns whether anything came or was done.
+    #[tactic(auto, using(crate::proofs::Going::stays, crate::proofs::Going::and_then))]
     fn turn(&mut self) -> R<bool>
         ensures { Goes B.state B.machine B.copied self.old.host self.new.host }
     {
@@ -86,6 +88,7 @@ impl<B: Copies<H> + Drop, H: Drop> Serving<B, H> {
     }
 
     // Takes the frames that have come. Returns whether there was any.
+    #[tactic(auto, using(crate::proofs::Going::stays, crate::proofs::Going::and_then))]
     fn hear_all(&mut self) -> R<bool>
         ensures { Goes B.state B.machine B.copied self.old.host self.new.host }
     {
@@ -100,6 +103,7 @@ impl<B: Copies<H> + Drop, H: Drop> Serving<B, H> {
     }
 
     // Takes the next frame, if one has come.
+    #[tactic(auto, using(crate::proofs::Going::stays, crate::proofs::Going::and_then))]
     fn hear_next(&mut self) -> R<bool>
         ensures { Goes B.state B.machine B.copied self.old.host self.new.host }
     {
@@ -112,6 +116,7 @@ impl<B: Copies<H> + Drop, H: Drop> Serving<B, H> {
     }
 
     // What the node does in its role. Returns whether anything was done.
+    #[tactic(auto, using(crate::proofs::Going::stays, crate::proofs::Going::and_then))]
     fn act(&mut self) -> R<bool>
         ensures { Goes B.state B.machine B.copied self.old.host self.new.host }
     {
@@ -126,6 +131,7 @@ impl<B: Copies<H> + Drop, H: Drop> Serving<B, H> {
     }
 
     // Asks the arbiter if the peer is suspected. Returns whether the host waits for the answer: then its node does nothing.
+    #[tactic(auto, using(crate::proofs::Going::stays, crate::proofs::Going::and_then))]
     fn asks(&mut self) -> R<bool>
         ensures { Goes B.state B.machine B.copied self.old.host self.new.host }
     {
@@ -146,6 +152,7 @@ impl<B: Copies<H> + Drop, H: Drop> Serving<B, H> {
 
     // Says that the host is there, to the outside and to its peer, at each beat; to the outside also when what it says of
     // itself has changed.
+    #[tactic(auto, using(crate::proofs::Going::stays, crate::proofs::Going::and_then))]
     fn beat(&mut self) -> R<()>
         ensures { Goes B.state B.machine B.copied self.old.host self.new.host }
     {
@@ -164,6 +171,7 @@ impl<B: Copies<H> + Drop, H: Drop> Serving<B, H> {
     }
 
     // Says to the peer that the host is there. A backup acknowledges.
+    #[tactic(auto, using(crate::proofs::Going::stays, crate::proofs::Going::and_then))]
     fn beat_to_peer(&mut self) -> R<()>
         ensures { Goes B.state B.machine B.copied self.old.host self.new.host }
     {

@@ -1,0 +1,128 @@
+-- How a host goes on when it reports: it tells the terminals how many keys are covered.
+use Rattle.std.proofs.Common.{ℕ, ◌≡◌, ◌≢◌, ◌<◌, Bool, true, false, cond, eqb, List, [], ◌∷◌, ◌++◌, append-nil, refl, sym, ap, ◌∙◌, subst}
+use Rattle.std.specs.Prelude.{slice_index, ◌⊎◌}
+use Rattle.ft_node.specs.AnyNode.{IsNode}
+use Rattle.ft_node.specs.Calls as calls
+use Rattle.ft_node.specs.declared.node.Node as code
+use Rattle.guest_lockstep.specs.Machine.{Machine}
+use Rattle.guest_parts.specs.Guest.{Guest}
+use Rattle.host_calls.proofs.Stepping.{are-steps}
+use Rattle.host_calls.proofs.Straying.{steps-follow}
+use Rattle.host_calls.specs.Follows.{Follows}
+use Rattle.host_frames.specs.Frames.{Tells}
+use Rattle.host_frames.specs.Meaning as meaning
+use Rattle.host_frames.specs.Meaning.{covered_at}
+use Rattle.host_frames.specs.declared.frame.Notice.TheVariants as notice
+use Rattle.host_frames.specs.declared.frame.Report.{Report}
+use Rattle.host_law.specs.Frame as law
+use Rattle.host_law.specs.Frame.{Act, Came, Frame, sent, taken}
+use Rattle.host_law.specs.Host as host
+use Rattle.host_law.specs.Host.{HostRun, HostStep}
+use Rattle.host_node.proofs.Calling.{saying}
+use Rattle.host_node.proofs.Going.{came_both, run_both, sent_both, taken_both}
+use Rattle.host_node.specs.Goes as goes
+use Rattle.host_node.specs.Goes.{Goes}
+use Rattle.host_node.specs.Hosts.{HasJoined, HasNode, SameHost}
+use Rattle.host_node.specs.Mail.{HasSaid}
+use Rattle.host_node.specs.Reports.{IsCovered}
+use Rattle.host_node.specs.declared.host.HostNode.{HostNode}
+use Rattle.host_node.specs.declared.host.Hosted.TheVariants as hosted
+use Rattle.pair_protocol.specs.Copying.{Copying}
+use Rattle.pair_protocol.specs.Node.{Node, Spare}
+
+-- what a port is told, if anything
+record Told {S : Type 0} (M : Machine S) (C : Copying S) (me : ℕ) (x y : Node S) (port keys : ℕ) : Type 0 where
+  pub z : Node S
+  pub acts : List Act
+  pub run : HostRun M C me x acts z
+  pub takes : taken acts ≡ []
+  pub sends : sent acts ≡ covered_at port keys
+  pub follows : Follows M z y
+
+told_port : {S : Type 0} (M : Machine S) (C : Copying S) (me : ℕ) (x y : Node S) (port keys : ℕ) → Follows M x y
+    → (keys ≢ 0 → HostStep M C me y (law.sending (law.TellsKeys port keys)) y) → Told M C me x y port keys
+told_port M C me x y port keys follows step = by_count (eqb keys 0) refl
+  where
+    by_count : (none : Bool) → eqb keys 0 ≡ none → Told M C me x y port keys
+    by_count true e = record {
+      z = x;
+      acts = [];
+      run = host.Rests;
+      takes = refl;
+      sends = sym (ap (λ b. cond b [] (law.TellsKeys port keys ∷ [])) e);
+      follows = follows;
+    }
+    by_count false e =
+        (let s = steps-follow M C me x y y (law.sending (law.TellsKeys port keys)) follows
+            (step (λ zero. (let k = ap (λ n. eqb n 0) (sym zero) ∙ e in absurd (cc)))) in
+        record {
+          z = s.next;
+          acts = law.sending (law.TellsKeys port keys) ∷ [];
+          run = host.Goes s.step host.Rests;
+          takes = refl;
+          sends = sym (ap (λ b. cond b [] (law.TellsKeys port keys ∷ [])) e);
+          follows = s.follows;
+        })
+
+module _ {B S : Type 0} {H : Type 0} (state : B → S) (M : Machine S) (copied : B → Guest) where
+  told_step : (C : Copying S) (drives me : ℕ) (n : code.Node B H) (y : Node S) (port keys : ℕ) → y.role ≢ Spare → port < 2
+      → IsNode state M C drives n y → IsCovered state M n port keys → keys ≢ 0
+      → HostStep M C me y (law.sending (law.TellsKeys port keys)) y
+  told_step C drives me n y port keys other within node covered some =
+      (are-steps M C me y other (λ z. Unit {0})).told port keys within (covered C drives y node some)
+
+  pub reports : (old new : HostNode B H) (n : code.Node B H) (report : Report) → old.node ≡ hosted.Node n
+      → new.node ≡ old.node → SameHost old new → new.mail.came ≡ old.mail.came
+      → HasSaid (Tells (notice.Report report)) old.mail.gone new.mail.gone
+      → IsCovered state M n 0 (slice_index report.covered 0) → IsCovered state M n 1 (slice_index report.covered 1)
+      → Goes state M copied old new
+  reports old new n report was is same came went first second = record {
+    heard = [];
+    said = went.bytes ∷ [];
+    came = came ∙ sym (append-nil old.mail.came);
+    gone = went.gone;
+    stays = λ joined. (subst (λ h. HasJoined h) (sym is) joined, same.number);
+    drives = same.drives;
+    runs = λ C me copies numbered x hosted frames brought.
+        (let h = subst (λ h. HasNode state M C old.drives old.number me h x) was hosted in
+        let y = h.1.y in
+        let k = slice_index report.covered 0 in
+        let l = slice_index report.covered 1 in
+        let a = told_port M C me x y 0 k h.1.follows
+            (told_step C old.drives me n y 0 k h.1.other (omega Rattle.std.proofs.Common.arith) h.1.is first) in
+        let b = told_port M C me a.z y 1 l a.follows
+            (told_step C old.drives me n y 1 l h.1.other (omega Rattle.std.proofs.Common.arith) h.1.is second) in
+        record {
+          y = b.z;
+          ran = record {
+            acts = a.acts ++ b.acts;
+            run = run_both M C me x a.z b.z a.acts b.acts a.run b.run;
+            came = subst (λ t. Came t frames) (sym (taken_both a.acts b.acts))
+                (came_both (taken a.acts) (taken b.acts) frames (subst (λ t. Came t frames) (sym a.takes) tt)
+                (subst (λ t. Came t frames) (sym b.takes) tt));
+            says = subst (λ t. goes.Says old.drives me (went.bytes ∷ []) t)
+                (append-nil (covered_at 0 k ++ covered_at 1 l)
+                ∙ sym (ap (λ t. t ++ covered_at 1 l) a.sends ∙ ap (λ t. covered_at 0 k ++ t) b.sends)
+                ∙ sym (sent_both a.acts b.acts))
+                (goes.Then went.bytes (Tells (notice.Report report)) (covered_at 0 k ++ covered_at 1 l) went.spells
+                (meaning.OfReport report) goes.Nothing);
+          };
+          is = subst (λ h. HasNode state M C old.drives new.number me h b.z) (sym (is ∙ was))
+              (same.number ∙ h.0, record {
+                y = y;
+                follows = b.follows;
+                is = h.1.is;
+                other = h.1.other;
+                reads = h.1.reads;
+              });
+        });
+  }
+
+  -- without a node nothing is covered
+  pub reports_none : (old new : HostNode B H) (report : Report) → new.node ≡ old.node → SameHost old new
+      → new.mail.came ≡ old.mail.came → HasSaid (Tells (notice.Report report)) old.mail.gone new.mail.gone
+      → report.covered ≡ 0 ∷ 0 ∷ [] → Goes state M copied old new
+  reports_none old new report is same came went none =
+      saying state M copied old new (Tells (notice.Report report)) is same came went
+      (λ drives me. subst (λ c. meaning.Speaks drives me (Tells (notice.Report report))
+      (covered_at 0 (slice_index c 0) ++ covered_at 1 (slice_index c 1))) none (meaning.OfReport report))
