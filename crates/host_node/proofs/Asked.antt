@@ -1,12 +1,11 @@
 -- How a host goes on when it asks the arbiter, when it is answered, and when it joins a generation or begins one.
-use Rattle.std.proofs.Common.{ℕ, ◌≡◌, ◌≢◌, ◌<◌, suc, Bool, true, false, Option, Some, None, List, [], ◌∷◌, ◌++◌, append-nil, refl, sym, ap, ◌∙◌, subst, inl, inr}
+use Rattle.std.proofs.Common.{ℕ, ◌≡◌, None, List, [], append-nil, refl, sym, ap, ◌∙◌, subst, inl, inr}
 use Rattle.std.specs.Prelude.{Ok, Err, ◌⊎◌}
 use Rattle.i8080_words.specs.declared.refusal.Fault.{Fault}
 use Rattle.i8080_words.specs.declared.refusal.Fault.TheVariants.{Lost}
 use Rattle.arbiter_core.specs.Winners.{winner_of}
 use Rattle.arbiter_core.specs.declared.arbiter.Asking.{Asking}
 use Rattle.arbiter_core.specs.declared.arbiter.Won.{Won}
-use Rattle.clone_state.specs.Copies.{CopiesAs}
 use Rattle.ft_node.specs.AnyNode.{IsNode, IsRole}
 use Rattle.ft_node.specs.Calls as calls
 use Rattle.ft_node.specs.declared.node.Node as code
@@ -31,8 +30,8 @@ use Rattle.host_node.specs.declared.host.Hosted.TheVariants as hosted
 use Rattle.pair_events.specs.declared.reply.Role as shown
 use Rattle.pair_events.specs.declared.reply.Role.TheVariants as role
 use Rattle.pair_protocol.specs.Copying.{Copying}
-use Rattle.pair_protocol.specs.Node.{Node, Role, Primary, Backup, is_role, Joining}
-use Rattle.pair_protocol.specs.Refusals.{fault_if, first_of, suspect_refusal}
+use Rattle.pair_protocol.specs.Node.{Node, Primary, Backup}
+use Rattle.pair_protocol.specs.Refusals.{suspect_refusal}
 use Rattle.host_node.specs.Roles.{MayAsk}
 
 -- a primary or a backup that is up is not refused
@@ -50,7 +49,7 @@ has_won : {S : Type 0} (y : Node S) (n : ℕ) (after : List Asking) (Is : Node S
     → calls.Suspects [] n y (Err Lost) after Is → ⊥
 has_won y n after Is free asked =
     (let k = subst (λ o. calls.Unless {A = Won} o (Err Lost) (Is y × (after ≡ []))
-        (calls.SuspectsOf None [] n y (Err Lost) after Is)) free asked in
+    (calls.SuspectsOf None [] n y (Err Lost) after Is)) free asked in
     let e = k.0 in absurd (cc))
 
 module _ {B S : Type 0} {H : Type 0} (state : B → S) (M : Machine S) (copied : B → Guest) where
@@ -62,9 +61,12 @@ module _ {B S : Type 0} {H : Type 0} (state : B → S) (M : Machine S) (copied :
       → Goes state M copied old new
   asks old new n r generation may was same number came went role_is generation_is =
       sending_it state M copied old new n (Tells (notice.Suspect generation)) was same number came went refl
-      (λ C drives me copies y other node. (law.AsksArbiter me generation, meaning.OfSuspect generation,
-      subst (λ k. host.HostStep M C me y (law.sending (law.AsksArbiter me k)) y) (generation_is C drives y node)
-      (host.Asks (passes M C me y other (λ z. Unit {0}) suspect_refusal (may_ask y r may (role_is C drives y node)).0))))
+      (λ C drives me copies y other node. (
+        law.AsksArbiter me generation,
+        meaning.OfSuspect generation,
+        subst (λ k. host.HostStep M C me y (law.sending (law.AsksArbiter me k)) y) (generation_is C drives y node)
+            (host.Asks (passes M C me y other (λ z. Unit {0}) suspect_refusal (may_ask y r may (role_is C drives y node)).0)),
+      ))
 
   -- the answer: the node asks an arbiter of its own
   pub wins : (old new : HostNode B H) (n m : code.Node B H) (r : shown.Role) (generation : ℕ) (asker : ℕ)
@@ -78,12 +80,14 @@ module _ {B S : Type 0} {H : Type 0} (state : B → S) (M : Machine S) (copied :
   wins old new n m r generation asker askings after won mine_is may was is number came gone from none role_is generation_is call =
       taking_mine state M copied old new n m (Tells (notice.Won generation)) was is number came gone from
       (λ C drives me copies mine y other node frames told.
-      (let e = generation_is C drives y node in
-      (law.HasWon generation me, told (law.HasWon generation me) (meaning.OfWon generation),
-      subst (λ k. Made M C me y (law.taking (law.HasWon k me)) (IsNode state M C drives m)) e
-      ((are-steps M C me y other (IsNode state M C drives m)).wins askings after won
-      (may_ask y r may (role_is C drives y node)).1 (ap (λ l. winner_of l y.generation) none)
-      (subst (λ k. calls.Suspects askings k y (Ok won) after (IsNode state M C drives m)) (mine_is ∙ mine) (call C drives y node))))))
+      (let e = generation_is C drives y node in (
+        law.HasWon generation me,
+        told (law.HasWon generation me) (meaning.OfWon generation),
+        subst (λ k. Made M C me y (law.taking (law.HasWon k me)) (IsNode state M C drives m)) e
+            ((are-steps M C me y other (IsNode state M C drives m)).wins askings after won
+            (may_ask y r may (role_is C drives y node)).1 (ap (λ l. winner_of l y.generation) none)
+            (subst (λ k. calls.Suspects askings k y (Ok won) after (IsNode state M C drives m)) (mine_is ∙ mine) (call C drives y node))),
+      )))
 
   -- whom nobody else asks, so it has not lost
   pub never_lost : (old new : HostNode B H) (n m : code.Node B H) (r : shown.Role) (asker : ℕ) (askings after : List Asking)
@@ -127,9 +131,9 @@ module _ {B S : Type 0} {H : Type 0} (state : B → S) (M : Machine S) (copied :
         let y = h.1.y in
         let e = generation_is C drives y h.1.is in
         let t = told drives me new.mail.came frames (Tells (notice.Lost generation))
-            (subst (λ l. IsFrom l (Tells (notice.Lost generation))) (sym (ap (λ p. p.came) mail)) from) brought in
+        (subst (λ l. IsFrom l (Tells (notice.Lost generation))) (sym (ap (λ p. p.came) mail)) from) brought in
         let made = subst (λ k. Made M C me y (law.taking (law.HasLost k me)) (IsNode state M C drives m)) e
-            ((are-steps M C me y h.1.other (IsNode state M C drives m)).loses (call C drives y h.1.is)) in
+        ((are-steps M C me y h.1.other (IsNode state M C drives m)).loses (call C drives y h.1.is)) in
         let l = steps-follow M C me x y made.y (law.taking (law.HasLost generation me)) h.1.follows made.step in
         record {
           y = l.next;

@@ -1,5 +1,5 @@
 -- How a host goes on when its node begins a generation, and when it joins one.
-use Rattle.std.proofs.Common.{ℕ, ◌≡◌, ◌≢◌, suc, Bool, true, Option, Some, None, List, [], ◌∷◌, ◌++◌, append-nil, refl, sym, ap, ◌∙◌, subst, inl, inr}
+use Rattle.std.proofs.Common.{ℕ, ◌≡◌, ◌≢◌, suc, List, [], ◌∷◌, append-nil, refl, sym, ap, ◌∙◌, subst}
 use Rattle.std.specs.Prelude.{Ok}
 use Rattle.clone_state.specs.Copies.{CopiesAs}
 use Rattle.clone_state.specs.Parts.{part_count}
@@ -30,7 +30,7 @@ use Rattle.host_node.specs.declared.host.HostNode.{HostNode}
 use Rattle.host_node.specs.declared.host.Hosted.TheVariants as hosted
 use Rattle.pair_events.specs.declared.reply.Role.TheVariants as role
 use Rattle.pair_protocol.specs.Copying.{Copying}
-use Rattle.pair_protocol.specs.Node.{Node, Alone, Joining, Spare}
+use Rattle.pair_protocol.specs.Node.{Node, Alone, Spare}
 
 module _ {B S : Type 0} {H : Type 0} (state : B → S) (M : Machine S) (copied : B → Guest) where
   -- the call with a list whose keys the machine has taken, with the frames that go with it
@@ -45,7 +45,7 @@ module _ {B S : Type 0} {H : Type 0} (state : B → S) (M : Machine S) (copied :
       (law.answering (law.MayBegin generation) (law.Recruits generation count Shared list)) (IsNode state M C drives m)
   begun C drives me n m y generation before count began copies other alone reads was next counted list taken node call =
       (let made = (are-steps M C me (record y { list = list }) other (IsNode state M C drives m)).begin began
-          (call (record y { list = list }) taken (no-list state M C drives n y list alone node)) in
+      (call (record y { list = list }) taken (no-list state M C drives n y list alone node)) in
       let g = ap suc was ∙ next in
       let c = sym (ap (node_count M y) alone) ∙ counted in
       subst (λ k. Made M C me (record y { list = list })
@@ -81,10 +81,10 @@ module _ {B S : Type 0} {H : Type 0} (state : B → S) (M : Machine S) (copied :
             let alone = (role_is C drives y h.1.is).1 in
             let l = has-list M x y h.1.follows alone in
             let made = begun C drives me n m y generation before count began copies h.1.other alone h.1.reads
-                (generation_is C drives y h.1.is) next (count_is C drives y h.1.is) l.list l.taken h.1.is
-                (λ x taken node. call C drives x copies taken node) in
+            (generation_is C drives y h.1.is) next (count_is C drives y h.1.is) l.list l.taken h.1.is
+            (λ x taken node. call C drives x copies taken node) in
             let t = told drives me new.mail.came frames (Tells (notice.Begin generation place))
-                (subst (λ c. IsFrom c (Tells (notice.Begin generation place))) (sym came) from) brought in
+            (subst (λ c. IsFrom c (Tells (notice.Begin generation place))) (sym came) from) brought in
             let act = law.answering (law.MayBegin generation) (law.Recruits generation count Shared l.list) in
             let step = steps-follow M C me x (record y { list = l.list }) made.y act l.follows made.step in
             record {
@@ -96,14 +96,16 @@ module _ {B S : Type 0} {H : Type 0} (state : B → S) (M : Machine S) (copied :
                   (meaning.OfOne (Tells (notice.Join generation place drives count))
                   (law.Recruits generation count Shared l.list) refl (meaning.OfJoin generation place count l.list))
                   goes.Nothing);
-              is = subst (λ h. HasNode state M C drives new.number me h step.next) (sym is)
-                  (same.number ∙ h.0, record {
-                    y = made.y;
-                    follows = step.follows;
-                    is = made.is;
-                    other = never_spare M C me (record y { list = l.list }) made.y act made.step h.1.other;
-                    reads = keeps_reads M C me (record y { list = l.list }) made.y act made.step h.1.other ∙ h.1.reads;
-                  });
+              is = subst (λ h. HasNode state M C drives new.number me h step.next) (sym is) (
+                same.number ∙ h.0,
+                record {
+                  y = made.y;
+                  follows = step.follows;
+                  is = made.is;
+                  other = never_spare M C me (record y { list = l.list }) made.y act made.step h.1.other;
+                  reads = keeps_reads M C me (record y { list = l.list }) made.y act made.step h.1.other ∙ h.1.reads;
+                },
+              );
             });
       }
 
@@ -123,8 +125,8 @@ module _ {B S : Type 0} {H : Type 0} (state : B → S) (M : Machine S) (copied :
         (let spare = subst (λ h. HasNode state M C old.drives old.number me h x) was hosted in
         let mine = sym number ∙ numbered (subst (λ h. HasJoined h) (sym is) tt) in
         let t = told old.drives me new.mail.came frames (Tells (notice.Join generation place old.drives count))
-            (subst (λ c. IsFrom c (Tells (notice.Join generation place old.drives count))) (sym (ap (λ p. p.came) mail)) from)
-            brought in
+        (subst (λ c. IsFrom c (Tells (notice.Join generation place old.drives count))) (sym (ap (λ p. p.came) mail)) from)
+        brought in
         let list = t.1.0 in
         let y = host.recruit M C me count Shared list in
         record {
@@ -133,15 +135,17 @@ module _ {B S : Type 0} {H : Type 0} (state : B → S) (M : Machine S) (copied :
               (host.Joins count Shared list spare)
               (subst (λ k. Rattle.pair_protocol.specs.Lawful.Among (law.Recruits k count Shared list) frames) mine t.1.1, tt)
               goes.Nothing;
-          is = subst (λ h. HasNode state M C old.drives new.number me h y) (sym is)
-              (numbered (subst (λ h. HasJoined h) (sym is) tt), record {
-                y = y;
-                follows = follows.Same;
-                is = call C y copies.counted
-                    (subst (λ k. calls.Joins C k count Shared (host.recruit M C me count Shared list)) (sym mine)
-                    (joins M C me count Shared list));
-                other = λ e. cc;
-                reads = refl;
-              });
+          is = subst (λ h. HasNode state M C old.drives new.number me h y) (sym is) (
+            numbered (subst (λ h. HasJoined h) (sym is) tt),
+            record {
+              y = y;
+              follows = follows.Same;
+              is = call C y copies.counted
+                  (subst (λ k. calls.Joins C k count Shared (host.recruit M C me count Shared list)) (sym mine)
+                  (joins M C me count Shared list));
+              other = λ e. cc;
+              reads = refl;
+            },
+          );
         });
   }

@@ -1,5 +1,5 @@
 -- One call of a host's node, with the frame that goes with it, is how the host goes on.
-use Rattle.std.proofs.Common.{ℕ, ◌≡◌, ◌≢◌, List, [], ◌∷◌, ◌++◌, append-nil, refl, sym, ap, ◌∙◌, subst, inl, inr}
+use Rattle.std.proofs.Common.{ℕ, ◌≡◌, ◌≢◌, List, [], ◌∷◌, ◌++◌, append-nil, sym, ◌∙◌, subst}
 use Rattle.clone_state.specs.Copies.{CopiesAs}
 use Rattle.ft_node.specs.AnyNode.{IsNode}
 use Rattle.ft_node.specs.declared.node.Node as code
@@ -7,7 +7,7 @@ use Rattle.guest_lockstep.specs.Machine.{Machine}
 use Rattle.guest_parts.specs.Guest.{Guest}
 use Rattle.host_calls.proofs.Straying.{steps-follow}
 use Rattle.host_calls.specs.Made.{Made}
-use Rattle.host_frames.specs.Frames.{IsSpelling, Said}
+use Rattle.host_frames.specs.Frames.{Said}
 use Rattle.host_frames.specs.Meaning.{IsTold, Means, Speaks, is_report}
 use Rattle.host_frames.specs.Meaning as meaning
 use Rattle.host_law.specs.Frame.{Act, Came, Frame, quiet, sending, taking}
@@ -16,7 +16,7 @@ use Rattle.host_node.proofs.Going.{ran_one}
 use Rattle.host_node.proofs.Roles.{keeps_reads, never_spare}
 use Rattle.host_node.specs.Goes as goes
 use Rattle.host_node.specs.Goes.{AllBring, Goes, RunsTo, Says}
-use Rattle.host_node.specs.Hosts.{HasJoined, HasNode, SameHost, Stands}
+use Rattle.host_node.specs.Hosts.{HasJoined, HasNode, SameHost}
 use Rattle.host_node.specs.Mail.{HasSaid, IsFrom}
 use Rattle.host_node.specs.declared.host.HostNode.{HostNode}
 use Rattle.host_node.specs.declared.host.Hosted.TheVariants as hosted
@@ -64,14 +64,16 @@ module _ {B S : Type 0} {H : Type 0} (state : B → S) (M : Machine S) (copied :
         record {
           y = l.next;
           ran = ran_one M C drives me x l.next frames made.act said l.step made.came made.says;
-          is = subst (λ h. HasNode state M C drives new.number me h l.next) (sym is)
-              (number.number ∙ h.0, record {
-                y = made.made.y;
-                follows = l.follows;
-                is = made.made.is;
-                other = never_spare M C me h.1.y made.made.y made.act made.made.step h.1.other;
-                reads = keeps_reads M C me h.1.y made.made.y made.act made.made.step h.1.other ∙ h.1.reads;
-              });
+          is = subst (λ h. HasNode state M C drives new.number me h l.next) (sym is) (
+            number.number ∙ h.0,
+            record {
+              y = made.made.y;
+              follows = l.follows;
+              is = made.made.is;
+              other = never_spare M C me h.1.y made.made.y made.act made.made.step h.1.other;
+              reads = keeps_reads M C me h.1.y made.made.y made.act made.made.step h.1.other ∙ h.1.reads;
+            },
+          );
         });
   }
 

@@ -1,16 +1,15 @@
 -- How a host goes on: with no call, with one call of its node, and from one state over another to a third.
-use Rattle.std.proofs.Common.{ℕ, ◌≡◌, ◌≢◌, List, [], ◌∷◌, ◌++◌, append-nil, append_assoc, refl, sym, ap, ◌∙◌, subst, inl, inr}
+use Rattle.std.proofs.Common.{ℕ, ◌≡◌, List, [], ◌∷◌, ◌++◌, append-nil, append_assoc, refl, sym, ap, ◌∙◌, subst, inl, inr}
 use Rattle.clone_state.specs.Copies.{CopiesAs}
 use Rattle.guest_lockstep.specs.Machine.{Machine}
 use Rattle.guest_parts.specs.Guest.{Guest}
-use Rattle.host_frames.specs.Frames.{IsBodyOf, IsSpelling, Said}
-use Rattle.host_frames.specs.Meaning.{Brings, Speaks}
+use Rattle.host_frames.specs.Frames.{IsBodyOf, Said}
 use Rattle.host_law.specs.Frame.{Act, Came, Frame, sent, taken}
 use Rattle.host_law.specs.Host as host
 use Rattle.host_law.specs.Host.{HostRun, HostStep}
 use Rattle.host_node.specs.Goes as goes
 use Rattle.host_node.specs.Goes.{AllBring, Goes, Ran, RunsTo, Says}
-use Rattle.host_node.specs.Hosts.{HasJoined, IsHosted, IsNumber, SameHost}
+use Rattle.host_node.specs.Hosts.{HasJoined, IsHosted, SameHost}
 use Rattle.host_node.specs.Mail.{HasSaid, IsFrom}
 use Rattle.host_node.specs.declared.host.HostNode.{HostNode}
 use Rattle.pair_protocol.specs.Copying.{Copying}
@@ -142,12 +141,12 @@ module _ {B S : Type 0} {H : Type 0} (state : B → S) (M : Machine S) (copied :
     drives = q.drives ∙ p.drives;
     runs = λ C me copies is x hosted frames brought.
         (let first = p.runs C me copies (λ joined. (let t = q.stays joined in sym t.1 ∙ is t.0)) x hosted frames
-            (λ body among. brought body (subst (λ l. Among body l) (sym q.came)
-            (among_before body b.mail.came q.heard among))) in
+        (λ body among. brought body (subst (λ l. Among body l) (sym q.came)
+        (among_before body b.mail.came q.heard among))) in
         let then = subst (λ d. CopiesAs state copied d C.parts C.part_count C.assemble
-            → IsHosted state M C d me b first.y → AllBring d me c.mail.came frames
-            → RunsTo state M C d me first.y frames q.said c) p.drives
-            (λ copies hosted brought. q.runs C me copies is first.y hosted frames brought) copies first.is brought in
+        → IsHosted state M C d me b first.y → AllBring d me c.mail.came frames
+        → RunsTo state M C d me first.y frames q.said c) p.drives
+        (λ copies hosted brought. q.runs C me copies is first.y hosted frames brought) copies first.is brought in
         record {
           y = then.y;
           ran = ran_both M C a.drives me x first.y then.y frames p.said q.said first.ran then.ran;

@@ -1,5 +1,5 @@
 -- The index of a part that is read from a message has two bytes.
-use Rattle.std.proofs.Common.{◌≡◌, ℕ, ◌<◌, ◌^◌, Bool, true, false, cond, eqb, List, [], ◌∷◌, Option, Some, None, refl, ap, subst, ◌∙◌, sym}
+use Rattle.std.proofs.Common.{◌≡◌, ℕ, ◌<◌, ◌^◌, Bool, true, false, cond, eqb, List, [], ◌∷◌, Option, Some, None, subst}
 use Rattle.std.proofs.lemmas.Option.{none-some}
 use Rattle.clone_state.proofs.Words.{IsBytes, IsBytes-rest, PartMessage, admitted, after_tag, first_read, generation_from, is_payload, message_at, word}
 use Rattle.clone_state.proofs.PartsRead.{after_generation, after_index}

@@ -1,8 +1,8 @@
 -- How a host goes on by each call of its node that takes a packet.
-use Rattle.std.proofs.Common.{ℕ, ◌≡◌, ◌≢◌, ◌<◌, ◌^◌, Bool, Option, Some, None, List, refl, sym, ap, ◌∙◌, subst}
-use Rattle.std.specs.Prelude.{Ok, Result, [], ◌∷◌, unwrap_or}
+use Rattle.std.proofs.Common.{ℕ, ◌≡◌, ◌≢◌, Bool, Option, Some, None, List, refl, sym, ap, subst}
+use Rattle.std.specs.Prelude.{Ok, [], ◌∷◌, unwrap_or}
 use Rattle.clone_state.specs.Copies.{CopiesAs}
-use Rattle.clone_state.specs.Parts.{PartMessage, message_at, message_bytes}
+use Rattle.clone_state.specs.Parts.{PartMessage, message_at}
 use Rattle.ft_node.specs.AnyNode.{IsNode}
 use Rattle.ft_node.specs.Calls as calls
 use Rattle.ft_node.specs.declared.node.Node as code
@@ -29,7 +29,7 @@ use Rattle.i8080_words.specs.declared.refusal.Fault.{Fault}
 use Rattle.i8080_words.specs.declared.refusal.Fault.TheVariants.{Malformed}
 use Rattle.log_channel.proofs.PacketLaws.{packet_takes}
 use Rattle.log_entry.specs.Numbers.{IsBytes}
-use Rattle.log_channel.specs.Packet.{IsPacket, packet_at, packet_bytes}
+use Rattle.log_channel.specs.Packet.{packet_at}
 use Rattle.log_channel.specs.declared.packet.Packet as channel
 use Rattle.log_channel.specs.declared.packet.Packet.TheVariants.{Log, Ack}
 use Rattle.pair_protocol.specs.Copying.{Copying}
@@ -57,11 +57,13 @@ module _ {B S : Type 0} {H : Type 0} (state : B → S) (M : Machine S) (copied :
   log_made C drives me place m y other bytes all (Some (Ack generation held replayed)) next at call frames told =
       absurd (not_ok _ next _ call)
   log_made C drives me place m y other bytes all (Some (Log generation index e)) next at call frames told =
-      (let s = packet_takes bytes (Log generation index e) all at in
-      (law.Carries (message.LogEntry generation index e), told (law.Carries (message.LogEntry generation index e))
-      (subst (λ l. Means drives me (Packet place l) (law.Carries (message.LogEntry generation index e))) (sym s.1)
-      (meaning.OfEntry place generation index e s.0)),
-      (are-steps M C me y other (IsNode state M C drives m)).on_log generation index e next call))
+      (let s = packet_takes bytes (Log generation index e) all at in (
+        law.Carries (message.LogEntry generation index e),
+        told (law.Carries (message.LogEntry generation index e))
+            (subst (λ l. Means drives me (Packet place l) (law.Carries (message.LogEntry generation index e))) (sym s.1)
+            (meaning.OfEntry place generation index e s.0)),
+        (are-steps M C me y other (IsNode state M C drives m)).on_log generation index e next call,
+      ))
 
   pub on_log : (old new : HostNode B H) (n m : code.Node B H) (place : ℕ) (bytes : List ℕ) (next : Bool)
       → old.node ≡ hosted.Node n → new.node ≡ hosted.Node m → SameHost old new → new.mail ≡ old.mail
@@ -82,12 +84,13 @@ module _ {B S : Type 0} {H : Type 0} (state : B → S) (M : Machine S) (copied :
   ack_made C drives me place m y other bytes all (Some (Log generation index e)) covered at call frames told =
       absurd (not_ok _ covered _ call)
   ack_made C drives me place m y other bytes all (Some (Ack generation held replayed)) covered at call frames told =
-      (let s = packet_takes bytes (Ack generation held replayed) all at in
-      (law.Carries (message.Acknowledgement generation held (unwrap_or replayed 0)),
-      told (law.Carries (message.Acknowledgement generation held (unwrap_or replayed 0)))
-      (subst (λ l. Means drives me (Packet place l) (law.Carries (message.Acknowledgement generation held (unwrap_or replayed 0))))
-      (sym s.1) (meaning.OfAcknowledgement place generation held replayed s.0)),
-      (are-steps M C me y other (IsNode state M C drives m)).on_ack generation held replayed covered call))
+      (let s = packet_takes bytes (Ack generation held replayed) all at in (
+        law.Carries (message.Acknowledgement generation held (unwrap_or replayed 0)),
+        told (law.Carries (message.Acknowledgement generation held (unwrap_or replayed 0)))
+            (subst (λ l. Means drives me (Packet place l) (law.Carries (message.Acknowledgement generation held (unwrap_or replayed 0))))
+            (sym s.1) (meaning.OfAcknowledgement place generation held replayed s.0)),
+        (are-steps M C me y other (IsNode state M C drives m)).on_ack generation held replayed covered call,
+      ))
 
   pub on_ack : (old new : HostNode B H) (n m : code.Node B H) (place : ℕ) (bytes : List ℕ) (covered : ℕ)
       → old.node ≡ hosted.Node n → new.node ≡ hosted.Node m → SameHost old new → new.mail ≡ old.mail
@@ -106,13 +109,14 @@ module _ {B S : Type 0} {H : Type 0} (state : B → S) (M : Machine S) (copied :
       → IsTold drives me (Packet place bytes) frames → IsMade C drives me m y frames
   part_made C drives me place m y other bytes all None came at call frames told = absurd (not_ok _ came _ call)
   part_made C drives me place m y other bytes all (Some p) came at call frames told =
-      (let s = message_written drives bytes p all at in
-      (law.Carries (message.ImagePart p.generation p.index p.payload),
-      told (law.Carries (message.ImagePart p.generation p.index p.payload))
-      (subst (λ l. Means drives me (Packet place l) (law.Carries (message.ImagePart p.generation p.index p.payload)))
-      (sym s.1) (meaning.OfPart place p
-      (record { some = s.0.some; generation = s.0.few; index = index_small drives bytes p all at }))),
-      (are-steps M C me y other (IsNode state M C drives m)).part p came call))
+      (let s = message_written drives bytes p all at in (
+        law.Carries (message.ImagePart p.generation p.index p.payload),
+        told (law.Carries (message.ImagePart p.generation p.index p.payload))
+            (subst (λ l. Means drives me (Packet place l) (law.Carries (message.ImagePart p.generation p.index p.payload)))
+            (sym s.1) (meaning.OfPart place p
+            (record { some = s.0.some; generation = s.0.few; index = index_small drives bytes p all at }))),
+        (are-steps M C me y other (IsNode state M C drives m)).part p came call,
+      ))
 
   pub on_part : (old new : HostNode B H) (n m : code.Node B H) (place : ℕ) (bytes : List ℕ) (came : PartCame)
       → old.node ≡ hosted.Node n → new.node ≡ hosted.Node m → SameHost old new → new.mail ≡ old.mail

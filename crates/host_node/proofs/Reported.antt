@@ -1,8 +1,7 @@
 -- How a host goes on when it reports: it tells the terminals how many keys are covered.
 use Rattle.std.proofs.Common.{ℕ, ◌≡◌, ◌≢◌, ◌<◌, Bool, true, false, cond, eqb, List, [], ◌∷◌, ◌++◌, append-nil, refl, sym, ap, ◌∙◌, subst}
-use Rattle.std.specs.Prelude.{slice_index, ◌⊎◌}
+use Rattle.std.specs.Prelude.{slice_index}
 use Rattle.ft_node.specs.AnyNode.{IsNode}
-use Rattle.ft_node.specs.Calls as calls
 use Rattle.ft_node.specs.declared.node.Node as code
 use Rattle.guest_lockstep.specs.Machine.{Machine}
 use Rattle.guest_parts.specs.Guest.{Guest}
@@ -54,7 +53,7 @@ told_port M C me x y port keys follows step = by_count (eqb keys 0) refl
     }
     by_count false e =
         (let s = steps-follow M C me x y y (law.sending (law.TellsKeys port keys)) follows
-            (step (λ zero. (let k = ap (λ n. eqb n 0) (sym zero) ∙ e in absurd (cc)))) in
+        (step (λ zero. (let k = ap (λ n. eqb n 0) (sym zero) ∙ e in absurd (cc)))) in
         record {
           z = s.next;
           acts = law.sending (law.TellsKeys port keys) ∷ [];
@@ -89,9 +88,9 @@ module _ {B S : Type 0} {H : Type 0} (state : B → S) (M : Machine S) (copied :
         let k = slice_index report.covered 0 in
         let l = slice_index report.covered 1 in
         let a = told_port M C me x y 0 k h.1.follows
-            (told_step C old.drives me n y 0 k h.1.other (omega Rattle.std.proofs.Common.arith) h.1.is first) in
+        (told_step C old.drives me n y 0 k h.1.other (omega Rattle.std.proofs.Common.arith) h.1.is first) in
         let b = told_port M C me a.z y 1 l a.follows
-            (told_step C old.drives me n y 1 l h.1.other (omega Rattle.std.proofs.Common.arith) h.1.is second) in
+        (told_step C old.drives me n y 1 l h.1.other (omega Rattle.std.proofs.Common.arith) h.1.is second) in
         record {
           y = b.z;
           ran = record {
@@ -102,19 +101,21 @@ module _ {B S : Type 0} {H : Type 0} (state : B → S) (M : Machine S) (copied :
                 (subst (λ t. Came t frames) (sym b.takes) tt));
             says = subst (λ t. goes.Says old.drives me (went.bytes ∷ []) t)
                 (append-nil (covered_at 0 k ++ covered_at 1 l)
-                ∙ sym (ap (λ t. t ++ covered_at 1 l) a.sends ∙ ap (λ t. covered_at 0 k ++ t) b.sends)
+                ∙ sym (ap (λ t. sent a.acts ++ t) b.sends ∙ ap (λ t. t ++ covered_at 1 l) a.sends)
                 ∙ sym (sent_both a.acts b.acts))
                 (goes.Then went.bytes (Tells (notice.Report report)) (covered_at 0 k ++ covered_at 1 l) went.spells
                 (meaning.OfReport report) goes.Nothing);
           };
-          is = subst (λ h. HasNode state M C old.drives new.number me h b.z) (sym (is ∙ was))
-              (same.number ∙ h.0, record {
-                y = y;
-                follows = b.follows;
-                is = h.1.is;
-                other = h.1.other;
-                reads = h.1.reads;
-              });
+          is = subst (λ h. HasNode state M C old.drives new.number me h b.z) (sym (is ∙ was)) (
+            same.number ∙ h.0,
+            record {
+              y = y;
+              follows = b.follows;
+              is = h.1.is;
+              other = h.1.other;
+              reads = h.1.reads;
+            },
+          );
         });
   }
 

@@ -1,27 +1,21 @@
 -- How a host goes on by each call of its node whose answer is sent.
-use Rattle.std.proofs.Common.{ℕ, ◌≡◌, ◌≢◌, ◌<◌, ◌^◌, Bool, true, false, Option, Some, None, List, [], ◌∷◌, refl, sym, ap, ◌∙◌, subst, inl, inr}
+use Rattle.std.proofs.Common.{ℕ, ◌≡◌, ◌≢◌, ◌<◌, ◌^◌, refl, sym, subst}
 use Rattle.std.specs.Prelude.{Ok, unwrap_or, ◌⊎◌}
 use Rattle.std.specs.Global.{Vec}
-use Rattle.clone_state.specs.Copies.{CopiesAs}
 use Rattle.disk_dcdd.specs.declared.address.SectorAddress.{SectorAddress}
 use Rattle.disk_dcdd.specs.declared.sector.SectorWrite.{SectorWrite}
-use Rattle.event_callbacks.specs.declared.devices.TheConstants.{PORTS}
 use Rattle.event_callbacks.specs.declared.operations.OpId.{OpId}
-use Rattle.event_callbacks.specs.declared.operations.OpId.TheVariants as name
-use Rattle.event_callbacks.specs.declared.operations.Operation.{Operation}
 use Rattle.event_callbacks.specs.declared.operations.Operation.TheVariants as operation
-use Rattle.ft_node.specs.AnyNode.{IsNode, IsRole}
+use Rattle.ft_node.specs.AnyNode.{IsNode}
 use Rattle.ft_node.specs.Calls as calls
 use Rattle.ft_node.specs.Calls.{Ever, reported_by}
 use Rattle.ft_node.specs.declared.node.Node as code
 use Rattle.guest_lockstep.specs.Machine.{Machine}
 use Rattle.guest_parts.specs.Guest.{Guest}
 use Rattle.host_calls.proofs.Stepping.{are-steps, passes, said}
-use Rattle.host_calls.specs.Made.{Made}
 use Rattle.host_frames.specs.Frames.{Packet, Tells, Transfers}
 use Rattle.host_frames.specs.Meaning as meaning
 use Rattle.host_frames.specs.Meaning.{Means}
-use Rattle.host_frames.specs.declared.frame.Notice.TheVariants.{Suspect}
 use Rattle.host_frames.specs.declared.frame.Transfer.TheVariants.{Byte, Get, Write}
 use Rattle.host_law.specs.Frame as law
 use Rattle.host_law.specs.Frame.{sending}
@@ -33,11 +27,8 @@ use Rattle.host_node.specs.Hosts.{SameHost}
 use Rattle.host_node.specs.Mail.{HasSaid}
 use Rattle.host_node.specs.declared.host.HostNode.{HostNode}
 use Rattle.host_node.specs.declared.host.Hosted.TheVariants as hosted
-use Rattle.log_channel.specs.declared.packet.Packet.TheVariants.{Log, Ack}
-use Rattle.pair_events.specs.declared.reply.Role as shown
-use Rattle.pair_events.specs.declared.reply.Role.TheVariants as role
+use Rattle.log_channel.specs.declared.packet.Packet.TheVariants.{Ack}
 use Rattle.pair_protocol.specs.Copying.{Copying}
-use Rattle.pair_protocol.specs.Effects.{HasPart}
 use Rattle.pair_protocol.specs.Node.{Node, Spare, told_by}
 use Rattle.pair_protocol.specs.Refusals as refusals
 use Rattle.pair_protocol.specs.World as message
@@ -51,11 +42,12 @@ module _ {S : Type 0} (M : Machine S) (C : Copying S) (drives me : ℕ) (y : Nod
 
   sends_entry : (place index : ℕ) (bytes : Vec ℕ) → calls.Sends index y (Ok bytes) → Sends (Packet place bytes.items)
   sends_entry place index bytes call =
-      (let c = said (refusals.send_refusal index y) Ever (λ bytes x. calls.SendsEntry index x bytes) y bytes call in
-      (law.Carries (message.LogEntry y.generation index c.1.e),
-      subst (λ l. Means drives me (Packet place l) (law.Carries (message.LogEntry y.generation index c.1.e)))
-      (sym c.1.spelled.1) (meaning.OfEntry place y.generation index c.1.e c.1.spelled.0),
-      host.SendsEntry index c.1.e (passes M C me y other (λ z. Unit {0}) (refusals.send_refusal index) c.0) c.1.entry))
+      (let c = said (refusals.send_refusal index y) Ever (λ bytes x. calls.SendsEntry index x bytes) y bytes call in (
+        law.Carries (message.LogEntry y.generation index c.1.e),
+        subst (λ l. Means drives me (Packet place l) (law.Carries (message.LogEntry y.generation index c.1.e)))
+            (sym c.1.spelled.1) (meaning.OfEntry place y.generation index c.1.e c.1.spelled.0),
+        host.SendsEntry index c.1.e (passes M C me y other (λ z. Unit {0}) (refusals.send_refusal index) c.0) c.1.entry,
+      ))
 
   told_so : (reads : Rattle.guest_lockstep.specs.declared.reads.Reads.Reads) (replayed : ℕ)
       → unwrap_or (reported_by reads replayed) 0 ≡ told_by reads replayed
@@ -65,39 +57,45 @@ module _ {S : Type 0} (M : Machine S) (C : Copying S) (drives me : ℕ) (y : Nod
   sends_ack : (place : ℕ) (bytes : Vec ℕ) → calls.Acknowledges y (Ok bytes) → Sends (Packet place bytes.items)
   sends_ack place bytes call =
       (let c = said (refusals.acknowledge_refusal y) Ever
-          (λ bytes x. calls.IsSpelled (Ack x.generation (Rattle.std.specs.Prelude.length x.held) (reported_by x.reads x.replayed)) bytes)
-          y bytes call in
-      (law.Carries (message.Acknowledgement y.generation (Rattle.std.specs.Prelude.length y.held) (told_by y.reads y.replayed)),
-      subst (λ k. Means drives me (Packet place bytes.items)
-      (law.Carries (message.Acknowledgement y.generation (Rattle.std.specs.Prelude.length y.held) k))) (told_so y.reads y.replayed)
-      (subst (λ l. Means drives me (Packet place l) (law.Carries
-      (message.Acknowledgement y.generation (Rattle.std.specs.Prelude.length y.held) (unwrap_or (reported_by y.reads y.replayed) 0))))
-      (sym c.1.1) (meaning.OfAcknowledgement place y.generation (Rattle.std.specs.Prelude.length y.held)
-      (reported_by y.reads y.replayed) c.1.0)),
-      host.Acknowledges (Rattle.std.specs.Prelude.length y.held) (told_by y.reads y.replayed)
-      (passes M C me y other (λ z. Unit {0}) refusals.acknowledge_refusal c.0) (refl, refl)))
+      (λ bytes x. calls.IsSpelled (Ack x.generation (Rattle.std.specs.Prelude.length x.held) (reported_by x.reads x.replayed)) bytes)
+      y bytes call in (
+        law.Carries (message.Acknowledgement y.generation (Rattle.std.specs.Prelude.length y.held) (told_by y.reads y.replayed)),
+        subst (λ k. Means drives me (Packet place bytes.items)
+            (law.Carries (message.Acknowledgement y.generation (Rattle.std.specs.Prelude.length y.held) k))) (told_so y.reads y.replayed)
+            (subst (λ l. Means drives me (Packet place l) (law.Carries
+            (message.Acknowledgement y.generation (Rattle.std.specs.Prelude.length y.held) (unwrap_or (reported_by y.reads y.replayed) 0))))
+            (sym c.1.1) (meaning.OfAcknowledgement place y.generation (Rattle.std.specs.Prelude.length y.held)
+            (reported_by y.reads y.replayed) c.1.0)),
+        host.Acknowledges (Rattle.std.specs.Prelude.length y.held) (told_by y.reads y.replayed)
+            (passes M C me y other (λ z. Unit {0}) refusals.acknowledge_refusal c.0) (refl, refl),
+      ))
 
   sends_part : (place index : ℕ) (bytes : Vec ℕ) → index < 2 ^ 16 → calls.SendsPart C index y (Ok bytes)
       → Sends (Packet place bytes.items)
   sends_part place index bytes few call =
-      (let c = said (refusals.send_part_refusal C index y) Ever (λ bytes x. calls.SpellsPart C index x bytes) y bytes call in
-      (law.Carries (message.ImagePart y.generation index c.1.part),
-      subst (λ l. Means drives me (Packet place l) (law.Carries (message.ImagePart y.generation index c.1.part)))
-      (sym c.1.spelled) (meaning.OfPart place (record { generation = y.generation; index = index; payload = c.1.part })
-      (record { some = c.1.first; generation = c.1.within; index = few })),
-      host.SendsPart index c.1.part (passes M C me y other (λ z. Unit {0}) (refusals.send_part_refusal C index) c.0) c.1.has))
+      (let c = said (refusals.send_part_refusal C index y) Ever (λ bytes x. calls.SpellsPart C index x bytes) y bytes call in (
+        law.Carries (message.ImagePart y.generation index c.1.part),
+        subst (λ l. Means drives me (Packet place l) (law.Carries (message.ImagePart y.generation index c.1.part)))
+            (sym c.1.spelled) (meaning.OfPart place (record { generation = y.generation; index = index; payload = c.1.part })
+            (record { some = c.1.first; generation = c.1.within; index = few })),
+        host.SendsPart index c.1.part (passes M C me y other (λ z. Unit {0}) (refusals.send_part_refusal C index) c.0) c.1.has,
+      ))
 
   sends_byte : (id : OpId) (port number byte : ℕ) → host.HasPort id → calls.Releases M id y (Ok (operation.Byte port number byte))
       → Sends (Transfers (Byte port number byte))
-  sends_byte id port number byte has call =
-      (law.Carries (message.Released (operation.Byte port number byte)), meaning.OfByte port number byte,
-      (are-steps M C me y other (λ z. Unit {0})).release id (operation.Byte port number byte) has call)
+  sends_byte id port number byte has call = (
+    law.Carries (message.Released (operation.Byte port number byte)),
+    meaning.OfByte port number byte,
+    (are-steps M C me y other (λ z. Unit {0})).release id (operation.Byte port number byte) has call,
+  )
 
   sends_write : (id : OpId) (write : SectorWrite) → host.HasPort id → calls.Releases M id y (Ok (operation.Write write))
       → Sends (Transfers (Write write))
-  sends_write id write has call =
-      (law.Carries (message.Released (operation.Write write)), meaning.OfWrite write,
-      (are-steps M C me y other (λ z. Unit {0})).release id (operation.Write write) has call)
+  sends_write id write has call = (
+    law.Carries (message.Released (operation.Write write)),
+    meaning.OfWrite write,
+    (are-steps M C me y other (λ z. Unit {0})).release id (operation.Write write) has call,
+  )
 
   sends_place : (sector : ℕ) (address : SectorAddress) → calls.Gets M sector y (Ok address) → Sends (Transfers (Get address))
   sends_place sector address call =

@@ -1,7 +1,6 @@
 -- How a host goes on by each call of its node that no frame goes with.
-use Rattle.std.proofs.Common.{ℕ, ◌≡◌, ◌≢◌, List, refl, sym, ap, ◌∙◌}
+use Rattle.std.proofs.Common.{ℕ, ◌≡◌, sym, ap, ◌∙◌}
 use Rattle.std.specs.Prelude.{OnErr, Result, Ok, Err}
-use Rattle.clone_state.specs.Copies.{CopiesAs}
 use Rattle.ft_node.specs.AnyNode.{IsNode}
 use Rattle.ft_node.specs.Calls as calls
 use Rattle.ft_node.specs.Checked as checked

@@ -1,18 +1,14 @@
 -- How a host goes on by each call of its node that takes a frame which came.
-use Rattle.std.proofs.Common.{ℕ, ◌≡◌, ◌≢◌, ◌<◌, ◌≤◌, Bool, Option, Some, None, List, refl, sym, ap, ◌∙◌, subst}
-use Rattle.std.specs.Prelude.{Ok, unwrap_or}
-use Rattle.clone_state.specs.Copies.{CopiesAs}
-use Rattle.clone_state.specs.Parts.{PartMessage, message_bytes}
-use Rattle.disk_dcdd.specs.declared.address.SectorAddress.{SectorAddress}
+use Rattle.std.proofs.Common.{ℕ, ◌≡◌, ◌≤◌}
+use Rattle.std.specs.Prelude.{Ok}
 use Rattle.ft_node.specs.AnyNode.{IsNode}
 use Rattle.ft_node.specs.Calls as calls
 use Rattle.ft_node.specs.declared.node.Node as code
-use Rattle.ft_node.specs.declared.ran.PartCame.{PartCame}
 use Rattle.guest_lockstep.specs.Machine.{Machine}
 use Rattle.guest_lockstep.specs.declared.input.Input.TheVariants as input
 use Rattle.guest_parts.specs.Guest.{Guest}
 use Rattle.host_calls.proofs.Stepping.{are-steps}
-use Rattle.host_frames.specs.Frames.{Packet, Tells, Transfers}
+use Rattle.host_frames.specs.Frames.{Transfers}
 use Rattle.host_frames.specs.Meaning as meaning
 use Rattle.host_frames.specs.Meaning.{IsPart, address_of_read}
 use Rattle.host_frames.specs.declared.frame.Transfer.TheVariants.{Accepted, Key, Sector, Written}
@@ -23,9 +19,6 @@ use Rattle.host_node.specs.Hosts.{SameHost}
 use Rattle.host_node.specs.Mail.{IsFrom}
 use Rattle.host_node.specs.declared.host.HostNode.{HostNode}
 use Rattle.host_node.specs.declared.host.Hosted.TheVariants as hosted
-use Rattle.log_channel.specs.Packet.{IsPacket, packet_at, packet_bytes}
-use Rattle.log_channel.specs.declared.packet.Packet.TheVariants.{Log, Ack}
-use Rattle.log_entry.specs.declared.entry.Entry.{Entry}
 use Rattle.pair_protocol.specs.Copying.{Copying}
 use Rattle.pair_protocol.specs.Node.{Node}
 use Rattle.pair_protocol.specs.Refusals as refusals
@@ -42,9 +35,12 @@ module _ {B S : Type 0} {H : Type 0} (state : B → S) (M : Machine S) (copied :
       → Goes state M copied old new
   key old new n m port index byte was is number came gone from call =
       taking_it state M copied old new n m (Transfers (Key port index byte)) was is number came gone from
-      (λ C drives me copies y other node frames told. (law.Key port index byte, told (law.Key port index byte)
-      (meaning.OfKey port index byte),
-      (are-steps M C me y other (IsNode state M C drives m)).key port index byte (call C drives y node)))
+      (λ C drives me copies y other node frames told. (
+        law.Key port index byte,
+        told (law.Key port index byte)
+            (meaning.OfKey port index byte),
+        (are-steps M C me y other (IsNode state M C drives m)).key port index byte (call C drives y node),
+      ))
 
   pub acceptance : (old new : HostNode B H) (n m : code.Node B H) (port number count : ℕ) → old.node ≡ hosted.Node n
       → new.node ≡ hosted.Node m → SameHost old new → new.mail.came ≡ old.mail.came → new.mail.gone ≡ old.mail.gone
@@ -54,9 +50,12 @@ module _ {B S : Type 0} {H : Type 0} (state : B → S) (M : Machine S) (copied :
       → Goes state M copied old new
   acceptance old new n m port number count was is numbered came gone from low few call =
       taking_it state M copied old new n m (Transfers (Accepted port count)) was is numbered came gone from
-      (λ C drives me copies y other node frames told. (law.AreAccepted port count, told (law.AreAccepted port count)
-      (meaning.OfAccepted port count),
-      (are-steps M C me y other (IsNode state M C drives m)).sent port number count low few (call C drives y node)))
+      (λ C drives me copies y other node frames told. (
+        law.AreAccepted port count,
+        told (law.AreAccepted port count)
+            (meaning.OfAccepted port count),
+        (are-steps M C me y other (IsNode state M C drives m)).sent port number count low few (call C drives y node),
+      ))
 
   pub done : (old new : HostNode B H) (n m : code.Node B H) (write : ℕ) → old.node ≡ hosted.Node n
       → new.node ≡ hosted.Node m → SameHost old new → new.mail.came ≡ old.mail.came → new.mail.gone ≡ old.mail.gone
@@ -66,9 +65,11 @@ module _ {B S : Type 0} {H : Type 0} (state : B → S) (M : Machine S) (copied :
       → Goes state M copied old new
   done old new n m write was is numbered came gone from call =
       taking_it state M copied old new n m (Transfers (Written write)) was is numbered came gone from
-      (λ C drives me copies y other node frames told. (law.Carries (message.WriteDone write),
-      told (law.Carries (message.WriteDone write)) (meaning.OfWritten write),
-      (are-steps M C me y other (IsNode state M C drives m)).done write (call C drives y node)))
+      (λ C drives me copies y other node frames told. (
+        law.Carries (message.WriteDone write),
+        told (law.Carries (message.WriteDone write)) (meaning.OfWritten write),
+        (are-steps M C me y other (IsNode state M C drives m)).done write (call C drives y node),
+      ))
 
   -- a sector: an input, or what a replaying node waits for
   pub under : (old new : HostNode B H) (n m : code.Node B H) (read : SectorRead) → old.node ≡ hosted.Node n
@@ -80,11 +81,12 @@ module _ {B S : Type 0} {H : Type 0} (state : B → S) (M : Machine S) (copied :
       → Goes state M copied old new
   under old new n m read was is numbered came gone from call =
       taking_it state M copied old new n m (Transfers (Sector read)) was is numbered came gone from
-      (λ C drives me copies y other node frames told.
-      (law.Carries (message.SectorRead (address_of_read read) read.number read.bytes),
-      told (law.Carries (message.SectorRead (address_of_read read) read.number read.bytes)) (meaning.OfSector read),
-      (are-steps M C me y other (IsNode state M C drives m)).under (address_of_read read) read.number read.bytes
-      (call C drives y node)))
+      (λ C drives me copies y other node frames told. (
+        law.Carries (message.SectorRead (address_of_read read) read.number read.bytes),
+        told (law.Carries (message.SectorRead (address_of_read read) read.number read.bytes)) (meaning.OfSector read),
+        (are-steps M C me y other (IsNode state M C drives m)).under (address_of_read read) read.number read.bytes
+            (call C drives y node),
+      ))
 
   pub fetched : (old new : HostNode B H) (n m : code.Node B H) (read : SectorRead) → old.node ≡ hosted.Node n
       → new.node ≡ hosted.Node m → SameHost old new → new.mail.came ≡ old.mail.came → new.mail.gone ≡ old.mail.gone
@@ -94,8 +96,9 @@ module _ {B S : Type 0} {H : Type 0} (state : B → S) (M : Machine S) (copied :
       → Goes state M copied old new
   fetched old new n m read was is numbered came gone from call =
       taking_it state M copied old new n m (Transfers (Sector read)) was is numbered came gone from
-      (λ C drives me copies y other node frames told.
-      (law.Carries (message.SectorRead (address_of_read read) read.number read.bytes),
-      told (law.Carries (message.SectorRead (address_of_read read) read.number read.bytes)) (meaning.OfSector read),
-      (are-steps M C me y other (IsNode state M C drives m)).fetched (address_of_read read) read.number read.bytes
-      (call C drives y node)))
+      (λ C drives me copies y other node frames told. (
+        law.Carries (message.SectorRead (address_of_read read) read.number read.bytes),
+        told (law.Carries (message.SectorRead (address_of_read read) read.number read.bytes)) (meaning.OfSector read),
+        (are-steps M C me y other (IsNode state M C drives m)).fetched (address_of_read read) read.number read.bytes
+            (call C drives y node),
+      ))

@@ -1,9 +1,8 @@
 -- What the fields of a host's mail mean, and what holds of them.
-use Rattle.std.specs.Prelude.{◌≡◌, ℕ, All}
+use Rattle.std.specs.Prelude.{All}
 use Rattle.frame_streams.specs.Reading.{contents_of}
 use Rattle.host_node.specs.Mail.{CameAsKey, Post}
 use Rattle.host_node.specs.declared.mail.Mail.TheInside.{Inside}
-use Rattle.host_node.specs.declared.mail.TheConstants.{KEYS}
 use Rattle.rtrb.specs.Ring.{known_free, received, sent}
 
 abbrev pub post_in : Inside → Post

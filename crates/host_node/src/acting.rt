@@ -1,7 +1,7 @@
 //! What a host's node does in a turn, by its role.
 ghost use Rattle.host_node.specs.Goes.{Goes};
 
-use crate::pace::{AGAIN, End};
+use crate::pace::{AGAIN, End, WRITES};
 use crate::serving::Serving;
 use clone_state::Copies;
 use disk_dcdd::SECTORS;
@@ -14,14 +14,15 @@ const BETWEEN_KEYS: u64 = 300;
 
 // How many entries are sent in one turn at most, and how many parts are under way.
 const ENTRIES: u64 = 256;
+
 const PARTS: u64 = 64;
 
-// How many bytes of a port, and how many writes, may be outstanding.
+// How many bytes of a port are released in one turn at most.
 const BYTES: u64 = 16;
-const WRITES: u64 = 16;
 
 // How often pages are copied early, in microseconds, and how many at once.
 const FRESHEN: u64 = 2_000;
+
 const PAGES: u64 = 8;
 
 impl<B: Copies<H> + Drop, H: Drop> Serving<B, H> {
@@ -31,12 +32,19 @@ impl<B: Copies<H> + Drop, H: Drop> Serving<B, H> {
         ensures { Goes B.state B.machine B.copied self.old.host self.new.host }
     {
         let is_busy = self.run()?;
-        let has_sent = if self.pace.is_copying {
-            self.send_parts()?
-        } else {
-            self.send_log()?
-        };
-        Ok(is_busy || has_sent)
+        let has_sent = self.send()?;
+        Ok(is_busy | has_sent)
+    }
+
+    // Sends the image while a backup is given it, and then the log.
+    #[tactic(auto, using(crate::proofs::Going::stays, crate::proofs::Going::and_then))]
+    fn send(&mut self) -> R<bool>
+        ensures { Goes B.state B.machine B.copied self.old.host self.new.host }
+    {
+        if self.pace.is_copying {
+            return self.send_parts();
+        }
+        self.send_log()
     }
 
     // A node that is alone runs its guest, and copies pages early for the next backup.
@@ -44,13 +52,20 @@ impl<B: Copies<H> + Drop, H: Drop> Serving<B, H> {
     pub(crate) fn run_alone(&mut self) -> R<bool>
         ensures { Goes B.state B.machine B.copied self.old.host self.new.host }
     {
-        if self.pace.is_past(self.pace.freshened_at, FRESHEN) {
-            self.pace.freshened_at = self.pace.now;
-            match self.host.freshen(PAGES) {
-                Ok(_) | Err(_) => {}
-            }
-        }
+        self.freshen();
         self.run()
+    }
+
+    // Copies some pages early, if it is time. Without memory for them they are copied when the generation begins.
+    #[tactic(auto, using(crate::proofs::Going::stays, crate::proofs::Going::and_then))]
+    fn freshen(&mut self)
+        ensures { Goes B.state B.machine B.copied self.old.host self.new.host }
+    {
+        if !self.pace.is_past(self.pace.freshened_at, FRESHEN) {
+            return;
+        }
+        self.pace.freshened_at = self.pace.now;
+        let _ = self.host.freshen(PAGES).is_ok();
     }
 
     // A live node takes keys, runs its guest, and releases what it may.
@@ -59,10 +74,27 @@ impl<B: Copies<H> + Drop, H: Drop> Serving<B, H> {
         ensures { Goes B.state B.machine B.copied self.old.host self.new.host }
     {
         let has_taken = self.take_keys()?;
+        let is_busy = self.step_and_ask()?;
+        Ok(has_taken | is_busy)
+    }
+
+    // Makes steps, and asks of terminals and disk what they ask for.
+    #[tactic(auto, using(crate::proofs::Going::stays, crate::proofs::Going::and_then))]
+    fn step_and_ask(&mut self) -> R<bool>
+        ensures { Goes B.state B.machine B.copied self.old.host self.new.host }
+    {
         let is_busy = self.step()?;
+        self.ask_devices()?;
+        Ok(is_busy)
+    }
+
+    // Releases what is covered, and asks for a sector.
+    #[tactic(auto, using(crate::proofs::Going::stays, crate::proofs::Going::and_then))]
+    fn ask_devices(&mut self) -> R<()>
+        ensures { Goes B.state B.machine B.copied self.old.host self.new.host }
+    {
         self.release()?;
-        self.read()?;
-        Ok(has_taken || is_busy)
+        self.read()
     }
 
     // Takes a key of each port, if the guest may look for one.
@@ -111,14 +143,18 @@ impl<B: Copies<H> + Drop, H: Drop> Serving<B, H> {
     fn release(&mut self) -> R<()>
         ensures { Goes B.state B.machine B.copied self.old.host self.new.host }
     {
-        if self.pace.is_past(self.pace.released_at, AGAIN) {
-            self.pace.released_at = self.pace.now;
-            self.pace.next_byte = [0; 2];
-            self.pace.next_write = self.pace.next_write.saturating_sub(WRITES).max(1);
-        }
-        self.release_bytes(0)?;
-        self.release_bytes(1)?;
+        self.pace.release_again();
+        self.release_both()?;
         self.release_writes()
+    }
+
+    // Releases bytes of both ports.
+    #[tactic(auto, using(crate::proofs::Going::stays, crate::proofs::Going::and_then))]
+    fn release_both(&mut self) -> R<()>
+        ensures { Goes B.state B.machine B.copied self.old.host self.new.host }
+    {
+        self.release_bytes(0)?;
+        self.release_bytes(1)
     }
 
     // Releases bytes of a port.
@@ -260,8 +296,24 @@ impl<B: Copies<H> + Drop, H: Drop> Serving<B, H> {
     pub(crate) fn follow(&mut self) -> R<bool>
         ensures { Goes B.state B.machine B.copied self.old.host self.new.host }
     {
-        self.tell_parts()?;
+        self.answer_peer()?;
+        self.replay()
+    }
+
+    // Says what has come of the image and of the log.
+    #[tactic(auto, using(crate::proofs::Going::stays, crate::proofs::Going::and_then))]
+    fn answer_peer(&mut self) -> R<bool>
+        ensures { Goes B.state B.machine B.copied self.old.host self.new.host }
+    {
         self.acknowledge()?;
+        self.tell_parts()
+    }
+
+    // Makes moves from the entries that are held.
+    #[tactic(auto, using(crate::proofs::Going::stays, crate::proofs::Going::and_then))]
+    fn replay(&mut self) -> R<bool>
+        ensures { Goes B.state B.machine B.copied self.old.host self.new.host }
+    {
         let replayed = self.host.replay(self.settings.steps)?;
         self.fetch(replayed.why)?;
         Ok(replayed.moves > 0)

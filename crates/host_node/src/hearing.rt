@@ -12,8 +12,11 @@ use i8080_words::{Fault, R};
 
 // The first bytes of packets of the log, of acknowledgements with and without a report, and of parts.
 const LOG: u8 = 0x4c;
+
 const ACKNOWLEDGED: u8 = 0x41;
+
 const REPORTED: u8 = 0x42;
+
 const PART: u8 = 0x50;
 
 impl<B: Copies<H> + Drop, H: Drop> HostNode<B, H> {

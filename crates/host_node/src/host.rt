@@ -1,5 +1,6 @@
 //! The node of a host, or what the host has in its place, and its mail.
 ghost use Rattle.std.specs.Prelude.{◌≡◌};
+ghost use Rattle.host_node.specs.Goes.{Goes};
 ghost use Rattle.host_node.specs.declared.host.Hosted.TheVariants as hosted;
 
 use crate::mail::Mail;
@@ -133,8 +134,11 @@ impl<B: Copies<H> + Drop, H: Drop> HostNode<B, H> {
         }
     }
 
-    /// Its mail.
-    pub fn mail(&mut self) -> &mut Mail {
-        &mut self.mail
+    /// Whether no frame can come any more.
+    #[tactic(auto, using(crate::proofs::Going::looked))]
+    pub fn is_over(&mut self) -> bool
+        ensures { Goes B.state B.machine B.copied self.old self.new }
+    {
+        self.mail.is_over()
     }
 }

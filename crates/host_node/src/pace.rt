@@ -11,6 +11,9 @@ pub const TICK: u64 = 50_000;
 /// After how many microseconds what was sent is sent again.
 pub const AGAIN: u64 = 100_000;
 
+/// How many writes after the first that is outstanding are looked at.
+pub const WRITES: u64 = 16;
+
 /// How a host's loop goes. Times are in microseconds.
 #[derive(Clone, Copy)]
 pub struct Settings {
@@ -119,6 +122,16 @@ impl Pace {
     /// Whether a peer that may be silent for so many ticks has been so for longer, or is gone.
     pub fn is_suspected(&self, patience: u32) -> bool {
         self.is_gone || self.silent > patience
+    }
+
+    /// After a while everything that is outstanding is released again, from the first.
+    pub fn release_again(&mut self) {
+        if !self.is_past(self.released_at, AGAIN) {
+            return;
+        }
+        self.released_at = self.now;
+        self.next_byte = [0; PORTS];
+        self.next_write = self.next_write.saturating_sub(WRITES).max(1);
     }
 
     /// The next byte of a port to be released.

@@ -193,8 +193,7 @@ impl<B: Copies<H> + Drop, H: Drop> HostNode<B, H> {
         if !self.mail.has_room() {
             return Ok(false);
         }
-        self.mail
-            .say(&Frame::Notice(Notice::Suspect(generation)))?;
+        self.mail.say(&Frame::Notice(Notice::Suspect(generation)))?;
         self.is_waiting = true;
         Ok(true)
     }

@@ -23,6 +23,7 @@ pub struct Serving<B: Copies<H> + Drop, H: Drop> {
 
 /// Serves until there is a reason to end, which is returned with the host. The reader of frames wakes the loop through the
 /// parker.
+#[tactic(auto, using(crate::proofs::Going::stays, crate::proofs::Going::and_then))]
 pub fn serve<B: Copies<H> + Drop, H: Drop, C: Wait + Clock>(
     rt: &C,
     host: HostNode<B, H>,
@@ -74,17 +75,42 @@ impl<B: Copies<H> + Drop, H: Drop> Serving<B, H> {
         ensures { Goes B.state B.machine B.copied self.old.host self.new.host }
     {
         let has_heard = self.hear_all()?;
-        let is_over = !has_heard && self.host.mail().is_over();
-        if is_over {
+        let has_acted = self.attend(has_heard)?;
+        Ok(has_heard | has_acted)
+    }
+
+    // Goes on, unless no frame can come any more.
+    #[tactic(auto, using(crate::proofs::Going::stays, crate::proofs::Going::and_then))]
+    fn attend(&mut self, has_heard: bool) -> R<bool>
+        ensures { Goes B.state B.machine B.copied self.old.host self.new.host }
+    {
+        let is_over = self.host.is_over();
+        if is_over && !has_heard {
             self.pace.end = Some(End::Closed);
             return Ok(true);
         }
+        self.beat_and_act()
+    }
+
+    // Says that the host is there, and lets the node go on.
+    #[tactic(auto, using(crate::proofs::Going::stays, crate::proofs::Going::and_then))]
+    fn beat_and_act(&mut self) -> R<bool>
+        ensures { Goes B.state B.machine B.copied self.old.host self.new.host }
+    {
         self.beat()?;
-        if self.asks()? {
-            return Ok(has_heard);
+        self.ask_or_act()
+    }
+
+    // While the host waits for the arbiter its node does nothing.
+    #[tactic(auto, using(crate::proofs::Going::stays, crate::proofs::Going::and_then))]
+    fn ask_or_act(&mut self) -> R<bool>
+        ensures { Goes B.state B.machine B.copied self.old.host self.new.host }
+    {
+        let waits = self.asks()?;
+        if waits {
+            return Ok(false);
         }
-        let has_acted = self.act()?;
-        Ok(has_heard || has_acted)
+        self.act()
     }
 
     // Takes the frames that have come. Returns whether there was any.
@@ -135,10 +161,7 @@ impl<B: Copies<H> + Drop, H: Drop> Serving<B, H> {
     fn asks(&mut self) -> R<bool>
         ensures { Goes B.state B.machine B.copied self.old.host self.new.host }
     {
-        let may_ask = matches!(
-            self.host.role(),
-            Some(Role::Primary) | Some(Role::Backup)
-        );
+        let may_ask = matches!(self.host.role(), Some(Role::Primary) | Some(Role::Backup));
         let is_waiting = self.host.is_waiting();
         if !may_ask || (!is_waiting && !self.pace.is_suspected(self.settings.patience)) {
             return Ok(false);
@@ -157,24 +180,34 @@ impl<B: Copies<H> + Drop, H: Drop> Serving<B, H> {
         ensures { Goes B.state B.machine B.copied self.old.host self.new.host }
     {
         let is_time = self.pace.is_past(self.pace.beat_at, self.settings.beat);
-        if is_time || self.is_news() {
-            let report = self.host.report();
-            if self.host.send_report()? {
-                self.pace.told = Some(report);
-            }
+        self.report(is_time)?;
+        self.beat_to_peer(is_time)
+    }
+
+    // Says what the host is, at each beat and when it has changed.
+    #[tactic(auto, using(crate::proofs::Going::stays, crate::proofs::Going::and_then))]
+    fn report(&mut self, is_time: bool) -> R<()>
+        ensures { Goes B.state B.machine B.copied self.old.host self.new.host }
+    {
+        if !is_time && !self.is_news() {
+            return Ok(());
         }
-        if is_time {
-            self.pace.beat_at = self.pace.now;
-            return self.beat_to_peer();
+        let report = self.host.report();
+        if self.host.send_report()? {
+            self.pace.told = Some(report);
         }
         Ok(())
     }
 
-    // Says to the peer that the host is there. A backup acknowledges.
+    // Says to the peer at each beat that the host is there. A backup acknowledges.
     #[tactic(auto, using(crate::proofs::Going::stays, crate::proofs::Going::and_then))]
-    fn beat_to_peer(&mut self) -> R<()>
+    fn beat_to_peer(&mut self, is_time: bool) -> R<()>
         ensures { Goes B.state B.machine B.copied self.old.host self.new.host }
     {
+        if !is_time {
+            return Ok(());
+        }
+        self.pace.beat_at = self.pace.now;
         match self.host.role() {
             Some(Role::Primary) | Some(Role::Joining) => {
                 self.host.beat()?;

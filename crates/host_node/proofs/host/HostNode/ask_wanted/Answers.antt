@@ -1,8 +1,6 @@
-use Rattle.std.proofs.Common.{refl, subst, ◌∙◌}
-use Rattle.host_frames.specs.Frames.{Transfers}
+use Rattle.std.proofs.Common.{refl, ◌∙◌}
 use Rattle.host_node.proofs.Going.{said_since}
 use Rattle.host_node.proofs.Sent.{wanted}
-use Rattle.host_node.specs.Mail.{HasSaid}
 use Rattle.host_node.proofs.host.HostNode.ask_wanted.Goals as goal
 
 pub returns : goal.returns

@@ -1,9 +1,7 @@
-use Rattle.std.proofs.Common.{refl, subst, ◌∙◌}
-use Rattle.host_frames.specs.Frames.{Packet}
+use Rattle.std.proofs.Common.{refl, ◌∙◌}
 use Rattle.host_frames.specs.Meaning.{OfParts}
 use Rattle.host_node.proofs.Going.{said_since}
 use Rattle.host_node.proofs.Calling.{saying}
-use Rattle.host_node.specs.Mail.{HasSaid}
 use Rattle.host_node.proofs.host.HostNode.say_parts.Goals as goal
 
 pub returns : goal.returns

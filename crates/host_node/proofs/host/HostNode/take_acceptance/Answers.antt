@@ -1,4 +1,4 @@
-use Rattle.std.proofs.Common.{refl, arith, ◌∙◌}
+use Rattle.std.proofs.Common.{refl, arith}
 use Rattle.host_node.proofs.Taking.{acceptance}
 use Rattle.host_node.proofs.host.HostNode.take_acceptance.Goals as goal
 
