@@ -14,8 +14,7 @@ use Rattle.log_entry.specs.declared.entry.Entry.{Entry}
 use Rattle.pair_protocol.specs.Lawful.{Among}
 use Rattle.pair_protocol.specs.World as message
 use Rattle.shared_disk.specs.declared.disk.SectorRead.{SectorRead}
-use Rattle.host_frames.specs.Frames.{Said, Packet, Transfers, Tells}
-use Rattle.host_frames.specs.Reading.{frame_at}
+use Rattle.host_frames.specs.Frames.{IsBodyOf, Said, Packet, Transfers, Tells}
 use Rattle.host_frames.specs.declared.frame.Notice.TheVariants.{Suspect, Won, Lost, Begin, Join, Report, Progress}
 use Rattle.host_frames.specs.declared.frame.Report as host
 use Rattle.host_frames.specs.declared.frame.Transfer.TheVariants.{Byte, Key, Accepted, Write, Written, Get, Sector}
@@ -74,7 +73,7 @@ IsTold drives node said frames = (frame : law.Frame) → Means drives node said 
 
 -- the same of a body, if it is one of a frame
 abbrev pub Brings : (drives node : ℕ) → List ℕ → List law.Frame → Type 0
-Brings drives node body frames = (said : Said) → frame_at body ≡ Some said → IsTold drives node said frames
+Brings drives node body frames = (said : Said) → IsBodyOf said body → IsTold drives node said frames
 
 -- ---- what a host sends with a frame
 
