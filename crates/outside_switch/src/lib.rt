@@ -1,0 +1,12 @@
+//! The outside of a pair of processes as its hosts see it: the devices, and between them and the hosts the lines and the switch.
+#![tactic(auto)]
+
+mod heard;
+mod line;
+mod meeting;
+mod places;
+mod switch;
+
+pub use heard::Heard;
+pub use line::HostLine;
+pub use switch::Switch;

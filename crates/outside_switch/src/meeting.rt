@@ -1,0 +1,197 @@
+//! What a frame of a host asks for.
+
+use crate::heard::Heard;
+use crate::places;
+use crate::switch::Switch;
+use disk_dcdd::{SectorAddress, SectorWrite};
+use event_callbacks::PORTS;
+use host_frames::{Frame, Notice, Report, Transfer};
+use i8080_words::Fault;
+use shared_disk::SectorStore;
+use std::alloc::Global;
+
+impl<D: SectorStore> Switch<D> {
+    /// Does what a frame asks for that came from the host at a place. The screen of each port may have room.
+    pub(crate) fn meet(
+        &mut self,
+        alloc: Global,
+        place: u8,
+        frame: Frame<'_>,
+        rooms: [bool; PORTS],
+    ) -> Heard {
+        match frame {
+            Frame::Packet { host, bytes } => {
+                self.pass(alloc, host, &Frame::Packet { host: place, bytes })
+            }
+            Frame::Transfer(transfer) => self.meet_transfer(alloc, place, transfer, rooms),
+            Frame::Notice(notice) => self.meet_notice(alloc, place, notice),
+        }
+    }
+
+    // What is said to a terminal or the disk.
+    fn meet_transfer(
+        &mut self,
+        alloc: Global,
+        place: u8,
+        transfer: Transfer,
+        rooms: [bool; PORTS],
+    ) -> Heard {
+        match transfer {
+            Transfer::Byte { port, number, byte } => {
+                self.meet_byte(alloc, place, port, number, byte, has_room(rooms, port))
+            }
+            Transfer::Write(write) => self.meet_write(alloc, place, &write),
+            Transfer::Get(address) => self.meet_get(alloc, place, address),
+            _ => Heard::Failed,
+        }
+    }
+
+    // What is said to the arbiter or the switch.
+    fn meet_notice(&mut self, alloc: Global, place: u8, notice: Notice) -> Heard {
+        match notice {
+            Notice::Suspect(generation) => self.meet_suspect(alloc, place, generation),
+            Notice::Report(report) => self.meet_report(place, &report),
+            Notice::Join {
+                generation,
+                host,
+                drives,
+                count,
+            } => self.meet_join(alloc, place, generation, host, drives, count),
+            Notice::Progress {
+                host,
+                entries,
+                count,
+            } => {
+                let passed = Notice::Progress {
+                    host: place,
+                    entries,
+                    count,
+                };
+                self.pass(alloc, host, &Frame::Notice(passed))
+            }
+            _ => Heard::Failed,
+        }
+    }
+
+    // A frame is passed on to the host at a place.
+    fn pass(&mut self, alloc: Global, host: u8, frame: &Frame<'_>) -> Heard {
+        if usize::from(host) >= self.lines.len() {
+            return Heard::Failed;
+        }
+        let _ = places::post(&mut self.lines, alloc, host, frame);
+        Heard::Met
+    }
+
+    // A released byte arrives at its terminal, and the host is told how many were accepted.
+    fn meet_byte(
+        &mut self,
+        alloc: Global,
+        place: u8,
+        port: u8,
+        number: u64,
+        byte: u8,
+        room: bool,
+    ) -> Heard {
+        let shown = self.devices.arrive(port, number, byte, room);
+        let count = self.devices.accepted(port);
+        let answer = Frame::Transfer(Transfer::Accepted { port, count });
+        let _ = places::post(&mut self.lines, alloc, place, &answer);
+        match shown {
+            Some(byte) => Heard::Shown { port, byte },
+            None => Heard::Met,
+        }
+    }
+
+    // A released write arrives at the disk.
+    fn meet_write(&mut self, alloc: Global, place: u8, write: &SectorWrite) -> Heard {
+        if self.devices.put(write).is_err() {
+            let answer = Frame::Transfer(Transfer::Failed(write.number));
+            let _ = places::post(&mut self.lines, alloc, place, &answer);
+            return Heard::Unwritten;
+        }
+        let answer = Frame::Transfer(Transfer::Written(write.number));
+        let _ = places::post(&mut self.lines, alloc, place, &answer);
+        Heard::Written
+    }
+
+    // A sector is read.
+    fn meet_get(&mut self, alloc: Global, place: u8, address: SectorAddress) -> Heard {
+        let Ok(read) = self.devices.read(address) else {
+            return Heard::Met;
+        };
+        let answer = Frame::Transfer(Transfer::Sector(read));
+        let _ = places::post(&mut self.lines, alloc, place, &answer);
+        Heard::Met
+    }
+
+    // The arbiter is asked, in the name of the host that is at the place.
+    fn meet_suspect(&mut self, alloc: Global, place: u8, generation: u32) -> Heard {
+        let Some(host) = places::number_at(&self.lines, place) else {
+            return Heard::Met;
+        };
+        match self.devices.test_and_set(generation, host) {
+            Ok(_) => {
+                let answer = Frame::Notice(Notice::Won(generation));
+                let _ = places::post(&mut self.lines, alloc, place, &answer);
+                Heard::Won(generation)
+            }
+            Err(Fault::Lost) => {
+                let answer = Frame::Notice(Notice::Lost(generation));
+                let _ = places::post(&mut self.lines, alloc, place, &answer);
+                Heard::Lost(generation)
+            }
+            Err(_) => Heard::Met,
+        }
+    }
+
+    // Keys that are covered are told to the terminals, and the report is kept.
+    fn meet_report(&mut self, place: u8, report: &Report) -> Heard {
+        let [first, second] = report.covered;
+        if first > 0 {
+            self.devices.tell(0, first);
+        }
+        if second > 0 {
+            self.devices.tell(1, second);
+        }
+        let place = usize::from(place);
+        if place >= self.lines.len() || !self.lines[place].keep(report) {
+            return Heard::Met;
+        }
+        Heard::Became(report.role)
+    }
+
+    // A spare is to join, which it may if it was given to that generation.
+    fn meet_join(
+        &mut self,
+        alloc: Global,
+        place: u8,
+        generation: u32,
+        host: u8,
+        drives: u8,
+        count: u64,
+    ) -> Heard {
+        let to = usize::from(host);
+        if to >= self.lines.len() {
+            return Heard::Failed;
+        }
+        if self.lines[to].number() != Some(generation) {
+            return Heard::Met;
+        }
+        let passed = Notice::Join {
+            generation,
+            host: place,
+            drives,
+            count,
+        };
+        if self.lines[to].send(alloc, &Frame::Notice(passed)) {
+            self.lines[to].join();
+        }
+        Heard::Met
+    }
+}
+
+// Whether the screen of a port has room.
+fn has_room(rooms: [bool; PORTS], port: u8) -> bool {
+    let [first, second] = rooms;
+    if port == 0 { first } else { second }
+}

@@ -1,0 +1,137 @@
+//! The devices, the lines to all hosts, and the calls that a loop makes of them.
+
+use crate::heard::Heard;
+use crate::line::HostLine;
+use crate::places;
+use event_callbacks::PORTS;
+use host_frames::{Frame, Notice, Transfer, frame_of};
+use i8080_words::{Fault, R};
+use outside_devices::OutsideDevices;
+use rtrb::{Consumer, Producer};
+use shared_disk::SectorStore;
+use std::alloc::Global;
+use std::sync::Arc;
+use std::thread::Parker;
+
+/// What is outside of the hosts: the devices, and a line to the host at each place. No call waits: a frame that finds no room in the
+/// ring of its line is lost, and so is one for which there is no memory.
+#[derive(Drop)]
+pub struct Switch<D: SectorStore> {
+    pub(crate) devices: OutsideDevices<D>,
+    pub(crate) lines: Vec<HostLine>,
+}
+
+impl<D: SectorStore> Switch<D> {
+    /// Devices at which nothing has happened yet, and no place. The hosts of generation 1 are counted already.
+    pub fn new(alloc: Global, store: D) -> R<Switch<D>> {
+        let mut devices = OutsideDevices::new(alloc, store)?;
+        devices.admit(0)?;
+        devices.admit(1)?;
+        Ok(Switch {
+            devices,
+            lines: Vec::new(alloc),
+        })
+    }
+
+    /// One place more, and its line. The hosts at the first two places are those of generation 1, and every other one is a spare.
+    /// `Unknown` if a byte names no more places.
+    pub fn add(
+        &mut self,
+        from: Consumer<Vec<u8>>,
+        to: Producer<Vec<u8>>,
+        wake: Arc<Parker>,
+    ) -> R<()> {
+        let place = self.lines.len();
+        if place >= 256 {
+            return Err(Fault::Unknown);
+        }
+        let number = if place < 2 { Some(place as u32) } else { None };
+        self.lines.push(HostLine::new(from, to, wake, number))?;
+        Ok(())
+    }
+
+    /// The lines, by the places of their hosts.
+    pub fn lines(&self) -> &[HostLine] {
+        &self.lines
+    }
+
+    /// Takes the next body of the host at a place, and does what it asks for. The screen of each port may have room. A host that has
+    /// failed is cut off, and what comes from one that was cut off is dropped.
+    pub fn hear(&mut self, alloc: Global, place: u8, rooms: [bool; PORTS]) -> Heard {
+        let Some(body) = places::next(&mut self.lines, place) else {
+            return Heard::Nothing;
+        };
+        if !places::is_open(&self.lines, place) {
+            return Heard::Met;
+        }
+        let heard = match frame_of(&body) {
+            Ok(frame) => self.meet(alloc, place, frame, rooms),
+            Err(_) => Heard::Failed,
+        };
+        if heard == Heard::Failed {
+            self.gone(alloc, place);
+        }
+        heard
+    }
+
+    /// Whether the stream from the host at a place has ended now: it was not cut off before.
+    pub fn has_ended(&mut self, place: u8) -> bool {
+        if !places::is_open(&self.lines, place) {
+            return false;
+        }
+        let place = usize::from(place);
+        place < self.lines.len() && self.lines[place].has_ended()
+    }
+
+    /// The host at a place is gone: it is cut off, and all others are told.
+    pub fn gone(&mut self, alloc: Global, place: u8) {
+        places::close(&mut self.lines, place);
+        places::post_all(&mut self.lines, alloc, Notice::Gone(place));
+    }
+
+    /// A key is typed at the terminal of a port. Returns its index. It is sent to nobody.
+    pub fn type_key(&mut self, port: u8, byte: u8) -> R<u64> {
+        self.devices.type_key(port, byte)
+    }
+
+    /// Sends the key of an index to the host at a place. Returns false if it is not kept, or if the frame is lost.
+    pub fn send_key(&mut self, alloc: Global, place: u8, port: u8, index: u64) -> bool {
+        let Ok(byte) = self.devices.key(port, index) else {
+            return false;
+        };
+        let frame = Frame::Transfer(Transfer::Key { port, index, byte });
+        places::post(&mut self.lines, alloc, place, &frame)
+    }
+
+    /// Tells the host at a place, which is alone, to begin a generation with the spare at another one, whose host has the
+    /// generation's number from now on. Returns false, and nobody has another number, if that place has no spare, if another place
+    /// has the number, if a generation before it has no host yet, or if the frame is lost.
+    pub fn send_begin(&mut self, alloc: Global, place: u8, generation: u32, spare: u8) -> bool {
+        if !places::may_be_given(&self.lines, generation, spare) {
+            return false;
+        }
+        let _ = self.devices.admit(generation);
+        if !self.devices.may_begin(generation) {
+            return false;
+        }
+        let notice = Notice::Begin {
+            generation,
+            host: spare,
+        };
+        if !places::post(&mut self.lines, alloc, place, &Frame::Notice(notice)) {
+            return false;
+        }
+        places::name(&mut self.lines, spare, generation);
+        true
+    }
+
+    /// Tells all hosts that the switch is there.
+    pub fn tick(&mut self, alloc: Global) {
+        places::post_all(&mut self.lines, alloc, Notice::Tick);
+    }
+
+    /// Tells all hosts to stop.
+    pub fn stop(&mut self, alloc: Global) {
+        places::post_all(&mut self.lines, alloc, Notice::Stop);
+    }
+}
