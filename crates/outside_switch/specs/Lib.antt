@@ -1,0 +1,6 @@
+pub mod Lines
+pub mod Calls
+pub mod Says
+pub mod Meets
+pub mod Goes
+pub mod Runs

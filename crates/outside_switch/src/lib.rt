@@ -2,11 +2,13 @@
 #![tactic(auto)]
 
 mod heard;
+mod laws;
 mod line;
 mod meeting;
 mod places;
 mod switch;
 
 pub use heard::Heard;
+pub use laws::switch_runs;
 pub use line::HostLine;
 pub use switch::Switch;

@@ -1,4 +1,13 @@
 //! What a frame of a host asks for.
+ghost use Rattle.std.specs.Prelude.{◌≡◌, [], ℕ};
+ghost use Rattle.host_frames.specs.Frames.{Packet, Said, Tells, Transfers, said_by};
+ghost use Rattle.host_frames.specs.Meaning.{covered_at};
+ghost use Rattle.host_frames.specs.declared.frame.Notice.TheVariants as of_notice;
+ghost use Rattle.host_frames.specs.declared.frame.Transfer.TheVariants as of_transfer;
+ghost use Rattle.outside_switch.specs.Calls.{Called};
+ghost use Rattle.outside_switch.specs.Lines.{number_at};
+ghost use Rattle.outside_switch.specs.Meets.{MeetsSaid};
+ghost use Rattle.outside_switch.specs.Says.{IsPassed};
 
 use crate::heard::Heard;
 use crate::places;
@@ -18,7 +27,9 @@ impl<D: SectorStore> Switch<D> {
         place: u8,
         frame: Frame<'_>,
         rooms: [bool; PORTS],
-    ) -> Heard {
+    ) -> Heard
+        ensures { MeetsSaid place (said_by frame) self.old self.new }
+    {
         match frame {
             Frame::Packet { host, bytes } => {
                 self.pass(alloc, host, &Frame::Packet { host: place, bytes })
@@ -35,7 +46,9 @@ impl<D: SectorStore> Switch<D> {
         place: u8,
         transfer: Transfer,
         rooms: [bool; PORTS],
-    ) -> Heard {
+    ) -> Heard
+        ensures { MeetsSaid place (Transfers transfer) self.old self.new }
+    {
         match transfer {
             Transfer::Byte { port, number, byte } => {
                 self.meet_byte(alloc, place, port, number, byte, has_room(rooms, port))
@@ -47,7 +60,9 @@ impl<D: SectorStore> Switch<D> {
     }
 
     // What is said to the arbiter or the switch.
-    fn meet_notice(&mut self, alloc: Global, place: u8, notice: Notice) -> Heard {
+    fn meet_notice(&mut self, alloc: Global, place: u8, notice: Notice) -> Heard
+        ensures { MeetsSaid place (Tells notice) self.old self.new }
+    {
         match notice {
             Notice::Suspect(generation) => self.meet_suspect(alloc, place, generation),
             Notice::Report(report) => self.meet_report(place, &report),
@@ -74,7 +89,11 @@ impl<D: SectorStore> Switch<D> {
     }
 
     // A frame is passed on to the host at a place.
-    fn pass(&mut self, alloc: Global, host: u8, frame: &Frame<'_>) -> Heard {
+    fn pass(&mut self, alloc: Global, host: u8, frame: &Frame<'_>) -> Heard
+        ensures { (place : ℕ) (heard : Said)
+            → IsPassed place host (number_at self.old.lines.items host) heard (said_by frame.now)
+            → MeetsSaid place heard self.old self.new }
+    {
         if usize::from(host) >= self.lines.len() {
             return Heard::Failed;
         }
@@ -91,7 +110,9 @@ impl<D: SectorStore> Switch<D> {
         number: u64,
         byte: u8,
         room: bool,
-    ) -> Heard {
+    ) -> Heard
+        ensures { MeetsSaid place (Transfers (of_transfer.Byte port number byte)) self.old self.new }
+    {
         let shown = self.devices.arrive(port, number, byte, room);
         let count = self.devices.accepted(port);
         let answer = Frame::Transfer(Transfer::Accepted { port, count });
@@ -103,7 +124,9 @@ impl<D: SectorStore> Switch<D> {
     }
 
     // A released write arrives at the disk.
-    fn meet_write(&mut self, alloc: Global, place: u8, write: &SectorWrite) -> Heard {
+    fn meet_write(&mut self, alloc: Global, place: u8, write: &SectorWrite) -> Heard
+        ensures { MeetsSaid place (Transfers (of_transfer.Write write.now)) self.old self.new }
+    {
         if self.devices.put(write).is_err() {
             let answer = Frame::Transfer(Transfer::Failed(write.number));
             let _ = places::post(&mut self.lines, alloc, place, &answer);
@@ -115,7 +138,9 @@ impl<D: SectorStore> Switch<D> {
     }
 
     // A sector is read.
-    fn meet_get(&mut self, alloc: Global, place: u8, address: SectorAddress) -> Heard {
+    fn meet_get(&mut self, alloc: Global, place: u8, address: SectorAddress) -> Heard
+        ensures { MeetsSaid place (Transfers (of_transfer.Get address)) self.old self.new }
+    {
         let Ok(read) = self.devices.read(address) else {
             return Heard::Met;
         };
@@ -125,7 +150,9 @@ impl<D: SectorStore> Switch<D> {
     }
 
     // The arbiter is asked, in the name of the host that is at the place.
-    fn meet_suspect(&mut self, alloc: Global, place: u8, generation: u32) -> Heard {
+    fn meet_suspect(&mut self, alloc: Global, place: u8, generation: u32) -> Heard
+        ensures { MeetsSaid place (Tells (of_notice.Suspect generation)) self.old self.new }
+    {
         let Some(host) = places::number_at(&self.lines, place) else {
             return Heard::Met;
         };
@@ -145,19 +172,26 @@ impl<D: SectorStore> Switch<D> {
     }
 
     // Keys that are covered are told to the terminals, and the report is kept.
-    fn meet_report(&mut self, place: u8, report: &Report) -> Heard {
+    fn meet_report(&mut self, place: u8, report: &Report) -> Heard
+        ensures { MeetsSaid place (Tells (of_notice.Report report.now)) self.old self.new }
+    {
         let [first, second] = report.covered;
-        if first > 0 {
-            self.devices.tell(0, first);
-        }
-        if second > 0 {
-            self.devices.tell(1, second);
-        }
-        let place = usize::from(place);
-        if place >= self.lines.len() || !self.lines[place].keep(report) {
+        self.tell(0, first);
+        self.tell(1, second);
+        if !places::keep(&mut self.lines, place, report) {
             return Heard::Met;
         }
         Heard::Became(report.role)
+    }
+
+    // Tells a terminal how many of its keys are covered, unless none are.
+    fn tell(&mut self, port: u8, keys: u64)
+        ensures called { Called self.old.devices (covered_at port keys) [] self.new.devices }
+        ensures lines { self.new.lines ≡ self.old.lines }
+    {
+        if keys > 0 {
+            self.devices.tell(port, keys);
+        }
     }
 
     // A spare is to join, which it may if it was given to that generation.
@@ -169,12 +203,13 @@ impl<D: SectorStore> Switch<D> {
         host: u8,
         drives: u8,
         count: u64,
-    ) -> Heard {
-        let to = usize::from(host);
-        if to >= self.lines.len() {
+    ) -> Heard
+        ensures { MeetsSaid place (Tells (of_notice.Join generation host drives count)) self.old self.new }
+    {
+        if usize::from(host) >= self.lines.len() {
             return Heard::Failed;
         }
-        if self.lines[to].number() != Some(generation) {
+        if places::number_at(&self.lines, host) != Some(generation) {
             return Heard::Met;
         }
         let passed = Notice::Join {
@@ -183,9 +218,7 @@ impl<D: SectorStore> Switch<D> {
             drives,
             count,
         };
-        if self.lines[to].send(alloc, &Frame::Notice(passed)) {
-            self.lines[to].join();
-        }
+        let _ = places::post_join(&mut self.lines, alloc, host, &Frame::Notice(passed));
         Heard::Met
     }
 }

@@ -1,11 +1,17 @@
 //! The lines to all hosts, by their places.
+ghost use Rattle.std.specs.Prelude.{◌≡◌, true, Some, None, []};
+ghost use Rattle.host_frames.specs.Frames.{said_by};
+ghost use Rattle.host_frames.specs.Frames.{Tells};
+ghost use Rattle.outside_switch.specs.Lines as table;
 
 use crate::line::HostLine;
-use host_frames::{Frame, Notice};
+use host_frames::{Frame, Notice, Report};
 use std::alloc::Global;
 
 /// Sends a frame to the host at a place. Returns false if there is none, or if the frame is lost.
-pub(crate) fn post(lines: &mut [HostLine], alloc: Global, place: u8, frame: &Frame<'_>) -> bool {
+pub(crate) fn post(lines: &mut [HostLine], alloc: Global, place: u8, frame: &Frame<'_>) -> bool
+    ensures { table.Posts place (said_by frame.now) result lines.old lines.new }
+{
     let place = usize::from(place);
     if place >= lines.len() {
         return false;
@@ -14,15 +20,73 @@ pub(crate) fn post(lines: &mut [HostLine], alloc: Global, place: u8, frame: &Fra
 }
 
 /// Sends a notice to the hosts at all places.
-pub(crate) fn post_all(lines: &mut [HostLine], alloc: Global, notice: Notice) {
+#[tactic(auto, using(crate::proofs::Lines::posted_none, crate::proofs::Lines::posted_more))]
+pub(crate) fn post_all(lines: &mut [HostLine], alloc: Global, notice: Notice)
+    ensures { table.PostsAll (Tells notice) lines.old lines.new }
+{
     let frame = Frame::Notice(notice);
-    for line in lines.iter_mut() {
-        let _ = line.send(alloc, &frame);
+    for place in 0..=u8::MAX {
+        if usize::from(place) >= lines.len() {
+            break;
+        }
+        let _ = post(lines, alloc, place, &frame);
     }
 }
 
+/// Sends the host at a place the frame by which it is to join. Returns false if there is none, or if the frame is lost.
+#[tactic(auto, using(crate::proofs::Lines::posted_and))]
+pub(crate) fn post_join(
+    lines: &mut [HostLine],
+    alloc: Global,
+    place: u8,
+    frame: &Frame<'_>,
+) -> bool
+    ensures { table.Posts place (said_by frame.now) result lines.old lines.new }
+{
+    if !post(lines, alloc, place, frame) {
+        return false;
+    }
+    join(lines, place);
+    true
+}
+
+// The host at a place was told to join.
+fn join(lines: &mut [HostLine], place: u8)
+    ensures goes { table.LinesGo [] lines.old lines.new }
+{
+    let place = usize::from(place);
+    if place < lines.len() {
+        lines[place].join();
+    }
+}
+
+/// Keeps what the host at a place reports. Returns whether its role is another one.
+pub(crate) fn keep(lines: &mut [HostLine], place: u8, report: &Report) -> bool
+    ensures kept { table.AtPlace place (table.IsReported report.now) lines.old lines.new }
+    ensures goes { table.LinesGo [] lines.old lines.new }
+{
+    let place = usize::from(place);
+    if place >= lines.len() {
+        return false;
+    }
+    lines[place].keep(report)
+}
+
+/// Whether the stream from the host at a place has ended, and all its bodies were taken.
+pub(crate) fn has_ended(lines: &mut [HostLine], place: u8) -> bool
+    ensures { table.LinesGo [] lines.old lines.new }
+{
+    let place = usize::from(place);
+    if place >= lines.len() {
+        return false;
+    }
+    lines[place].has_ended()
+}
+
 /// The next body from the host at a place.
-pub(crate) fn next(lines: &mut [HostLine], place: u8) -> Option<Vec<u8>> {
+pub(crate) fn next(lines: &mut [HostLine], place: u8) -> Option<Vec<u8>>
+    ensures { table.HearsAt place result lines.old lines.new }
+{
     let place = usize::from(place);
     if place >= lines.len() {
         return None;
@@ -31,7 +95,9 @@ pub(crate) fn next(lines: &mut [HostLine], place: u8) -> Option<Vec<u8>> {
 }
 
 /// Cuts off the host at a place.
-pub(crate) fn close(lines: &mut [HostLine], place: u8) {
+pub(crate) fn close(lines: &mut [HostLine], place: u8)
+    ensures { table.AtPlace place table.IsClosed lines.old lines.new }
+{
     let place = usize::from(place);
     if place < lines.len() {
         lines[place].close();
@@ -39,7 +105,9 @@ pub(crate) fn close(lines: &mut [HostLine], place: u8) {
 }
 
 /// The host at a place is this one of the law from now on.
-pub(crate) fn name(lines: &mut [HostLine], place: u8, number: u32) {
+pub(crate) fn name(lines: &mut [HostLine], place: u8, number: u32)
+    ensures { table.AtPlace place (table.IsNamed number) lines.old lines.new }
+{
     let place = usize::from(place);
     if place < lines.len() {
         lines[place].name(number);
@@ -47,7 +115,9 @@ pub(crate) fn name(lines: &mut [HostLine], place: u8, number: u32) {
 }
 
 /// Which host of the law is at a place.
-pub(crate) fn number_at(lines: &[HostLine], place: u8) -> Option<u32> {
+pub(crate) fn number_at(lines: &[HostLine], place: u8) -> Option<u32>
+    ensures { result ≡ table.number_at lines.now place }
+{
     let place = usize::from(place);
     if place >= lines.len() {
         return None;

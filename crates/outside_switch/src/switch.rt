@@ -1,4 +1,9 @@
 //! The devices, the lines to all hosts, and the calls that a loop makes of them.
+ghost use Rattle.std.specs.Prelude.{◌≡◌, [], IfOk, OnErr};
+ghost use Rattle.outside_devices.specs.Held.{at_boot};
+ghost use Rattle.outside_devices.specs.Calls.{typed_answer};
+ghost use Rattle.outside_switch.specs.Goes.{Goes};
+ghost use Rattle.outside_switch.specs.Meets.{seen};
 
 use crate::heard::Heard;
 use crate::line::HostLine;
@@ -23,7 +28,10 @@ pub struct Switch<D: SectorStore> {
 
 impl<D: SectorStore> Switch<D> {
     /// Devices at which nothing has happened yet, and no place. The hosts of generation 1 are counted already.
-    pub fn new(alloc: Global, store: D) -> R<Switch<D>> {
+    pub fn new(alloc: Global, store: D) -> R<Switch<D>>
+        ensures { IfOk result (λ switch. seen switch
+            ≡ record { devices = record (at_boot (D.records store) (D.may_fail store)) { hosts = 2 }; lines = [] }) }
+    {
         let mut devices = OutsideDevices::new(alloc, store)?;
         devices.admit(0)?;
         devices.admit(1)?;
@@ -51,13 +59,17 @@ impl<D: SectorStore> Switch<D> {
     }
 
     /// The lines, by the places of their hosts.
-    pub fn lines(&self) -> &[HostLine] {
+    pub fn lines(&self) -> &[HostLine]
+        ensures { result.now ≡ self.now.lines.items }
+    {
         &self.lines
     }
 
     /// Takes the next body of the host at a place, and does what it asks for. The screen of each port may have room. A host that has
     /// failed is cut off, and what comes from one that was cut off is dropped.
-    pub fn hear(&mut self, alloc: Global, place: u8, rooms: [bool; PORTS]) -> Heard {
+    pub fn hear(&mut self, alloc: Global, place: u8, rooms: [bool; PORTS]) -> Heard
+        ensures { Goes (seen self.old) (seen self.new) }
+    {
         let Some(body) = places::next(&mut self.lines, place) else {
             return Heard::Nothing;
         };
@@ -75,27 +87,35 @@ impl<D: SectorStore> Switch<D> {
     }
 
     /// Whether the stream from the host at a place has ended now: it was not cut off before.
-    pub fn has_ended(&mut self, place: u8) -> bool {
+    pub fn has_ended(&mut self, place: u8) -> bool
+        ensures { Goes (seen self.old) (seen self.new) }
+    {
         if !places::is_open(&self.lines, place) {
             return false;
         }
-        let place = usize::from(place);
-        place < self.lines.len() && self.lines[place].has_ended()
+        places::has_ended(&mut self.lines, place)
     }
 
     /// The host at a place is gone: it is cut off, and all others are told.
-    pub fn gone(&mut self, alloc: Global, place: u8) {
+    pub fn gone(&mut self, alloc: Global, place: u8)
+        ensures { Goes (seen self.old) (seen self.new) }
+    {
         places::close(&mut self.lines, place);
         places::post_all(&mut self.lines, alloc, Notice::Gone(place));
     }
 
     /// A key is typed at the terminal of a port. Returns its index. It is sent to nobody.
-    pub fn type_key(&mut self, port: u8, byte: u8) -> R<u64> {
+    pub fn type_key(&mut self, port: u8, byte: u8) -> R<u64>
+        ensures answer { result ≡ typed_answer self.old.devices.terminals port }
+        ensures goes { Goes (seen self.old) (seen self.new) }
+    {
         self.devices.type_key(port, byte)
     }
 
     /// Sends the key of an index to the host at a place. Returns false if it is not kept, or if the frame is lost.
-    pub fn send_key(&mut self, alloc: Global, place: u8, port: u8, index: u64) -> bool {
+    pub fn send_key(&mut self, alloc: Global, place: u8, port: u8, index: u64) -> bool
+        ensures { Goes (seen self.old) (seen self.new) }
+    {
         let Ok(byte) = self.devices.key(port, index) else {
             return false;
         };
@@ -106,7 +126,9 @@ impl<D: SectorStore> Switch<D> {
     /// Tells the host at a place, which is alone, to begin a generation with the spare at another one, whose host has the
     /// generation's number from now on. Returns false, and nobody has another number, if that place has no spare, if another place
     /// has the number, if a generation before it has no host yet, or if the frame is lost.
-    pub fn send_begin(&mut self, alloc: Global, place: u8, generation: u32, spare: u8) -> bool {
+    pub fn send_begin(&mut self, alloc: Global, place: u8, generation: u32, spare: u8) -> bool
+        ensures { Goes (seen self.old) (seen self.new) }
+    {
         if !places::may_be_given(&self.lines, generation, spare) {
             return false;
         }
@@ -126,12 +148,16 @@ impl<D: SectorStore> Switch<D> {
     }
 
     /// Tells all hosts that the switch is there.
-    pub fn tick(&mut self, alloc: Global) {
+    pub fn tick(&mut self, alloc: Global)
+        ensures { Goes (seen self.old) (seen self.new) }
+    {
         places::post_all(&mut self.lines, alloc, Notice::Tick);
     }
 
     /// Tells all hosts to stop.
-    pub fn stop(&mut self, alloc: Global) {
+    pub fn stop(&mut self, alloc: Global)
+        ensures { Goes (seen self.old) (seen self.new) }
+    {
         places::post_all(&mut self.lines, alloc, Notice::Stop);
     }
 }

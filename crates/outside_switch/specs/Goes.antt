@@ -1,0 +1,45 @@
+-- What calls of the switch come to, one after another.
+use Rattle.std.specs.Prelude.{◌≡◌, ℕ, List, [], ◌∷◌, Option, Some, None}
+use Rattle.std.specs.Global.{Vec}
+use Rattle.host_frames.specs.Frames.{IsBodyOf, IsSpelling, Said, Tells}
+use Rattle.host_frames.specs.declared.frame.Notice.TheVariants.{Begin}
+use Rattle.host_law.specs.Frame.{Frame}
+use Rattle.outside_switch.specs.Lines.{AtPlace, IsClosed, IsNamed, LineGoes, OneLine, Pushed}
+use Rattle.outside_switch.specs.Meets.{Meets, Seen}
+use Rattle.outside_switch.specs.Says.{Saying}
+use Rattle.outside_switch.specs.declared.line.HostLine.{HostLine}
+
+-- only the line of one place became another
+pub record Lines (place : ℕ) (Becomes : HostLine → HostLine → Type 0) (old new : Seen) : Type 0 where
+  pub lines : AtPlace place Becomes old.lines new.lines
+  pub devices : new.devices ≡ old.devices
+
+-- a body came from the host at a place
+pub record Takes (place : ℕ) (body : Vec ℕ) (old new : Seen) : Type 0 where
+  pub lines : OneLine place (LineGoes (body ∷ []) []) old.lines new.lines
+  pub devices : new.devices ≡ old.devices
+
+-- a host was told to begin a generation with that one at a place
+pub record Begins (place generation : ℕ) (old new : Seen) : Type 0 where
+  pub to : ℕ
+  pub bytes : Vec ℕ
+  pub spelled : IsSpelling (Tells (Begin generation place)) bytes.items
+  pub meets : Meets None old new
+  pub pushed : meets.pushed ≡ record { place = to; bytes = bytes } ∷ []
+
+-- how it went on from its first state
+pub data Goes (first : Seen) : Seen → Type 0 where
+  Rests : Goes first first
+  -- nobody said anything
+  Acts : {old : Seen} (new : Seen) → Goes first old → Meets None old new → Goes first new
+  -- what a host said was met
+  Hears : {old : Seen} (taken new : Seen) (place : ℕ) (body : Vec ℕ) (said : Said) → Goes first old →
+      Takes place body old taken → IsBodyOf said body.items →
+      Meets (Some (record { place = place; said = said })) taken new → Goes first new
+  -- what came from a host was dropped
+  Drops : {old : Seen} (new : Seen) (place : ℕ) (body : Vec ℕ) → Goes first old → Takes place body old new → Goes first new
+  -- a host is cut off
+  Closes : {old : Seen} (new : Seen) (place : ℕ) → Goes first old → Lines place IsClosed old new → Goes first new
+  -- a host is another one of the law from now on: it was given to a generation, and has its number
+  Names : {old : Seen} (begun new : Seen) (place generation : ℕ) → Goes first old → Begins place generation old begun →
+      Lines place (IsNamed generation) begun new → Goes first new
