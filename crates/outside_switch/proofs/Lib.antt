@@ -1,5 +1,5 @@
 pub mod Lines
 pub mod Meanings
-pub mod Meeting
+pub mod Acting
 pub mod Going
 pub mod Running

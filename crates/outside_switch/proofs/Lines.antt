@@ -1,13 +1,15 @@
 -- What became of the lines: nothing, one frame at one place, and some frames after others.
 use Rattle.std.proofs.Common.{ℕ, ◌≡◌, Bool, true, false, cond, Option, Some, None, List, [], ◌∷◌, ◌++◌, append-nil, append_assoc, refl, sym, ap, ◌∙◌, subst, eqb-true, ne_eqb, eq-eqb, inl, inr}
-use Rattle.std.specs.Prelude.{◌==◌, slice_get, slice_set}
+use Rattle.std.specs.Prelude.{◌==◌, ◌<◌, ◌≤◌, length, slice_get, slice_set}
+use Rattle.std.proofs.Common.{get_or}
+use Rattle.std.proofs.lemmas.Option.{slice_get-get_or, slice_get_past}
 use Rattle.std.specs.Global.{Vec}
 use Rattle.std.specs.List.{AllByRecursion}
-use Rattle.rtrb.specs.Ring.{SameProducer, received, sent}
+use Rattle.rtrb.specs.Ring.{ProducerLooked, SameConsumer, SameProducer, received, sent}
 use Rattle.rtrb.specs.declared.producer.Producer.{Producer}
 use Rattle.host_frames.specs.Frames.{IsSpelling, Said}
 use Rattle.pair_protocol.proofs.Traces.Lists.{bool_cases, get_set, get_set_other}
-use Rattle.outside_switch.specs.Lines.{LineGoes, LinesGo, PlaceGoes, Posts, PostsAll, Pushed, Sends, Took, pushed_to}
+use Rattle.outside_switch.specs.Lines.{Hears, HearsAt, LineGoes, LinesGo, OneLine, PlaceGoes, Posts, PostsAll, Pushed, Pushes, Sends, Took, number_at, number_in, pushed_to}
 use Rattle.outside_switch.specs.declared.line.HostLine.{HostLine}
 
 -- ---- one line
@@ -47,6 +49,46 @@ line_both us vs xs ys a b c p q = record {
   gone = took_both xs ys a.to b.to c.to p.gone q.gone;
   number = q.number ∙ p.number;
 }
+
+-- a frame was pushed to the ring, which had room
+pub took_pushed : {A P : Type 0} (o : Option (Producer (Vec ℕ) A P)) (a b c : Producer (Vec ℕ) A P) (bytes : Vec ℕ) →
+    o ≡ Some a → ProducerLooked a b → SameProducer b c → sent c ≡ sent b ++ bytes ∷ [] → Took (bytes ∷ []) o (Some c)
+took_pushed o a b c bytes is looked same pushed =
+    subst (λ q. Took (bytes ∷ []) q (Some c)) (sym is)
+    (
+      (
+        (same.0.0 ∙ looked.0.0.0, same.0.1 ∙ looked.0.0.1, same.0.2 ∙ looked.0.0.2, same.0.3 ∙ looked.0.0.3),
+        same.1 ∙ looked.0.1,
+      ),
+      pushed ∙ ap (λ l. l ++ bytes ∷ []) looked.1,
+    )
+
+-- only the ring to the host took something
+pub line_took : (a b : HostLine) (xs : List (Vec ℕ)) → b ≡ record a { to = b.to } → Took xs a.to b.to → LineGoes [] xs a b
+line_took a b xs is took =
+    subst (λ l. LineGoes [] xs a l) (sym is)
+    (record {
+      same = ((refl, refl, refl, refl), refl);
+      came = sym (append-nil (received a.from));
+      gone = took;
+      number = refl;
+    })
+
+pub sends_of : (said : Said) (r : Bool) (a b : HostLine) → b ≡ record a { to = b.to } → Pushes said r a.to b.to →
+    Sends said r a b
+sends_of said true a b is p = (p.0, p.1, line_took a b (p.0 ∷ []) is p.2)
+sends_of said false a b is p = line_took a b [] is p
+
+-- its rings and its number are as they were
+pub line_marked : (a b c : HostLine) → b ≡ c → c.from ≡ a.from → c.to ≡ a.to → c.number ≡ a.number → LineGoes [] [] a b
+line_marked a b c is from to number =
+    subst (λ l. LineGoes [] [] a l) (sym is)
+    (record {
+      same = subst (λ r. SameConsumer a.from r) (sym from) ((refl, refl, refl, refl), refl);
+      came = ap received from ∙ sym (append-nil (received a.from));
+      gone = subst (λ r. Took [] a.to r) (sym to) (took_none a.to);
+      number = number;
+    })
 
 -- ---- all lines
 
@@ -152,3 +194,42 @@ posted_more said place false a b c p q = record {
   spelled = spelled_both said p.pushed [] p.spelled tt;
   lines = lines_both p.pushed [] a b c p.lines q;
 }
+
+-- ---- a place that is there
+
+module _ (lines : List HostLine) (index place : ℕ) (d : HostLine) (same : index ≡ place) (low : index < length lines) where
+  there : slice_get lines place ≡ Some (get_or lines index d)
+  there = subst (λ k. slice_get lines k ≡ Some (get_or lines index d)) same (slice_get-get_or lines index d low)
+
+  pub posted_at : (b : HostLine) (said : Said) (r : Bool) → Sends said r (get_or lines index d) b →
+      Posts place said r lines (slice_set lines index b)
+  posted_at b said r sends =
+      subst (λ k. Posts place said r lines (slice_set lines k b)) (sym same)
+      (posted lines place (get_or lines index d) b said r there sends)
+
+  pub one_at : (Becomes : HostLine → HostLine → Type 0) (b : HostLine) → Becomes (get_or lines index d) b →
+      OneLine place Becomes lines (slice_set lines index b)
+  one_at Becomes b is = record {
+    before = get_or lines index d;
+    after = b;
+    there = there;
+    set = ap (λ k. slice_set lines k b) same;
+    becomes = is;
+  }
+
+  pub same_at : (b : HostLine) → LineGoes [] [] (get_or lines index d) b → LinesGo [] lines (slice_set lines index b)
+  same_at b goes =
+      subst (λ k. LinesGo [] lines (slice_set lines k b)) (sym same)
+      (lines_one lines place (get_or lines index d) b [] [] there goes refl (λ other ne. refl))
+
+  pub heard_at : (o : Option (Vec ℕ)) (b : HostLine) → Hears o (get_or lines index d) b →
+      HearsAt place o lines (slice_set lines index b)
+  heard_at None b goes = same_at b goes
+  heard_at (Some body) b goes = one_at (LineGoes (body ∷ []) []) b goes
+
+  pub number_is : number_at lines place ≡ (get_or lines index d).number
+  number_is = ap (λ o. number_in o) there
+
+-- none is there
+pub past_at : (lines : List HostLine) (index place : ℕ) → index ≡ place → length lines ≤ index → slice_get lines place ≡ None
+past_at lines index place same high = slice_get_past lines place (subst (λ k. length lines ≤ k) same high)

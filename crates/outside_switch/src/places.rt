@@ -1,11 +1,10 @@
 //! The lines to all hosts, by their places.
 ghost use Rattle.std.specs.Prelude.{◌≡◌, true, Some, None, []};
 ghost use Rattle.host_frames.specs.Frames.{said_by};
-ghost use Rattle.host_frames.specs.Frames.{Tells};
 ghost use Rattle.outside_switch.specs.Lines as table;
 
 use crate::line::HostLine;
-use host_frames::{Frame, Notice, Report};
+use host_frames::{Frame, Report};
 use std::alloc::Global;
 
 /// Sends a frame to the host at a place. Returns false if there is none, or if the frame is lost.
@@ -19,17 +18,16 @@ pub(crate) fn post(lines: &mut [HostLine], alloc: Global, place: u8, frame: &Fra
     lines[place].send(alloc, frame)
 }
 
-/// Sends a notice to the hosts at all places.
+/// Sends a frame to the hosts at all places.
 #[tactic(auto, using(crate::proofs::Lines::posted_none, crate::proofs::Lines::posted_more))]
-pub(crate) fn post_all(lines: &mut [HostLine], alloc: Global, notice: Notice)
-    ensures { table.PostsAll (Tells notice) lines.old lines.new }
+pub(crate) fn post_all(lines: &mut [HostLine], alloc: Global, frame: &Frame<'_>)
+    ensures { table.PostsAll (said_by frame.now) lines.old lines.new }
 {
-    let frame = Frame::Notice(notice);
     for place in 0..=u8::MAX {
         if usize::from(place) >= lines.len() {
             break;
         }
-        let _ = post(lines, alloc, place, &frame);
+        let _ = post(lines, alloc, place, frame);
     }
 }
 

@@ -101,7 +101,7 @@ impl<D: SectorStore> Switch<D> {
         ensures { Goes (seen self.old) (seen self.new) }
     {
         places::close(&mut self.lines, place);
-        places::post_all(&mut self.lines, alloc, Notice::Gone(place));
+        places::post_all(&mut self.lines, alloc, &Frame::Notice(Notice::Gone(place)));
     }
 
     /// A key is typed at the terminal of a port. Returns its index. It is sent to nobody.
@@ -151,13 +151,13 @@ impl<D: SectorStore> Switch<D> {
     pub fn tick(&mut self, alloc: Global)
         ensures { Goes (seen self.old) (seen self.new) }
     {
-        places::post_all(&mut self.lines, alloc, Notice::Tick);
+        places::post_all(&mut self.lines, alloc, &Frame::Notice(Notice::Tick));
     }
 
     /// Tells all hosts to stop.
     pub fn stop(&mut self, alloc: Global)
         ensures { Goes (seen self.old) (seen self.new) }
     {
-        places::post_all(&mut self.lines, alloc, Notice::Stop);
+        places::post_all(&mut self.lines, alloc, &Frame::Notice(Notice::Stop));
     }
 }
