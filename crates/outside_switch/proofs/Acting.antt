@@ -1,6 +1,6 @@
 -- One call of the switch: what the devices did, and what was pushed, are all that it did.
-use Rattle.std.proofs.Common.{ℕ, ◌≡◌, ◌<◌, Bool, true, false, Option, Some, None, Ok, Err, List, [], ◌∷◌, ◌++◌, append-nil, append_assoc, refl, sym, ap, ◌∙◌, subst, inl, inr}
-use Rattle.std.specs.Prelude.{IsTrue, nat_lt, slice_get, slice_index}
+use Rattle.std.proofs.Common.{ℕ, ◌≡◌, ◌<◌, Bool, true, false, Option, Some, None, Ok, Err, List, [], ◌∷◌, ◌++◌, append-nil, append_assoc, refl, sym, ap, ◌∙◌, subst, inl, inr, cond, ne_eqb, arith, eqb-false}
+use Rattle.std.specs.Prelude.{◌==◌, IsTrue, nat_lt, slice_get, slice_index}
 use Rattle.std.specs.Global.{Vec}
 use Rattle.std.specs.List.{AllByRecursion}
 use Rattle.arbiter_core.specs.declared.arbiter.Won as arbiter
@@ -13,7 +13,7 @@ use Rattle.pair_protocol.specs.World as message
 use Rattle.shared_disk.specs.declared.disk.SectorRead.{SectorRead}
 use Rattle.host_frames.specs.Frames.{IsSpelling, Said, Packet, Transfers, Tells}
 use Rattle.host_frames.specs.Meaning as meaning
-use Rattle.host_frames.specs.Meaning.{IsTold, Means, address_of_read}
+use Rattle.host_frames.specs.Meaning.{IsTold, Means, address_of_read, covered_at}
 use Rattle.host_frames.specs.declared.frame.Notice.{Notice}
 use Rattle.host_frames.specs.declared.frame.Notice.TheVariants.{Begin, Gone, Join, Lost, Progress, Report, Stop, Suspect, Tick, Won}
 use Rattle.host_frames.specs.declared.frame.Report as host
@@ -56,6 +56,9 @@ nothing_met heard a b devices lines = record {
   right = tt;
   lines = lines;
 }
+
+pub still_met : (heard : Option Saying) (a : Seen) → Meets heard a a
+still_met heard a = nothing_met heard a a refl (lines_same a.lines)
 
 -- the devices were called, and one frame was pushed or lost
 pub one_met : (heard : Option Saying) (a b : Seen) (read written : List law.Frame) (place : ℕ) (said : Said) (r : Bool) →
@@ -108,17 +111,18 @@ brings_one : (place : ℕ) (said : Said) (frame : law.Frame) (a : Seen) (drives 
     Came (frame ∷ []) frames
 brings_one place said frame a drives frames means brings = (means brings.0 brings.2, tt)
 
-pub byte_met : (place port number byte : ℕ) (room r : Bool) (a b : Seen) →
+pub byte_met : (place port number byte count : ℕ) (room r : Bool) (a b : Seen) →
     b.devices ≡ record a.devices { terminals = arrived_after a.devices.terminals port number room } →
-    Posts place (Transfers (Accepted port (terminal_at b.devices.terminals port).accepted)) r a.lines b.lines →
+    count ≡ (terminal_at b.devices.terminals port).accepted →
+    Posts place (Transfers (Accepted port count)) r a.lines b.lines →
     Meets (saying place (Transfers (Byte port number byte))) a b
-byte_met place port number byte room r a b arrives posts =
-    one_met (saying place (Transfers (Byte port number byte))) a b _ _ place
-    (Transfers (Accepted port (terminal_at b.devices.terminals port).accepted)) r
+byte_met place port number byte count room r a b arrives counts posts =
+    one_met (saying place (Transfers (Byte port number byte))) a b _ _ place (Transfers (Accepted port count)) r
     (called_two a.devices b.devices b.devices _ _ (calls.TakesByte port number byte room arrives) (calls.SendsCount port refl))
     (λ drives frames. brings_one place (Transfers (Byte port number byte)) _ a drives frames
     (λ host told. told _ (meaning.OfByte port number byte)))
-    (λ bytes. inr (λ drives host frame is means. inl (only drives host _ frame means)))
+    (λ bytes. inr (λ drives host frame is means.
+    inl (only drives host _ frame means ∙ ap (λ n. law.AreAccepted port n) counts)))
     posts
 
 pub written_met : (place : ℕ) (write : SectorWrite) (r : Bool) (a b : Seen) →
@@ -224,6 +228,57 @@ forgot_met place generation number why a b at asks same lines =
     (called_one a.devices b.devices _ (calls.Forgets generation number why asks same))
     (brings_question place generation number a at)
     (subst (λ l. LinesGo [] a.lines l) (sym lines) (lines_same a.lines))
+
+-- ---- what a host reports
+
+called_both : (a b c : Held) (r s w v : List law.Frame) → Called a r w b → Called b s v c → Called a (r ++ s) (w ++ v) c
+called_both a b c r s w v p calls.Rests =
+    subst (λ l. Called a l (w ++ []) b) (sym (append-nil r))
+    (subst (λ l. Called a r l b) (sym (append-nil w)) p)
+called_both a b c r s w v p (calls.Goes {held = held} {read = x} {written = y} new act before call) =
+    subst (λ l. Called a l (w ++ (y ++ act.sends)) new) (append_assoc r x act.takes)
+    (subst (λ l. Called a ((r ++ x) ++ act.takes) l new) (append_assoc w y act.sends)
+    (calls.Goes new act (called_both a b held r x w y p before) call))
+
+-- keys are told, unless none are covered
+pub told_covered : (port keys : ℕ) (a b : Held) → 0 < keys →
+    b ≡ record a { terminals = told_after a.terminals port keys } → Called a (covered_at port keys) [] b
+told_covered port keys a b some tells =
+    subst (λ c. Called a (cond c [] (law.TellsKeys port keys ∷ [])) [] b)
+    (sym (ne_eqb keys 0 (λ e. absurd (omega arith))))
+    (called_one a b _ (calls.HearsKeys port keys tells))
+
+pub told_none : (port keys : ℕ) (a : Held) → keys ≡ 0 → Called a (covered_at port keys) [] a
+told_none port keys a none =
+    subst (λ n. Called a (covered_at port n) [] a) (sym none) calls.Rests
+
+brings_covered : (place : ℕ) (report : host.Report) (port keys : ℕ) (a : Seen) (drives : ℕ) (frames : List law.Frame) →
+    slice_get report.covered port ≡ Some keys →
+    Brings drives a.lines (saying place (Tells (Report report))) frames → Came (covered_at port keys) frames
+brings_covered place report port keys a drives frames is brings = go (keys == 0) refl
+  where
+    go : (c : Bool) → (keys == 0) ≡ c → Came (cond c [] (law.TellsKeys port keys ∷ [])) frames
+    go true e = tt
+    go false e =
+        let some : 0 < keys = omega (arith, eqb-false keys 0 e) in
+        (brings.2 _ (meaning.OfCovered report port keys is some), tt)
+
+came_both : (xs ys frames : List law.Frame) → Came xs frames → Came ys frames → Came (xs ++ ys) frames
+came_both [] ys frames p q = q
+came_both (x ∷ xs) ys frames p q = (p.0, came_both xs ys frames p.1 q)
+
+pub report_met : (place first second : ℕ) (report : host.Report) (a b : Seen) (mid : Held) →
+    slice_get report.covered 0 ≡ Some first → slice_get report.covered 1 ≡ Some second →
+    Called a.devices (covered_at 0 first) [] mid → Called mid (covered_at 1 second) [] b.devices →
+    LinesGo [] a.lines b.lines → Meets (saying place (Tells (Report report))) a b
+report_met place first second report a b mid is_first is_second p q lines =
+    none_met (saying place (Tells (Report report))) a b _ _
+    (called_both a.devices mid b.devices (covered_at 0 first) (covered_at 1 second) [] [] p q)
+    (λ drives frames brings.
+    came_both (covered_at 0 first) (covered_at 1 second) frames
+    (brings_covered place report 0 first a drives frames is_first brings)
+    (brings_covered place report 1 second a drives frames is_second brings))
+    lines
 
 -- ---- what is passed on
 

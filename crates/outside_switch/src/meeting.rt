@@ -40,6 +40,7 @@ impl<D: SectorStore> Switch<D> {
     }
 
     // What is said to a terminal or the disk.
+    #[tactic(auto, using(crate::proofs::Acting::still_met))]
     fn meet_transfer(
         &mut self,
         alloc: Global,
@@ -60,6 +61,7 @@ impl<D: SectorStore> Switch<D> {
     }
 
     // What is said to the arbiter or the switch.
+    #[tactic(auto, using(crate::proofs::Acting::still_met))]
     fn meet_notice(&mut self, alloc: Global, place: u8, notice: Notice) -> Heard
         ensures { MeetsSaid place (Tells notice) self.old self.new }
     {
@@ -89,6 +91,7 @@ impl<D: SectorStore> Switch<D> {
     }
 
     // A frame is passed on to the host at a place.
+    #[tactic(auto, using(crate::proofs::Acting::passed_met, crate::proofs::Acting::still_met))]
     fn pass(&mut self, alloc: Global, host: u8, frame: &Frame<'_>) -> Heard
         ensures { (place : ℕ) (heard : Said)
             → IsPassed place host (number_at self.old.lines.items host) heard (said_by frame.now)
@@ -102,6 +105,7 @@ impl<D: SectorStore> Switch<D> {
     }
 
     // A released byte arrives at its terminal, and the host is told how many were accepted.
+    #[tactic(auto, using(crate::proofs::Acting::byte_met))]
     fn meet_byte(
         &mut self,
         alloc: Global,
@@ -124,20 +128,26 @@ impl<D: SectorStore> Switch<D> {
     }
 
     // A released write arrives at the disk.
+    #[tactic(auto, using(crate::proofs::Acting::written_met, crate::proofs::Acting::unwritten_met))]
     fn meet_write(&mut self, alloc: Global, place: u8, write: &SectorWrite) -> Heard
         ensures { MeetsSaid place (Transfers (of_transfer.Write write.now)) self.old self.new }
     {
-        if self.devices.put(write).is_err() {
-            let answer = Frame::Transfer(Transfer::Failed(write.number));
-            let _ = places::post(&mut self.lines, alloc, place, &answer);
-            return Heard::Unwritten;
+        match self.devices.put(write) {
+            Ok(()) => {
+                let answer = Frame::Transfer(Transfer::Written(write.number));
+                let _ = places::post(&mut self.lines, alloc, place, &answer);
+                Heard::Written
+            }
+            Err(_) => {
+                let answer = Frame::Transfer(Transfer::Failed(write.number));
+                let _ = places::post(&mut self.lines, alloc, place, &answer);
+                Heard::Unwritten
+            }
         }
-        let answer = Frame::Transfer(Transfer::Written(write.number));
-        let _ = places::post(&mut self.lines, alloc, place, &answer);
-        Heard::Written
     }
 
     // A sector is read.
+    #[tactic(auto, using(crate::proofs::Acting::sector_met, crate::proofs::Acting::unread_met))]
     fn meet_get(&mut self, alloc: Global, place: u8, address: SectorAddress) -> Heard
         ensures { MeetsSaid place (Transfers (of_transfer.Get address)) self.old self.new }
     {
@@ -150,6 +160,7 @@ impl<D: SectorStore> Switch<D> {
     }
 
     // The arbiter is asked, in the name of the host that is at the place.
+    #[tactic(auto, using(crate::proofs::Acting::won_met, crate::proofs::Acting::lost_met, crate::proofs::Acting::forgot_met, crate::proofs::Acting::still_met))]
     fn meet_suspect(&mut self, alloc: Global, place: u8, generation: u32) -> Heard
         ensures { MeetsSaid place (Tells (of_notice.Suspect generation)) self.old self.new }
     {
@@ -172,6 +183,7 @@ impl<D: SectorStore> Switch<D> {
     }
 
     // Keys that are covered are told to the terminals, and the report is kept.
+    #[tactic(auto, using(crate::proofs::Acting::report_met))]
     fn meet_report(&mut self, place: u8, report: &Report) -> Heard
         ensures { MeetsSaid place (Tells (of_notice.Report report.now)) self.old self.new }
     {
@@ -185,6 +197,7 @@ impl<D: SectorStore> Switch<D> {
     }
 
     // Tells a terminal how many of its keys are covered, unless none are.
+    #[tactic(auto, using(crate::proofs::Acting::told_covered, crate::proofs::Acting::told_none))]
     fn tell(&mut self, port: u8, keys: u64)
         ensures called { Called self.old.devices (covered_at port keys) [] self.new.devices }
         ensures lines { self.new.lines ≡ self.old.lines }
@@ -195,6 +208,7 @@ impl<D: SectorStore> Switch<D> {
     }
 
     // A spare is to join, which it may if it was given to that generation.
+    #[tactic(auto, using(crate::proofs::Acting::passed_met, crate::proofs::Acting::still_met))]
     fn meet_join(
         &mut self,
         alloc: Global,

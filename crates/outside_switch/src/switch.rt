@@ -87,6 +87,7 @@ impl<D: SectorStore> Switch<D> {
     }
 
     /// Whether the stream from the host at a place has ended now: it was not cut off before.
+    #[tactic(auto, using(crate::proofs::Acting::still_met, crate::proofs::Acting::nothing_met, crate::proofs::Going::acts))]
     pub fn has_ended(&mut self, place: u8) -> bool
         ensures { Goes (seen self.old) (seen self.new) }
     {
@@ -97,6 +98,7 @@ impl<D: SectorStore> Switch<D> {
     }
 
     /// The host at a place is gone: it is cut off, and all others are told.
+    #[tactic(auto, using(crate::proofs::Acting::gone_met, crate::proofs::Going::closes, crate::proofs::Going::and_then, crate::proofs::Going::acts))]
     pub fn gone(&mut self, alloc: Global, place: u8)
         ensures { Goes (seen self.old) (seen self.new) }
     {
@@ -105,6 +107,7 @@ impl<D: SectorStore> Switch<D> {
     }
 
     /// A key is typed at the terminal of a port. Returns its index. It is sent to nobody.
+    #[tactic(auto, using(crate::proofs::Acting::typed_met, crate::proofs::Acting::still_met, crate::proofs::Going::acts))]
     pub fn type_key(&mut self, port: u8, byte: u8) -> R<u64>
         ensures answer { result ≡ typed_answer self.old.devices.terminals port }
         ensures goes { Goes (seen self.old) (seen self.new) }
@@ -113,6 +116,7 @@ impl<D: SectorStore> Switch<D> {
     }
 
     /// Sends the key of an index to the host at a place. Returns false if it is not kept, or if the frame is lost.
+    #[tactic(auto, using(crate::proofs::Acting::key_met, crate::proofs::Going::acts, crate::proofs::Acting::still_met))]
     pub fn send_key(&mut self, alloc: Global, place: u8, port: u8, index: u64) -> bool
         ensures { Goes (seen self.old) (seen self.new) }
     {
@@ -148,6 +152,7 @@ impl<D: SectorStore> Switch<D> {
     }
 
     /// Tells all hosts that the switch is there.
+    #[tactic(auto, using(crate::proofs::Acting::tick_met, crate::proofs::Going::acts))]
     pub fn tick(&mut self, alloc: Global)
         ensures { Goes (seen self.old) (seen self.new) }
     {
@@ -155,6 +160,7 @@ impl<D: SectorStore> Switch<D> {
     }
 
     /// Tells all hosts to stop.
+    #[tactic(auto, using(crate::proofs::Acting::stop_met, crate::proofs::Going::acts))]
     pub fn stop(&mut self, alloc: Global)
         ensures { Goes (seen self.old) (seen self.new) }
     {
