@@ -1,6 +1,7 @@
 -- One call of the switch: what the devices did, and what was pushed, are all that it did.
-use Rattle.std.proofs.Common.{ℕ, ◌≡◌, ◌<◌, Bool, true, false, Option, Some, None, Ok, Err, List, [], ◌∷◌, ◌++◌, append-nil, append_assoc, refl, sym, ap, ◌∙◌, subst, inl, inr, cond, ne_eqb, arith, eqb-false}
-use Rattle.std.specs.Prelude.{◌==◌, IsTrue, nat_lt, slice_get, slice_index}
+use Rattle.std.proofs.Common.{ℕ, ◌≡◌, ◌<◌, Bool, true, false, Option, Some, None, Ok, Err, List, [], ◌∷◌, ◌++◌, append-nil, append_assoc, refl, sym, ap, ◌∙◌, subst, inl, inr, cond, ne_eqb, arith}
+use Rattle.std.specs.Prelude.{◌==◌, IsTrue, drop, length, take, nat_lt, slice_get, slice_index}
+use Rattle.std.proofs.lemmas.Bool.{eqb-false}
 use Rattle.std.specs.Global.{Vec}
 use Rattle.std.specs.List.{AllByRecursion}
 use Rattle.arbiter_core.specs.declared.arbiter.Won as arbiter
@@ -8,14 +9,22 @@ use Rattle.disk_dcdd.specs.declared.address.SectorAddress.{SectorAddress}
 use Rattle.disk_dcdd.specs.declared.sector.SectorWrite.{SectorWrite}
 use Rattle.event_callbacks.specs.declared.operations.Operation.TheVariants as operation
 use Rattle.i8080_words.specs.declared.refusal.Fault as fault
+use Rattle.i8080_words.specs.declared.refusal.Fault.TheVariants.{Lost}
 use Rattle.pair_protocol.specs.Lawful.{Among}
 use Rattle.pair_protocol.specs.World as message
+use Rattle.shared_disk.specs.Arrivals.{read_of}
+use Rattle.shared_disk.specs.Records.{record_at}
 use Rattle.shared_disk.specs.declared.disk.SectorRead.{SectorRead}
+use Rattle.shared_disk.specs.declared.store.Record.{Record}
+use Rattle.std.specs.Option.{option_map}
+use Rattle.std.proofs.Math.Seq.{take-append_seam}
+use Rattle.std.proofs.lemmas.Option.{same_Some}
 use Rattle.host_frames.specs.Frames.{IsSpelling, Said, Packet, Transfers, Tells}
 use Rattle.host_frames.specs.Meaning as meaning
 use Rattle.host_frames.specs.Meaning.{IsTold, Means, address_of_read, covered_at}
 use Rattle.host_frames.specs.declared.frame.Notice.{Notice}
-use Rattle.host_frames.specs.declared.frame.Notice.TheVariants.{Begin, Gone, Join, Lost, Progress, Report, Stop, Suspect, Tick, Won}
+use Rattle.host_frames.specs.declared.frame.Notice.TheVariants.{Begin, Gone, Join, Progress, Report, Stop, Suspect, Tick, Won}
+use Rattle.host_frames.specs.declared.frame.Notice.TheVariants as notice
 use Rattle.host_frames.specs.declared.frame.Report as host
 use Rattle.host_frames.specs.declared.frame.Transfer.TheVariants.{Accepted, Byte, Failed, Get, Key, Sector, Write, Written}
 use Rattle.host_law.specs.Frame as law
@@ -59,6 +68,15 @@ nothing_met heard a b devices lines = record {
 
 pub still_met : (heard : Option Saying) (a : Seen) → Meets heard a a
 still_met heard a = nothing_met heard a a refl (lines_same a.lines)
+
+-- the lines that were lent are put back
+pub met_in : (heard : Option Saying) (a : Seen) (devices : Held) (n : ℕ) (lines items : List HostLine) → n ≡ length lines →
+    Meets heard a (record { devices = devices; lines = lines }) →
+    Meets heard a (record { devices = devices; lines = take n (lines ++ drop (length lines) items) })
+met_in heard a devices n lines items same meets =
+    subst (λ l. Meets heard a (record { devices = devices; lines = l }))
+    (sym (ap (λ k. take k (lines ++ drop (length lines) items)) same
+    ∙ take-append_seam lines (drop (length lines) items))) meets
 
 -- the devices were called, and one frame was pushed or lost
 pub one_met : (heard : Option Saying) (a b : Seen) (read written : List law.Frame) (place : ℕ) (said : Said) (r : Bool) →
@@ -151,13 +169,19 @@ unwritten_met place write why r a b puts same posts =
     (λ bytes. inr (λ drives host frame is means. absurd (only drives host _ frame means)))
     posts
 
+read_there : (address : SectorAddress) (read : SectorRead) (o : Option Record) → option_map (read_of address) o ≡ Some read →
+    address_of_read read ≡ address
+read_there address read (Some r) e = ap address_of_read (sym (same_Some (read_of address r) read e))
+read_there address read None e = absurd (cc)
+
 pub sector_met : (place : ℕ) (address : SectorAddress) (read : SectorRead) (r : Bool) (a b : Seen) →
-    address_of_read read ≡ address →
     Reads a.devices.records address (Ok read) b.devices.records →
     b.devices ≡ record a.devices { records = b.devices.records; may_fail = b.devices.may_fail } →
     Posts place (Transfers (Sector read)) r a.lines b.lines →
     Meets (saying place (Transfers (Get address))) a b
-sector_met place address read r a b there reads same posts =
+sector_met place address read r a b reads same posts =
+    let there : address_of_read read ≡ address =
+    read_there address read (record_at a.devices.records address) reads.0 in
     one_met (saying place (Transfers (Get address))) a b _ _ place (Transfers (Sector read)) r
     (called_one a.devices b.devices _ (calls.ReadsSector address read reads same))
     (λ drives frames. brings_one place (Transfers (Get address)) _ a drives frames
@@ -205,14 +229,15 @@ won_met place generation number won r a b at asks same posts =
     ∙ ap (λ n. law.HasWon generation n) (is_number (number_at a.lines place) number host at is))))
     posts
 
-pub lost_met : (place generation number : ℕ) (r : Bool) (a b : Seen) →
-    number_at a.lines place ≡ Some number →
-    Asks a.devices.askings generation number (Err fault.Fault.Lost) b.devices.askings →
+pub lost_met : (place generation number : ℕ) (why : fault.Fault) (r : Bool) (a b : Seen) →
+    number_at a.lines place ≡ Some number → why ≡ Lost →
+    Asks a.devices.askings generation number (Err why) b.devices.askings →
     b.devices ≡ record a.devices { askings = b.devices.askings } →
-    Posts place (Tells (Lost generation)) r a.lines b.lines → Meets (saying place (Tells (Suspect generation))) a b
-lost_met place generation number r a b at asks same posts =
-    one_met (saying place (Tells (Suspect generation))) a b _ _ place (Tells (Lost generation)) r
-    (called_one a.devices b.devices _ (calls.Loses generation number asks same))
+    Posts place (Tells (notice.Lost generation)) r a.lines b.lines → Meets (saying place (Tells (Suspect generation))) a b
+lost_met place generation number why r a b at lost asks same posts =
+    one_met (saying place (Tells (Suspect generation))) a b _ _ place (Tells (notice.Lost generation)) r
+    (called_one a.devices b.devices _ (calls.Loses generation number
+    (subst (λ f. Asks a.devices.askings generation number (Err f) b.devices.askings) lost asks) same))
     (brings_question place generation number a at)
     (λ bytes. inr (λ drives host frame is means.
     inl (only drives host _ frame means
@@ -307,30 +332,30 @@ typed_met port byte index a b typed devices lines =
 
 -- notices that mean nothing
 abbrev pub IsSilent : Notice → Type 0
-IsSilent notice = (drives host : ℕ) (frame : law.Frame) → Means drives host (Tells notice) frame → ⊥
+IsSilent said = (drives host : ℕ) (frame : law.Frame) → Means drives host (Tells said) frame → ⊥
 
-all_right : (a : Seen) (notice : Notice) (ps : List Pushed) → IsSilent notice →
-    AllByRecursion (λ (p : Pushed). IsSpelling (Tells notice) p.bytes.items) ps →
+all_right : (a : Seen) (said : Notice) (ps : List Pushed) → IsSilent said →
+    AllByRecursion (λ (p : Pushed). IsSpelling (Tells said) p.bytes.items) ps →
     AllByRecursion (IsRight a.lines None []) ps
-all_right a notice [] silent spelled = tt
-all_right a notice (p ∷ ps) silent spelled = (
+all_right a said [] silent spelled = tt
+all_right a said (p ∷ ps) silent spelled = (
   record {
-    said = Tells notice;
+    said = Tells said;
     spelled = spelled.0;
     from = λ drives host frame is means. absurd (silent drives host frame means);
   },
-  all_right a notice ps silent spelled.1,
+  all_right a said ps silent spelled.1,
 )
 
-pub notice_met : (notice : Notice) (a b : Seen) → IsSilent notice → b.devices ≡ a.devices →
-    PostsAll (Tells notice) a.lines b.lines → Meets None a b
-notice_met notice a b silent devices posts = record {
+pub notice_met : (said : Notice) (a b : Seen) → IsSilent said → b.devices ≡ a.devices →
+    PostsAll (Tells said) a.lines b.lines → Meets None a b
+notice_met said a b silent devices posts = record {
   read = [];
   written = [];
   pushed = posts.pushed;
   called = called_none a.devices b.devices devices;
   came = λ drives frames brings. tt;
-  right = all_right a notice posts.pushed silent posts.spelled;
+  right = all_right a said posts.pushed silent posts.spelled;
   lines = posts.lines;
 }
 

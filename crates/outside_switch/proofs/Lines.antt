@@ -171,6 +171,11 @@ pub posted_and : (place : ℕ) (said : Said) (a b c : List HostLine) → Posts p
 posted_and place said a b c posts goes =
     (posts.0, posts.1, lines_both (record { place = place; bytes = posts.0 } ∷ []) [] a b c posts.2 goes)
 
+-- the same, of the lines that were lent
+pub posts_from : (place : ℕ) (said : Said) (r : Bool) (a b c : List HostLine) → a ≡ b → Posts place said r a c →
+    Posts place said r b c
+posts_from place said r a b c same posts = subst (λ l. Posts place said r l c) same posts
+
 -- ---- the same frame, to all
 
 pub posted_none : (said : Said) (a : List HostLine) → PostsAll said a a

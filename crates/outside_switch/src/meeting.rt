@@ -28,7 +28,7 @@ impl<D: SectorStore> Switch<D> {
         frame: Frame<'_>,
         rooms: [bool; PORTS],
     ) -> Heard
-        ensures { MeetsSaid place (said_by frame) self.old self.new }
+        ensures { MeetsSaid place (said_by frame.entry) self.old self.new }
     {
         match frame {
             Frame::Packet { host, bytes } => {
@@ -223,7 +223,7 @@ impl<D: SectorStore> Switch<D> {
         if usize::from(host) >= self.lines.len() {
             return Heard::Failed;
         }
-        if places::number_at(&self.lines, host) != Some(generation) {
+        if !places::is_number(&self.lines, host, generation) {
             return Heard::Met;
         }
         let passed = Notice::Join {

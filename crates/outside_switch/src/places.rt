@@ -123,6 +123,16 @@ pub(crate) fn number_at(lines: &[HostLine], place: u8) -> Option<u32>
     lines[place].number()
 }
 
+/// Whether this host of the law is at a place.
+pub(crate) fn is_number(lines: &[HostLine], place: u8, number: u32) -> bool
+    ensures { result ≡ true → table.number_at lines.now place ≡ Some number }
+{
+    match number_at(lines, place) {
+        Some(other) => other == number,
+        None => false,
+    }
+}
+
 /// Whether a host is at a place that is not cut off.
 pub(crate) fn is_open(lines: &[HostLine], place: u8) -> bool {
     let place = usize::from(place);
@@ -135,7 +145,7 @@ pub(crate) fn is_open(lines: &[HostLine], place: u8) -> bool {
 /// Whether the host at a place can be given to a generation, as the host of its number: it was already, or it is a spare, and the number
 /// was given to no other place.
 pub(crate) fn may_be_given(lines: &[HostLine], generation: u32, place: u8) -> bool {
-    if number_at(lines, place) == Some(generation) {
+    if is_number(lines, place, generation) {
         return true;
     }
     is_spare(lines, place) && is_free(lines, generation)
