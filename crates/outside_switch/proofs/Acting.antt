@@ -1,7 +1,8 @@
 -- One call of the switch: what the devices did, and what was pushed, are all that it did.
 use Rattle.std.proofs.Common.{ℕ, ◌≡◌, ◌<◌, Bool, true, false, Option, Some, None, Ok, Err, List, [], ◌∷◌, ◌++◌, append-nil, append_assoc, refl, sym, ap, ◌∙◌, subst, inl, inr, cond, ne_eqb, arith}
-use Rattle.std.specs.Prelude.{◌==◌, IsTrue, drop, length, take, nat_lt, slice_get, slice_index}
+use Rattle.std.specs.Prelude.{◌==◌, IsTrue, Result, drop, is_none, length, slice_set, take, nat_lt, slice_get, slice_index}
 use Rattle.std.proofs.lemmas.Bool.{eqb-false}
+use Rattle.std.proofs.lemmas.List.{set-get_or}
 use Rattle.std.specs.Global.{Vec}
 use Rattle.std.specs.List.{AllByRecursion}
 use Rattle.arbiter_core.specs.declared.arbiter.Won as arbiter
@@ -9,7 +10,7 @@ use Rattle.disk_dcdd.specs.declared.address.SectorAddress.{SectorAddress}
 use Rattle.disk_dcdd.specs.declared.sector.SectorWrite.{SectorWrite}
 use Rattle.event_callbacks.specs.declared.operations.Operation.TheVariants as operation
 use Rattle.i8080_words.specs.declared.refusal.Fault as fault
-use Rattle.i8080_words.specs.declared.refusal.Fault.TheVariants.{Lost}
+use Rattle.i8080_words.specs.declared.refusal.Fault.TheVariants.{Lost, Unknown}
 use Rattle.pair_protocol.specs.Lawful.{Among}
 use Rattle.pair_protocol.specs.World as message
 use Rattle.shared_disk.specs.Arrivals.{read_of}
@@ -30,7 +31,10 @@ use Rattle.host_frames.specs.declared.frame.Transfer.TheVariants.{Accepted, Byte
 use Rattle.host_law.specs.Frame as law
 use Rattle.host_law.specs.Frame.{Act, Came}
 use Rattle.outside_devices.specs.Calls.{Asks, Puts, Reads, admitted_after, arrived_after, key_answer, terminal_at, told_after, typed_after, typed_answer}
+use Rattle.event_callbacks.specs.declared.devices.TheConstants.{PORTS}
 use Rattle.outside_devices.specs.Held.{Held}
+use Rattle.outside_devices.specs.Terminal.{KeptTerminal, after_typing, answered, blank, next_key, typing_answer, typing_refusal, with_key}
+use Rattle.outside_switch.specs.Goes.{BeginsSo}
 use Rattle.outside_switch.specs.Calls as calls
 use Rattle.outside_switch.specs.Calls.{Call, Called}
 use Rattle.outside_switch.specs.Lines.{LinesGo, Posts, PostsAll, Pushed, number_at}
@@ -328,6 +332,71 @@ pub typed_met : (port byte index : ℕ) (a b : Seen) → typed_answer a.devices.
     Meets None a b
 typed_met port byte index a b typed devices lines =
     none_met None a b _ _ (called_one a.devices b.devices _ (calls.TypesKey port byte index typed devices))
+    (λ drives frames brings. tt) (subst (λ l. LinesGo [] a.lines l) (sym lines) (lines_same a.lines))
+
+-- a key that is refused changes nothing
+typed_same : (terminals : List KeptTerminal) (port byte : ℕ) (why : fault.Fault) → typed_answer terminals port ≡ Err why →
+    typed_after terminals port byte ≡ terminals
+typed_same terminals port byte why is = go (nat_lt port PORTS) is
+  where
+    kept : KeptTerminal
+    kept = terminal_at terminals port
+
+    at : (o : Option fault.Fault) → answered o (next_key kept) ≡ Err why →
+        slice_set terminals port (cond (is_none o) (with_key kept byte) kept) ≡ terminals
+    at None e = absurd (cc)
+    at (Some f) e = set-get_or terminals port blank
+
+    go : (b : Bool) → cond b (typing_answer kept) (Err Unknown) ≡ Err why →
+        cond b (slice_set terminals port (after_typing kept byte)) terminals ≡ terminals
+    go true e = at (typing_refusal kept) e
+    go false e = refl
+
+pub typed_so : (port byte : ℕ) (r : Result ℕ fault.Fault) (a b : Seen) → r ≡ typed_answer a.devices.terminals port →
+    b.devices ≡ record a.devices { terminals = typed_after a.devices.terminals port byte } → b.lines ≡ a.lines →
+    Meets None a b
+typed_so port byte (Ok index) a b is devices lines = typed_met port byte index a b (sym is) devices lines
+typed_so port byte (Err why) a b is devices lines =
+    nothing_met None a b
+    (devices ∙ ap (λ t. record a.devices { terminals = t }) (typed_same a.devices.terminals port byte why (sym is)))
+    (subst (λ l. LinesGo [] a.lines l) (sym lines) (lines_same a.lines))
+
+-- a host is counted, and another one told to begin, or the frame is lost
+pub begins_so : (place spare generation : ℕ) (r : Bool) (a b : Seen) →
+    b.devices ≡ record a.devices { hosts = admitted_after a.devices.hosts generation } →
+    IsTrue (nat_lt generation b.devices.hosts) → Posts place (Tells (Begin generation spare)) r a.lines b.lines →
+    BeginsSo spare generation r a b
+begins_so place spare generation true a b admits low posts = record {
+  to = place;
+  bytes = posts.0;
+  spelled = posts.1;
+  meets = record {
+    read = [];
+    written = law.MayBegin generation ∷ [];
+    pushed = record { place = place; bytes = posts.0 } ∷ [];
+    called = called_two a.devices b.devices b.devices _ _ (calls.Admits generation admits) (calls.Offers generation low refl);
+    came = λ drives frames brings. tt;
+    right = (
+      record {
+        said = Tells (Begin generation spare);
+        spelled = posts.1;
+        from = λ drives host frame is means. inl (only drives host _ frame means);
+      },
+      tt,
+    );
+    lines = posts.2;
+  };
+  pushed = refl;
+}
+begins_so place spare generation false a b admits low posts =
+    none_met None a b _ _ (called_one a.devices b.devices _ (calls.Admits generation admits))
+    (λ drives frames brings. tt) posts
+
+-- a host is counted
+pub admitted_met : (generation : ℕ) (a b : Seen) →
+    b.devices ≡ record a.devices { hosts = admitted_after a.devices.hosts generation } → b.lines ≡ a.lines → Meets None a b
+admitted_met generation a b admits lines =
+    none_met None a b _ _ (called_one a.devices b.devices _ (calls.Admits generation admits))
     (λ drives frames brings. tt) (subst (λ l. LinesGo [] a.lines l) (sym lines) (lines_same a.lines))
 
 -- notices that mean nothing

@@ -1,5 +1,5 @@
 -- What calls of the switch come to, one after another.
-use Rattle.std.specs.Prelude.{◌≡◌, ℕ, List, [], ◌∷◌, Option, Some, None}
+use Rattle.std.specs.Prelude.{◌≡◌, ◌⊎◌, ℕ, nat_lt, Bool, true, false, if◌then◌else◌, List, [], ◌∷◌, ◌++◌, length, Option, Some, None}
 use Rattle.std.specs.Global.{Vec}
 use Rattle.host_frames.specs.Frames.{IsBodyOf, IsSpelling, Said, Tells}
 use Rattle.host_frames.specs.declared.frame.Notice.TheVariants.{Begin}
@@ -27,6 +27,11 @@ pub record Begins (place generation : ℕ) (old new : Seen) : Type 0 where
   pub meets : Meets None old new
   pub pushed : meets.pushed ≡ record { place = to; bytes = bytes } ∷ []
 
+-- that, or only the host of the generation is counted
+abbrev pub BeginsSo : ℕ → ℕ → Bool → Seen → Seen → Type 0
+BeginsSo place generation true old new = Begins place generation old new
+BeginsSo place generation false old new = Meets None old new
+
 -- how it went on from its first state
 pub data Goes (first : Seen) : Seen → Type 0 where
   Rests : Goes first first
@@ -43,3 +48,30 @@ pub data Goes (first : Seen) : Seen → Type 0 where
   -- a host is another one of the law from now on: it was given to a generation, and has its number
   Names : {old : Seen} (begun new : Seen) (place generation : ℕ) → Goes first old → Begins place generation old begun →
       Lines place (IsNamed generation) begun new → Goes first new
+
+-- what a host said was met, and then it may be cut off
+pub record HearsFrame (place : ℕ) (said : Said) (old new : Seen) : Type 0 where
+  pub met : Seen
+  pub meets : Meets (Some (record { place = place; said = said })) old met
+  pub goes : Goes met new
+
+-- a body was dropped, or what it says was met
+abbrev pub HearsBody : ℕ → List ℕ → Seen → Seen → Type 0
+HearsBody place body old new = Goes old new ⊎ ((said : Said) × IsBodyOf said body × HearsFrame place said old new)
+
+-- a body came from the host at a place, or none waits
+abbrev pub NextSo : ℕ → Option (Vec ℕ) → Seen → Seen → Type 0
+NextSo place (Some body) old new = Takes place body old new
+NextSo place None old new = Meets None old new
+
+-- ---- before it goes
+
+-- which host of the law is at a place at first: those of generation 1
+abbrev pub first_number : ℕ → Option ℕ
+first_number place = if nat_lt place 2 then Some place else None
+
+-- one place more, and its line
+pub record Adds (line : HostLine) (old new : Seen) : Type 0 where
+  pub number : line.number ≡ first_number (length old.lines)
+  pub lines : new.lines ≡ old.lines ++ line ∷ []
+  pub devices : new.devices ≡ old.devices

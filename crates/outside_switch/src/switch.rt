@@ -1,8 +1,11 @@
 //! The devices, the lines to all hosts, and the calls that a loop makes of them.
-ghost use Rattle.std.specs.Prelude.{◌≡◌, [], IfOk, OnErr};
+ghost use Rattle.std.specs.Prelude.{◌≡◌, [], IfOk, OnErr, OnOk, Some};
+ghost use Rattle.outside_switch.specs.declared.line.HostLine.{HostLine};
+ghost use Rattle.host_frames.specs.Frames.{said_by};
 ghost use Rattle.outside_devices.specs.Held.{at_boot};
 ghost use Rattle.outside_devices.specs.Calls.{typed_answer};
-ghost use Rattle.outside_switch.specs.Goes.{Goes};
+ghost use Rattle.outside_switch.specs.Goes.{Adds, BeginsSo, Goes, HearsBody, HearsFrame, Lines, NextSo, first_number};
+ghost use Rattle.outside_switch.specs.Lines.{IsClosed, IsNamed, PostsAll};
 ghost use Rattle.outside_switch.specs.Meets.{seen};
 
 use crate::heard::Heard;
@@ -48,13 +51,16 @@ impl<D: SectorStore> Switch<D> {
         from: Consumer<Vec<u8>>,
         to: Producer<Vec<u8>>,
         wake: Arc<Parker>,
-    ) -> R<()> {
+    ) -> R<()>
+        ensures ok { OnOk result ((line : HostLine) × (line.from ≡ from) × (line.to ≡ Some to) × Adds line (seen self.old) (seen self.new)) }
+        ensures err { OnErr result (seen self.new ≡ seen self.old) }
+    {
         let place = self.lines.len();
         if place >= 256 {
             return Err(Fault::Unknown);
         }
-        let number = if place < 2 { Some(place as u32) } else { None };
-        self.lines.push(HostLine::new(from, to, wake, number))?;
+        self.lines
+            .push(HostLine::new(from, to, wake, first_number(place)))?;
         Ok(())
     }
 
@@ -70,24 +76,60 @@ impl<D: SectorStore> Switch<D> {
     pub fn hear(&mut self, alloc: Global, place: u8, rooms: [bool; PORTS]) -> Heard
         ensures { Goes (seen self.old) (seen self.new) }
     {
-        let Some(body) = places::next(&mut self.lines, place) else {
-            return Heard::Nothing;
-        };
+        match self.next(place) {
+            Some(body) => self.hear_body(alloc, place, &body, rooms),
+            None => Heard::Nothing,
+        }
+    }
+
+    // Does what a body asks for that came from the host at a place.
+    fn hear_body(
+        &mut self,
+        alloc: Global,
+        place: u8,
+        body: &[u8],
+        rooms: [bool; PORTS],
+    ) -> Heard
+        ensures { HearsBody place body.now (seen self.old) (seen self.new) }
+    {
         if !places::is_open(&self.lines, place) {
             return Heard::Met;
         }
-        let heard = match frame_of(&body) {
-            Ok(frame) => self.meet(alloc, place, frame, rooms),
-            Err(_) => Heard::Failed,
-        };
-        if heard == Heard::Failed {
-            self.gone(alloc, place);
+        match frame_of(body) {
+            Ok(frame) => self.hear_frame(alloc, place, frame, rooms),
+            Err(_) => {
+                self.gone(alloc, place);
+                Heard::Failed
+            }
         }
-        heard
+    }
+
+    // The next body of the host at a place.
+    fn next(&mut self, place: u8) -> Option<Vec<u8>>
+        ensures { NextSo place result (seen self.old) (seen self.new) }
+    {
+        places::next(&mut self.lines, place)
+    }
+
+    // Meets a frame, and cuts off its host if it means nothing where it comes from.
+    fn hear_frame(
+        &mut self,
+        alloc: Global,
+        place: u8,
+        frame: Frame<'_>,
+        rooms: [bool; PORTS],
+    ) -> Heard
+        ensures { HearsFrame place (said_by frame.entry) (seen self.old) (seen self.new) }
+    {
+        let heard = self.meet(alloc, place, frame, rooms);
+        if heard != Heard::Failed {
+            return heard;
+        }
+        self.gone(alloc, place);
+        Heard::Failed
     }
 
     /// Whether the stream from the host at a place has ended now: it was not cut off before.
-    #[tactic(auto, using(crate::proofs::Acting::still_met, crate::proofs::Acting::nothing_met, crate::proofs::Going::acts))]
     pub fn has_ended(&mut self, place: u8) -> bool
         ensures { Goes (seen self.old) (seen self.new) }
     {
@@ -98,16 +140,31 @@ impl<D: SectorStore> Switch<D> {
     }
 
     /// The host at a place is gone: it is cut off, and all others are told.
-    #[tactic(auto, using(crate::proofs::Acting::gone_met, crate::proofs::Going::closes, crate::proofs::Going::and_then, crate::proofs::Going::acts))]
+    #[tactic(auto, using(crate::proofs::Acting::gone_met, crate::proofs::Going::acts, crate::proofs::Going::closes, crate::proofs::Going::and_then))]
     pub fn gone(&mut self, alloc: Global, place: u8)
         ensures { Goes (seen self.old) (seen self.new) }
     {
+        self.close(place);
+        self.post_all(alloc, &Frame::Notice(Notice::Gone(place)));
+    }
+
+    // The host at a place is cut off.
+    fn close(&mut self, place: u8)
+        ensures { Lines place IsClosed (seen self.old) (seen self.new) }
+    {
         places::close(&mut self.lines, place);
-        places::post_all(&mut self.lines, alloc, &Frame::Notice(Notice::Gone(place)));
+    }
+
+    // Sends a frame to the hosts at all places.
+    fn post_all(&mut self, alloc: Global, frame: &Frame<'_>)
+        ensures posts { PostsAll (said_by frame.now) self.old.lines.items self.new.lines.items }
+        ensures devices { self.new.devices ≡ self.old.devices }
+    {
+        places::post_all(&mut self.lines, alloc, frame);
     }
 
     /// A key is typed at the terminal of a port. Returns its index. It is sent to nobody.
-    #[tactic(auto, using(crate::proofs::Acting::typed_met, crate::proofs::Acting::still_met, crate::proofs::Going::acts))]
+    #[tactic(auto, using(crate::proofs::Acting::typed_so, crate::proofs::Going::acts))]
     pub fn type_key(&mut self, port: u8, byte: u8) -> R<u64>
         ensures answer { result ≡ typed_answer self.old.devices.terminals port }
         ensures goes { Goes (seen self.old) (seen self.new) }
@@ -116,7 +173,6 @@ impl<D: SectorStore> Switch<D> {
     }
 
     /// Sends the key of an index to the host at a place. Returns false if it is not kept, or if the frame is lost.
-    #[tactic(auto, using(crate::proofs::Acting::key_met, crate::proofs::Going::acts, crate::proofs::Acting::still_met))]
     pub fn send_key(&mut self, alloc: Global, place: u8, port: u8, index: u64) -> bool
         ensures { Goes (seen self.old) (seen self.new) }
     {
@@ -136,6 +192,17 @@ impl<D: SectorStore> Switch<D> {
         if !places::may_be_given(&self.lines, generation, spare) {
             return false;
         }
+        if !self.begin(alloc, place, generation, spare) {
+            return false;
+        }
+        self.name(spare, generation);
+        true
+    }
+
+    // Counts the host of a generation, and tells one that is alone to begin it.
+    fn begin(&mut self, alloc: Global, place: u8, generation: u32, spare: u8) -> bool
+        ensures { BeginsSo spare generation result (seen self.old) (seen self.new) }
+    {
         let _ = self.devices.admit(generation);
         if !self.devices.may_begin(generation) {
             return false;
@@ -144,11 +211,14 @@ impl<D: SectorStore> Switch<D> {
             generation,
             host: spare,
         };
-        if !places::post(&mut self.lines, alloc, place, &Frame::Notice(notice)) {
-            return false;
-        }
-        places::name(&mut self.lines, spare, generation);
-        true
+        places::post(&mut self.lines, alloc, place, &Frame::Notice(notice))
+    }
+
+    // The host at a place is this one of the law from now on.
+    fn name(&mut self, place: u8, number: u32)
+        ensures { Lines place (IsNamed number) (seen self.old) (seen self.new) }
+    {
+        places::name(&mut self.lines, place, number);
     }
 
     /// Tells all hosts that the switch is there.
@@ -156,7 +226,7 @@ impl<D: SectorStore> Switch<D> {
     pub fn tick(&mut self, alloc: Global)
         ensures { Goes (seen self.old) (seen self.new) }
     {
-        places::post_all(&mut self.lines, alloc, &Frame::Notice(Notice::Tick));
+        self.post_all(alloc, &Frame::Notice(Notice::Tick));
     }
 
     /// Tells all hosts to stop.
@@ -164,6 +234,17 @@ impl<D: SectorStore> Switch<D> {
     pub fn stop(&mut self, alloc: Global)
         ensures { Goes (seen self.old) (seen self.new) }
     {
-        places::post_all(&mut self.lines, alloc, &Frame::Notice(Notice::Stop));
+        self.post_all(alloc, &Frame::Notice(Notice::Stop));
+    }
+}
+
+// Which host of the law is at a place at first.
+fn first_number(place: usize) -> Option<u32>
+    ensures { result ≡ first_number place }
+{
+    match place {
+        0 => Some(0),
+        1 => Some(1),
+        _ => None,
     }
 }
