@@ -21,6 +21,6 @@ returns g c =
     (sym (put_back c.args.self.now.lines.len c.post.new.lines c.args.self.now.lines.items (omega arith)))
     (begins_so c.args.place c.args.spare c.args.generation c.post.result (seen c.args.self.now)
     (record { devices = c.admit.new.self; lines = c.post.new.lines }) c.admit.ensures.after
-    (subst (λ b. IsTrue b) (sym c.if-not-may_begin.false ∙ c.may_begin.ensures) tt)
+    (subst (λ b. IsTrue b) (sym c.if-not-may_begin.false ∙ c.may_begin.ensures) refl)
     (posts_from c.args.place (Tells (Begin c.args.generation c.args.spare)) c.post.result c.deref_mut.result.now
     c.args.self.now.lines.items c.post.new.lines c.deref_mut.ensures.value c.post.ensures))
