@@ -151,10 +151,7 @@ impl<D: SectorStore, N: Write + Drop> Session<D, N> {
         let Some(spare) = spare_for(self.switch.lines(), generation) else {
             return;
         };
-        if self
-            .switch
-            .send_begin(alloc, live.place, generation, spare)
-        {
+        if self.switch.send_begin(alloc, live.place, generation, spare) {
             self.moments.begun = now;
             note(&mut self.notes, alloc, spare, "is to be the next backup");
         }
@@ -177,7 +174,9 @@ impl<D: SectorStore, N: Write + Drop> Session<D, N> {
             return Some(HostsEnd::NoHosts);
         }
         let [first, second] = &self.ports;
-        if first.is_over() && second.is_over() && now.saturating_sub(self.moments.moved) >= SETTLED
+        if first.is_over()
+            && second.is_over()
+            && now.saturating_sub(self.moments.moved) >= SETTLED
         {
             return Some(HostsEnd::Settled);
         }

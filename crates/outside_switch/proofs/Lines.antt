@@ -54,8 +54,7 @@ line_both us vs xs ys a b c p q = record {
 pub took_pushed : {A P : Type 0} (o : Option (Producer (Vec ℕ) A P)) (a b c : Producer (Vec ℕ) A P) (bytes : Vec ℕ) →
     o ≡ Some a → ProducerLooked a b → SameProducer b c → sent c ≡ sent b ++ bytes ∷ [] → Took (bytes ∷ []) o (Some c)
 took_pushed o a b c bytes is looked same pushed =
-    subst (λ q. Took (bytes ∷ []) q (Some c)) (sym is)
-    (
+    subst (λ q. Took (bytes ∷ []) q (Some c)) (sym is) (
       (
         (same.0.0 ∙ looked.0.0.0, same.0.1 ∙ looked.0.0.1, same.0.2 ∙ looked.0.0.2, same.0.3 ∙ looked.0.0.3),
         same.1 ∙ looked.0.1,

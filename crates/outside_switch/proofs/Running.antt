@@ -60,9 +60,10 @@ module _ {S : Type 0} (M : Machine S) (drives : ℕ) where
   call_runs : (held new : Held) (act : Act) → Call held new act → Runs held new act
   call_runs held new act (calls.TypesKey port byte index is e) =
       steps held new quiet (ap (λ (h : Held). h.hosts) e)
-      (λ o shows.
-      (with_typed o port byte,
-      moved o _ _ new _ e ((calls_make M drives held o shows).terminals.types port byte index is).makes))
+      (λ o shows. (
+        with_typed o port byte,
+        moved o _ _ new _ e ((calls_make M drives held o shows).terminals.types port byte index is).makes,
+      ))
   call_runs held new act (calls.SendsKey port index byte is e) =
       sends held new (Key port index byte) e
       (λ o shows. (calls_make M drives held o shows).terminals.sends_key port index byte is)

@@ -33,12 +33,7 @@ pub(crate) fn post_all(lines: &mut [HostLine], alloc: Global, frame: &Frame<'_>)
 
 /// Sends the host at a place the frame by which it is to join. Returns false if there is none, or if the frame is lost.
 #[tactic(auto, using(crate::proofs::Lines::posted_and))]
-pub(crate) fn post_join(
-    lines: &mut [HostLine],
-    alloc: Global,
-    place: u8,
-    frame: &Frame<'_>,
-) -> bool
+pub(crate) fn post_join(lines: &mut [HostLine], alloc: Global, place: u8, frame: &Frame<'_>) -> bool
     ensures { table.Posts place (said_by frame.now) result lines.old lines.new }
 {
     if !post(lines, alloc, place, frame) {

@@ -83,13 +83,7 @@ impl<D: SectorStore> Switch<D> {
     }
 
     // Does what a body asks for that came from the host at a place.
-    fn hear_body(
-        &mut self,
-        alloc: Global,
-        place: u8,
-        body: &[u8],
-        rooms: [bool; PORTS],
-    ) -> Heard
+    fn hear_body(&mut self, alloc: Global, place: u8, body: &[u8], rooms: [bool; PORTS]) -> Heard
         ensures { HearsBody place body.now (seen self.old) (seen self.new) }
     {
         if !places::is_open(&self.lines, place) {
