@@ -15,11 +15,7 @@ pub(crate) struct Live {
 pub(crate) fn live_of(lines: &[HostLine]) -> Option<Live> {
     let mut found = None;
     for place in 0..=u8::MAX {
-        if let Some(live) = live_at(lines, place)
-            && is_later(&found, live.report.generation)
-        {
-            found = Some(live);
-        }
+        found = later_of(found, live_at(lines, place));
     }
     found
 }
@@ -53,9 +49,13 @@ fn live_at(lines: &[HostLine], place: u8) -> Option<Live> {
     }
 }
 
-fn is_later(found: &Option<Live>, generation: u32) -> bool {
-    match found {
-        Some(live) => live.report.generation < generation,
-        None => true,
+// The one of the later generation, or the first.
+fn later_of(found: Option<Live>, other: Option<Live>) -> Option<Live> {
+    let Some(live) = found else {
+        return other;
+    };
+    match other {
+        Some(other) if other.report.generation > live.report.generation => Some(other),
+        _ => Some(live),
     }
 }

@@ -1,4 +1,8 @@
 //! The user's end of one port: a keyboard, a screen, and which keys go to the live host now.
+ghost use Rattle.std.specs.Prelude.{◌≡◌, true};
+ghost use Rattle.outside_switch.specs.Goes.{Goes};
+ghost use Rattle.outside_switch.specs.Meets.{seen};
+ghost use Rattle.command_hosts.specs.Runs.{IsOver};
 
 use outside_switch::Switch;
 use pair_lines::{Keyboard, Screen};
@@ -44,7 +48,10 @@ impl PortEnd {
     }
 
     /// Types the keys that have come. Returns whether one was typed.
-    pub(crate) fn type_keys<D: SectorStore>(&mut self, switch: &mut Switch<D>, port: u8) -> bool {
+    #[tactic(auto, using(outside_switch::proofs::Going::nothing_yet, outside_switch::proofs::Going::and_then))]
+    pub(crate) fn type_keys<D: SectorStore>(&mut self, switch: &mut Switch<D>, port: u8) -> bool
+        ensures { Goes (seen switch.old) (seen switch.new) }
+    {
         let before = self.typed;
         for _ in 0..KEYS_A_TURN {
             if !self.type_next(switch, port) {
@@ -55,13 +62,11 @@ impl PortEnd {
     }
 
     // Types the next key, if there is one and its terminal takes it. One that is refused waits.
-    fn type_next<D: SectorStore>(&mut self, switch: &mut Switch<D>, port: u8) -> bool {
-        let key = match self.waiting {
-            Some(key) => Some(key),
-            None => self.keyboard.next(),
-        };
-        self.waiting = key;
-        let Some(key) = key else {
+    #[tactic(auto, using(outside_switch::proofs::Going::nothing_yet, outside_switch::proofs::Going::and_then))]
+    fn type_next<D: SectorStore>(&mut self, switch: &mut Switch<D>, port: u8) -> bool
+        ensures { Goes (seen switch.old) (seen switch.new) }
+    {
+        let Some(key) = self.next_key() else {
             return false;
         };
         let Ok(index) = switch.type_key(port, key) else {
@@ -72,6 +77,14 @@ impl PortEnd {
         true
     }
 
+    // The next key, which waits until it is typed.
+    fn next_key(&mut self) -> Option<u8> {
+        if self.waiting.is_none() {
+            self.waiting = self.keyboard.next();
+        }
+        self.waiting
+    }
+
     /// Another host is live, and has taken so many keys: those after them are sent at once.
     pub(crate) fn begin_anew(&mut self, taken: u64) {
         self.taken = taken;
@@ -80,6 +93,7 @@ impl PortEnd {
 
     /// Sends keys to the live host, which has taken so many: those that were not sent yet, and all that it has not taken if nothing
     /// was taken or sent for a while.
+    #[tactic(auto, using(outside_switch::proofs::Going::nothing_yet, outside_switch::proofs::Going::and_then))]
     pub(crate) fn send_keys<D: SectorStore>(
         &mut self,
         switch: &mut Switch<D>,
@@ -87,8 +101,19 @@ impl PortEnd {
         now: u64,
         line: (u8, u8),
         taken: u64,
-    ) {
-        let (place, port) = line;
+    )
+        ensures { Goes (seen switch.old) (seen switch.new) }
+    {
+        self.see_taken(now, taken);
+        for _ in 0..WINDOW {
+            if !self.send_next(switch, alloc, now, line) {
+                break;
+            }
+        }
+    }
+
+    // The live host has taken so many keys.
+    fn see_taken(&mut self, now: u64, taken: u64) {
         if taken > self.taken {
             self.taken = taken;
             self.at = now;
@@ -96,20 +121,35 @@ impl PortEnd {
         if now.saturating_sub(self.at) > AGAIN || self.next < self.taken {
             self.next = self.taken;
         }
-        for _ in 0..WINDOW {
-            if self.next >= self.typed || self.next >= self.taken.saturating_add(WINDOW) {
-                break;
-            }
-            if !switch.send_key(alloc, place, port, self.next) {
-                break;
-            }
-            self.next = self.next.saturating_add(1);
-            self.at = now;
+    }
+
+    // Sends the next key to the live host, if there is one within the window. Returns false if none went.
+    #[tactic(auto, using(outside_switch::proofs::Going::nothing_yet, outside_switch::proofs::Going::and_then))]
+    fn send_next<D: SectorStore>(
+        &mut self,
+        switch: &mut Switch<D>,
+        alloc: Global,
+        now: u64,
+        line: (u8, u8),
+    ) -> bool
+        ensures { Goes (seen switch.old) (seen switch.new) }
+    {
+        let (place, port) = line;
+        if self.next >= self.typed || self.next >= self.taken.saturating_add(WINDOW) {
+            return false;
         }
+        if !switch.send_key(alloc, place, port, self.next) {
+            return false;
+        }
+        self.next = self.next.saturating_add(1);
+        self.at = now;
+        true
     }
 
     /// Whether no more keys can come, and all that came were taken.
-    pub(crate) fn is_over(&self) -> bool {
+    pub(crate) fn is_over(&self) -> bool
+        ensures { result ≡ true → IsOver self.now }
+    {
         if self.keyboard.is_open() || self.waiting.is_some() {
             return false;
         }

@@ -1,4 +1,5 @@
 //! The loop of the outside.
+ghost use Rattle.command_hosts.specs.Runs.{Ended, IsWhy, Went};
 
 use crate::session::{HostsEnd, Session};
 use shared_disk::SectorStore;
@@ -18,12 +19,29 @@ pub fn run_hosts<D: SectorStore, N: Write + Drop, C: Wait + Clock>(
     alloc: Global,
     session: &mut Session<D, N>,
     wake: &Parker,
-) -> HostsEnd {
+) -> HostsEnd
+    ensures { Ended result session.old session.new }
+{
+    let end = serve(rt, alloc, session, wake);
+    session.switch.stop(alloc);
+    end
+}
+
+// Serves the hosts until there is a reason to end.
+#[tactic(auto, using(outside_switch::proofs::Going::nothing_yet, outside_switch::proofs::Going::and_then))]
+fn serve<D: SectorStore, N: Write + Drop, C: Wait + Clock>(
+    rt: &C,
+    alloc: Global,
+    session: &mut Session<D, N>,
+    wake: &Parker,
+) -> HostsEnd
+    ensures went { Went session.old session.new }
+    ensures why { IsWhy result session.new }
+{
     for _ in rt.forever() {
         let now = micros(rt, session.moments.turned);
         let is_busy = session.turn(alloc, now);
         if let Some(end) = session.end(now) {
-            session.switch.stop(alloc);
             return end;
         }
         if !is_busy {

@@ -1,7 +1,9 @@
 //! The outside of a pair: its switch, the user's ends of both ports, and what the turns remember.
+ghost use Rattle.std.specs.Prelude.{◌≡◌, [], IfOk};
+ghost use Rattle.outside_devices.specs.Held.{at_boot};
+ghost use Rattle.outside_switch.specs.Meets.{seen};
 
 use crate::port::PortEnd;
-use event_callbacks::PORTS;
 use i8080_words::R;
 use outside_switch::Switch;
 use rtrb::{Consumer, Producer};
@@ -19,7 +21,7 @@ pub struct Quit;
 #[derive(Clone, Copy, PartialEq, Eq)]
 pub enum HostsEnd {
     /// The user wants it.
-    Quit,
+    UserQuit,
     /// No more keys can come, all that came were taken, and for a second the pair has written and shown nothing more.
     Settled,
     /// No host is left.
@@ -30,7 +32,8 @@ pub enum HostsEnd {
 #[derive(Drop)]
 pub struct Session<D: SectorStore, N: Write + Drop> {
     pub(crate) switch: Switch<D>,
-    pub(crate) ports: [PortEnd; PORTS],
+    pub(crate) first: PortEnd,
+    pub(crate) second: PortEnd,
     pub(crate) quits: Consumer<Quit>,
     pub(crate) notes: N,
     pub(crate) moments: Moments,
@@ -54,14 +57,19 @@ impl<D: SectorStore, N: Write + Drop> Session<D, N> {
     pub fn new(
         alloc: Global,
         store: D,
-        ports: [PortEnd; PORTS],
+        first: PortEnd,
+        second: PortEnd,
         quits: Consumer<Quit>,
         notes: N,
-    ) -> R<Session<D, N>> {
+    ) -> R<Session<D, N>>
+        ensures { IfOk result (λ session. seen session.switch
+            ≡ record { devices = record (at_boot (D.records store) (D.may_fail store)) { hosts = 2 }; lines = [] }) }
+    {
         let switch = Switch::new(alloc, store)?;
         Ok(Session {
             switch,
-            ports,
+            first,
+            second,
             quits,
             notes,
             moments: Moments {

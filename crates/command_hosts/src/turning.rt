@@ -1,9 +1,17 @@
 //! One turn of the outside.
+ghost use Rattle.std.specs.Prelude.{IfSome, ◌≡◌, None, true};
+ghost use Rattle.std.specs.List.{AllByRecursion};
+ghost use Rattle.outside_switch.specs.Meets.{seen};
+ghost use Rattle.outside_switch.specs.Goes.{Goes};
+ghost use Rattle.outside_switch.specs.declared.line.HostLine.{HostLine};
+ghost use Rattle.command_hosts.specs.Runs.{IsWhy, Went};
+ghost use Rattle.command_hosts.specs.declared.session.HostsEnd.TheVariants as ending;
 
 use crate::live::{Live, live_of, spare_for};
 use crate::notes::{note, words_of};
 use crate::session::{HostsEnd, Session};
-use outside_switch::Heard;
+use outside_switch::{Heard, HostLine};
+use pair_lines::Screen;
 use pair_events::Role;
 use shared_disk::SectorStore;
 use std::alloc::Global;
@@ -26,11 +34,11 @@ const STOPPED: u64 = 250_000;
 
 impl<D: SectorStore, N: Write + Drop> Session<D, N> {
     /// One turn, at this time. Returns whether anything has come.
-    pub(crate) fn turn(&mut self, alloc: Global, now: u64) -> bool {
-        if now.saturating_sub(self.moments.turned) > STOPPED {
-            self.moments.moved = now;
-        }
-        self.moments.turned = now;
+    #[tactic(auto, using(outside_switch::proofs::Going::nothing_yet, outside_switch::proofs::Going::and_then))]
+    pub(crate) fn turn(&mut self, alloc: Global, now: u64) -> bool
+        ensures { Went self.old self.new }
+    {
+        self.see_stop(now);
         let has_keys = self.take_keys(now);
         let has_bodies = self.hear_all(alloc, now);
         self.see_ends(alloc);
@@ -39,33 +47,47 @@ impl<D: SectorStore, N: Write + Drop> Session<D, N> {
         has_keys || has_bodies
     }
 
-    // Types the keys that have come at both ports.
-    fn take_keys(&mut self, now: u64) -> bool {
-        let [first, second] = &mut self.ports;
-        let has_first = first.type_keys(&mut self.switch, 0);
-        let has_second = second.type_keys(&mut self.switch, 1);
-        if has_first || has_second {
+    // If the outside was itself stopped, what it has not seen meanwhile says nothing.
+    fn see_stop(&mut self, now: u64)
+        ensures { self.new.switch ≡ self.old.switch }
+    {
+        if now.saturating_sub(self.moments.turned) > STOPPED {
             self.moments.moved = now;
         }
-        has_first || has_second
+        self.moments.turned = now;
+    }
+
+    // Types the keys that have come at both ports.
+    #[tactic(auto, using(outside_switch::proofs::Going::nothing_yet, outside_switch::proofs::Going::and_then))]
+    fn take_keys(&mut self, now: u64) -> bool
+        ensures { Went self.old self.new }
+    {
+        let has_first = self.first.type_keys(&mut self.switch, 0);
+        let has_second = self.second.type_keys(&mut self.switch, 1);
+        if !has_first && !has_second {
+            return false;
+        }
+        self.moments.moved = now;
+        true
     }
 
     // Hears the hosts at all places.
-    fn hear_all(&mut self, alloc: Global, now: u64) -> bool {
+    #[tactic(auto, using(outside_switch::proofs::Going::nothing_yet, outside_switch::proofs::Going::and_then))]
+    fn hear_all(&mut self, alloc: Global, now: u64) -> bool
+        ensures { Went self.old self.new }
+    {
         let mut has_heard = false;
         for place in 0..=u8::MAX {
-            if usize::from(place) >= self.switch.lines().len() {
-                break;
-            }
-            if self.hear_host(alloc, now, place) {
-                has_heard = true;
-            }
+            has_heard |= self.hear_host(alloc, now, place);
         }
         has_heard
     }
 
     // Hears the host at one place.
-    fn hear_host(&mut self, alloc: Global, now: u64, place: u8) -> bool {
+    #[tactic(auto, using(outside_switch::proofs::Going::nothing_yet, outside_switch::proofs::Going::and_then))]
+    fn hear_host(&mut self, alloc: Global, now: u64, place: u8) -> bool
+        ensures { Went self.old self.new }
+    {
         let mut has_heard = false;
         for _ in 0..BODIES_A_TURN {
             if !self.hear_next(alloc, now, place) {
@@ -77,71 +99,110 @@ impl<D: SectorStore, N: Write + Drop> Session<D, N> {
     }
 
     // Hears the next body of a host. Returns false if there is none.
-    fn hear_next(&mut self, alloc: Global, now: u64, place: u8) -> bool {
-        let [first, second] = &mut self.ports;
-        let rooms = [first.screen.has_room(), second.screen.has_room()];
+    #[tactic(auto, using(outside_switch::proofs::Going::nothing_yet, outside_switch::proofs::Going::and_then))]
+    fn hear_next(&mut self, alloc: Global, now: u64, place: u8) -> bool
+        ensures { Went self.old self.new }
+    {
+        let rooms = [self.first.screen.has_room(), self.second.screen.has_room()];
         let heard = self.switch.hear(alloc, place, rooms);
+        self.tell(alloc, now, place, heard);
+        !matches!(heard, Heard::Nothing)
+    }
+
+    // Shows and tells what was heard of a host.
+    fn tell(&mut self, alloc: Global, now: u64, place: u8, heard: Heard)
+        ensures { self.new.switch ≡ self.old.switch }
+    {
         if let Some(words) = words_of(heard) {
             note(&mut self.notes, alloc, place, words);
         }
         match heard {
-            Heard::Nothing => return false,
             Heard::Shown { port, byte } => self.show(now, port, byte),
             Heard::Written => self.moments.moved = now,
             _ => {}
         }
-        true
     }
 
     // Shows a byte that a terminal has accepted, since its screen had room.
-    fn show(&mut self, now: u64, port: u8, byte: u8) {
+    fn show(&mut self, now: u64, port: u8, byte: u8)
+        ensures { self.new.switch ≡ self.old.switch }
+    {
         self.moments.moved = now;
-        let [first, second] = &mut self.ports;
-        let screen = if port == 0 {
-            &mut first.screen
+        if port == 0 {
+            show_on(&mut self.first.screen, port, byte);
         } else {
-            &mut second.screen
-        };
-        if screen.has_room() {
-            screen.show(port, byte);
+            show_on(&mut self.second.screen, port, byte);
         }
     }
 
     // Hosts whose streams have ended are gone.
-    fn see_ends(&mut self, alloc: Global) {
+    #[tactic(auto, using(outside_switch::proofs::Going::nothing_yet, outside_switch::proofs::Going::and_then))]
+    fn see_ends(&mut self, alloc: Global)
+        ensures { Went self.old self.new }
+    {
         for place in 0..=u8::MAX {
-            if usize::from(place) >= self.switch.lines().len() {
-                break;
-            }
-            if self.switch.has_ended(place) {
-                self.switch.gone(alloc, place);
-                note(&mut self.notes, alloc, place, "is gone");
-            }
+            self.see_end(alloc, place);
         }
+    }
+
+    // If the stream of the host at a place has ended, it is gone.
+    #[tactic(auto, using(outside_switch::proofs::Going::nothing_yet, outside_switch::proofs::Going::and_then))]
+    fn see_end(&mut self, alloc: Global, place: u8)
+        ensures { Went self.old self.new }
+    {
+        if !self.switch.has_ended(place) {
+            return;
+        }
+        self.switch.gone(alloc, place);
+        note(&mut self.notes, alloc, place, "is gone");
     }
 
     // Sends the live host its keys, and has it begin with a spare if it is alone.
-    fn serve_live(&mut self, alloc: Global, now: u64) {
+    #[tactic(auto, using(outside_switch::proofs::Going::nothing_yet, outside_switch::proofs::Going::and_then))]
+    fn serve_live(&mut self, alloc: Global, now: u64)
+        ensures { Went self.old self.new }
+    {
         let Some(live) = live_of(self.switch.lines()) else {
             return;
         };
-        let [first_taken, second_taken] = live.report.taken;
-        let [first, second] = &mut self.ports;
-        let who = (live.place, live.report.generation);
-        if self.moments.live != Some(who) {
-            self.moments.live = Some(who);
-            first.begin_anew(first_taken);
-            second.begin_anew(second_taken);
-        }
-        first.send_keys(&mut self.switch, alloc, now, (live.place, 0), first_taken);
-        second.send_keys(&mut self.switch, alloc, now, (live.place, 1), second_taken);
+        self.see_live(&live);
+        self.send_keys(alloc, now, &live);
         if live.report.role == Some(Role::Alone) {
-            self.begin(alloc, now, live);
+            self.begin(alloc, now, &live);
         }
     }
 
+    // Another host may be live: all keys that it has not taken are sent to it.
+    fn see_live(&mut self, live: &Live)
+        ensures { self.new.switch ≡ self.old.switch }
+    {
+        let who = (live.place, live.report.generation);
+        if self.moments.live == Some(who) {
+            return;
+        }
+        self.moments.live = Some(who);
+        let [first, second] = live.report.taken;
+        self.first.begin_anew(first);
+        self.second.begin_anew(second);
+    }
+
+    // Sends the live host the keys of both ports.
+    #[tactic(auto, using(outside_switch::proofs::Going::nothing_yet, outside_switch::proofs::Going::and_then))]
+    fn send_keys(&mut self, alloc: Global, now: u64, live: &Live)
+        ensures { Went self.old self.new }
+    {
+        let [first, second] = live.report.taken;
+        self.first
+            .send_keys(&mut self.switch, alloc, now, (live.place, 0), first);
+        self.second
+            .send_keys(&mut self.switch, alloc, now, (live.place, 1), second);
+    }
+
     // Has a host that is alone begin with a spare, if there is one.
-    fn begin(&mut self, alloc: Global, now: u64, live: Live) {
+    #[tactic(auto, using(outside_switch::proofs::Going::nothing_yet, outside_switch::proofs::Going::and_then))]
+    fn begin(&mut self, alloc: Global, now: u64, live: &Live)
+        ensures { Went self.old self.new }
+    {
         if now.saturating_sub(self.moments.begun) < BEGIN {
             return;
         }
@@ -151,45 +212,68 @@ impl<D: SectorStore, N: Write + Drop> Session<D, N> {
         let Some(spare) = spare_for(self.switch.lines(), generation) else {
             return;
         };
-        if self.switch.send_begin(alloc, live.place, generation, spare) {
-            self.moments.begun = now;
-            note(&mut self.notes, alloc, spare, "is to be the next backup");
+        if !self.switch.send_begin(alloc, live.place, generation, spare) {
+            return;
         }
+        self.moments.begun = now;
+        note(&mut self.notes, alloc, spare, "is to be the next backup");
     }
 
     // Tells all hosts that the switch is there.
-    fn tick(&mut self, alloc: Global, now: u64) {
-        if now.saturating_sub(self.moments.ticked) >= TICK {
-            self.moments.ticked = now;
-            self.switch.tick(alloc);
+    #[tactic(auto, using(outside_switch::proofs::Going::nothing_yet, outside_switch::proofs::Going::and_then))]
+    fn tick(&mut self, alloc: Global, now: u64)
+        ensures { Went self.old self.new }
+    {
+        if now.saturating_sub(self.moments.ticked) < TICK {
+            return;
         }
+        self.moments.ticked = now;
+        self.switch.tick(alloc);
     }
 
     /// Why all ends now, if it does.
-    pub(crate) fn end(&mut self, now: u64) -> Option<HostsEnd> {
+    pub(crate) fn end(&mut self, now: u64) -> Option<HostsEnd>
+        ensures went { self.new.switch ≡ self.old.switch }
+        ensures why { IfSome result (λ end. IsWhy end self.new) }
+    {
         if self.quits.pop().is_ok() {
-            return Some(HostsEnd::Quit);
+            return Some(HostsEnd::UserQuit);
         }
-        if self.is_deserted() {
+        if is_deserted(self.switch.lines()) {
             return Some(HostsEnd::NoHosts);
         }
-        let [first, second] = &self.ports;
-        if first.is_over()
-            && second.is_over()
-            && now.saturating_sub(self.moments.moved) >= SETTLED
-        {
+        if self.has_settled(now) {
             return Some(HostsEnd::Settled);
         }
         None
     }
 
-    // Whether every host is cut off.
-    fn is_deserted(&self) -> bool {
-        for line in self.switch.lines().iter() {
-            if !line.is_cut() {
-                return false;
-            }
+    // Whether no keys are left, and the pair has shown and written nothing for a while.
+    fn has_settled(&self, now: u64) -> bool
+        ensures { result ≡ true → IsWhy ending.Settled self.now }
+    {
+        if !self.first.is_over() || !self.second.is_over() {
+            return false;
         }
-        true
+        now.saturating_sub(self.moments.moved) >= SETTLED
     }
+}
+
+// Shows a byte, if the screen has room.
+fn show_on(screen: &mut Screen, port: u8, byte: u8) {
+    if screen.has_room() {
+        screen.show(port, byte);
+    }
+}
+
+// Whether every host is cut off.
+fn is_deserted(lines: &[HostLine]) -> bool
+    ensures { result ≡ true → AllByRecursion (λ (line : HostLine). line.to ≡ None) lines.now }
+{
+    for line in lines.iter() {
+        if !line.is_cut() {
+            return false;
+        }
+    }
+    true
 }
