@@ -1,6 +1,6 @@
 -- One call of the switch: what the devices did, and what was pushed, are all that it did.
 use Rattle.std.proofs.Common.{ℕ, ◌≡◌, ◌<◌, Bool, true, false, Option, Some, None, Ok, Err, List, [], ◌∷◌, ◌++◌, append-nil, append_assoc, refl, sym, ap, ◌∙◌, subst, inl, inr, cond, ne_eqb, arith}
-use Rattle.std.specs.Prelude.{◌==◌, IsTrue, Result, drop, is_none, length, slice_set, take, nat_lt, slice_get, slice_index}
+use Rattle.std.specs.Prelude.{◌==◌, IsTrue, Result, drop, is_none, length, slice_set, take, nat_lt, slice_get}
 use Rattle.std.proofs.lemmas.Bool.{eqb-false}
 use Rattle.std.proofs.lemmas.List.{set-get_or}
 use Rattle.std.specs.Global.{Vec}
@@ -8,7 +8,6 @@ use Rattle.std.specs.List.{AllByRecursion}
 use Rattle.arbiter_core.specs.declared.arbiter.Won as arbiter
 use Rattle.disk_dcdd.specs.declared.address.SectorAddress.{SectorAddress}
 use Rattle.disk_dcdd.specs.declared.sector.SectorWrite.{SectorWrite}
-use Rattle.event_callbacks.specs.declared.operations.Operation.TheVariants as operation
 use Rattle.i8080_words.specs.declared.refusal.Fault as fault
 use Rattle.i8080_words.specs.declared.refusal.Fault.TheVariants.{Lost, Unknown}
 use Rattle.pair_protocol.specs.Lawful.{Among}
@@ -20,7 +19,7 @@ use Rattle.shared_disk.specs.declared.store.Record.{Record}
 use Rattle.std.specs.Option.{option_map}
 use Rattle.std.proofs.Math.Seq.{take-append_seam}
 use Rattle.std.proofs.lemmas.Option.{same_Some}
-use Rattle.host_frames.specs.Frames.{IsSpelling, Said, Packet, Transfers, Tells}
+use Rattle.host_frames.specs.Frames.{IsSpelling, Said, Transfers, Tells}
 use Rattle.host_frames.specs.Meaning as meaning
 use Rattle.host_frames.specs.Meaning.{IsTold, Means, address_of_read, covered_at}
 use Rattle.host_frames.specs.declared.frame.Notice.{Notice}
@@ -39,7 +38,7 @@ use Rattle.outside_switch.specs.Calls as calls
 use Rattle.outside_switch.specs.Calls.{Call, Called}
 use Rattle.outside_switch.specs.Lines.{LinesGo, Posts, PostsAll, Pushed, number_at}
 use Rattle.outside_switch.specs.Meets.{Meets, Seen}
-use Rattle.outside_switch.specs.Says.{Brings, IsAnswer, IsFrom, IsHost, IsPassed, IsRight, OfJoin, OfPacket, OfProgress, Saying}
+use Rattle.outside_switch.specs.Says.{Brings, IsFrom, IsHost, IsPassed, IsRight, Saying}
 use Rattle.outside_switch.specs.declared.line.HostLine.{HostLine}
 use Rattle.outside_switch.proofs.Lines.{lines_same}
 use Rattle.outside_switch.proofs.Meanings.{only}

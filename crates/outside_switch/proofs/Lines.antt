@@ -1,5 +1,5 @@
 -- What became of the lines: nothing, one frame at one place, and some frames after others.
-use Rattle.std.proofs.Common.{ℕ, ◌≡◌, Bool, true, false, cond, Option, Some, None, List, [], ◌∷◌, ◌++◌, append-nil, append_assoc, refl, sym, ap, ◌∙◌, subst, eqb-true, ne_eqb, eq-eqb, inl, inr}
+use Rattle.std.proofs.Common.{ℕ, ◌≡◌, Bool, true, false, cond, Option, Some, None, List, [], ◌∷◌, ◌++◌, append-nil, append_assoc, refl, sym, ap, ◌∙◌, subst, eqb-true, ne_eqb, eq-eqb}
 use Rattle.std.specs.Prelude.{◌==◌, ◌<◌, ◌≤◌, length, slice_get, slice_set}
 use Rattle.std.proofs.Common.{get_or}
 use Rattle.std.proofs.lemmas.Option.{slice_get-get_or, slice_get_past}
@@ -8,7 +8,7 @@ use Rattle.std.specs.List.{AllByRecursion}
 use Rattle.rtrb.specs.Ring.{ProducerLooked, SameConsumer, SameProducer, received, sent}
 use Rattle.rtrb.specs.declared.producer.Producer.{Producer}
 use Rattle.host_frames.specs.Frames.{IsSpelling, Said}
-use Rattle.pair_protocol.proofs.Traces.Lists.{bool_cases, get_set, get_set_other}
+use Rattle.pair_protocol.proofs.Traces.Lists.{get_set, get_set_other}
 use Rattle.outside_switch.specs.Lines.{Hears, HearsAt, LineGoes, LinesGo, OneLine, PlaceGoes, Posts, PostsAll, Pushed, Pushes, Sends, Took, number_at, number_in, pushed_to}
 use Rattle.outside_switch.specs.declared.line.HostLine.{HostLine}
 

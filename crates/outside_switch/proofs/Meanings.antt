@@ -1,6 +1,6 @@
 -- What a frame of the outside means: one thing, or nothing.
 use Rattle.std.proofs.Common.{ℕ, ◌≡◌, refl}
-use Rattle.host_frames.specs.Frames.{Said, Packet, Transfers, Tells}
+use Rattle.host_frames.specs.Frames.{Said, Transfers, Tells}
 use Rattle.host_frames.specs.Meaning as meaning
 use Rattle.host_frames.specs.Meaning.{Means, address_of_read}
 use Rattle.host_frames.specs.declared.frame.Notice.TheVariants.{Begin, Gone, Lost, Stop, Tick, Won}

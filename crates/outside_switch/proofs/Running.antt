@@ -1,5 +1,5 @@
 -- Each call of the devices is a step of the outside of the law, and a way of the switch is a run.
-use Rattle.std.proofs.Common.{ℕ, ◌≡◌, ◌+◌, Option, Some, None, List, [], ◌∷◌, ◌++◌, append-nil, append_assoc, refl, sym, ap, ◌∙◌, subst}
+use Rattle.std.proofs.Common.{ℕ, ◌≡◌, Option, Some, None, List, [], ◌∷◌, ◌++◌, append-nil, append_assoc, sym, ap, subst}
 use Rattle.guest_lockstep.specs.Machine.{Machine}
 use Rattle.host_law.specs.Frame.{Act, AreAccepted, Came, Frame, Key, MayBegin, quiet, sending}
 use Rattle.host_law.specs.Outside.{Outside, OutsideStep, with_keys, with_typed}
@@ -16,7 +16,7 @@ use Rattle.outside_switch.specs.Goes as goes
 use Rattle.outside_switch.specs.Goes.{Goes}
 use Rattle.outside_switch.specs.Meets.{Meets, Seen}
 use Rattle.outside_switch.specs.Says.{Brings, Saying}
-use Rattle.outside_switch.specs.Runs.{AllBring, IsRun, SwitchRuns, read_in, written_in}
+use Rattle.outside_switch.specs.Runs.{AllBring, IsRun, read_in, written_in}
 
 came_both : (xs ys frames : List Frame) → Came xs frames → Came ys frames → Came (xs ++ ys) frames
 came_both [] ys frames p q = q

@@ -1,6 +1,5 @@
 -- The calls of the devices one after another, with the frames of the law that go with each.
-use Rattle.std.specs.Prelude.{◌≡◌, ℕ, Bool, IsTrue, nat_lt, List, [], ◌∷◌, ◌++◌, Option, Ok, Err}
-use Rattle.arbiter_core.specs.declared.arbiter.Asking.{Asking}
+use Rattle.std.specs.Prelude.{◌≡◌, ℕ, Bool, IsTrue, nat_lt, List, [], ◌++◌, Ok, Err}
 use Rattle.arbiter_core.specs.declared.arbiter.Won.{Won}
 use Rattle.disk_dcdd.specs.declared.address.SectorAddress.{SectorAddress}
 use Rattle.disk_dcdd.specs.declared.sector.SectorWrite.{SectorWrite}
@@ -9,7 +8,6 @@ use Rattle.i8080_words.specs.declared.refusal.Fault.{Fault}
 use Rattle.i8080_words.specs.declared.refusal.Fault.TheVariants.{Lost}
 use Rattle.pair_protocol.specs.World.{Released, WriteDone, SectorRead}
 use Rattle.shared_disk.specs.declared.disk.SectorRead as device
-use Rattle.shared_disk.specs.declared.store.Record.{Record}
 use Rattle.host_law.specs.Frame.{Frame, Carries, AsksSector, TellsKeys, AsksArbiter, Key, AreAccepted, HasWon, HasLost, MayBegin, Act, quiet, taking, sending, answering}
 use Rattle.outside_devices.specs.Calls.{Asks, Puts, Reads, admitted_after, arrived_after, key_answer, terminal_at, told_after, typed_after, typed_answer}
 use Rattle.outside_devices.specs.Held.{Held}

@@ -3,10 +3,8 @@ use Rattle.std.specs.Prelude.{◌≡◌, ◌⊎◌, ℕ, nat_lt, Bool, true, fal
 use Rattle.std.specs.Global.{Vec}
 use Rattle.host_frames.specs.Frames.{IsBodyOf, IsSpelling, Said, Tells}
 use Rattle.host_frames.specs.declared.frame.Notice.TheVariants.{Begin}
-use Rattle.host_law.specs.Frame.{Frame}
-use Rattle.outside_switch.specs.Lines.{AtPlace, IsClosed, IsNamed, LineGoes, OneLine, Pushed}
+use Rattle.outside_switch.specs.Lines.{AtPlace, IsClosed, IsNamed, LineGoes, OneLine}
 use Rattle.outside_switch.specs.Meets.{Meets, Seen}
-use Rattle.outside_switch.specs.Says.{Saying}
 use Rattle.outside_switch.specs.declared.line.HostLine.{HostLine}
 
 -- only the line of one place became another

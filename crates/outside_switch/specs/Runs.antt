@@ -1,13 +1,12 @@
 -- What the calls of the switch are in the law of processes.
-use Rattle.std.specs.Prelude.{◌≡◌, ℕ, List, [], ◌∷◌, ◌++◌, Some, None}
-use Rattle.std.specs.List.{AllByRecursion}
+use Rattle.std.specs.Prelude.{ℕ, List, [], ◌++◌, Some}
 use Rattle.guest_lockstep.specs.Machine.{Machine}
 use Rattle.host_law.specs.Frame.{Came, Frame}
 use Rattle.outside_devices.specs.Ran.{OutsideRan}
 use Rattle.outside_switch.specs.Goes as goes
 use Rattle.outside_switch.specs.Goes.{Goes}
-use Rattle.outside_switch.specs.Meets.{Meets, Seen}
-use Rattle.outside_switch.specs.Says.{Brings, Saying}
+use Rattle.outside_switch.specs.Meets.{Seen}
+use Rattle.outside_switch.specs.Says.{Brings}
 
 -- the frames of the law that were taken in, and those that were sent
 abbrev pub read_in : {first last : Seen} → Goes first last → List Frame

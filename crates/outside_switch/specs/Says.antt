@@ -2,7 +2,7 @@
 use Rattle.std.specs.Prelude.{◌≡◌, ◌⊎◌, ℕ, List, Option, Some, None}
 use Rattle.host_law.specs.Frame as law
 use Rattle.pair_protocol.specs.Lawful.{Among}
-use Rattle.host_frames.specs.Frames.{IsSpelling, Said, Packet, Transfers, Tells}
+use Rattle.host_frames.specs.Frames.{IsSpelling, Said, Packet, Tells}
 use Rattle.host_frames.specs.Meaning.{IsTold, Means}
 use Rattle.host_frames.specs.declared.frame.Notice.TheVariants.{Join, Progress}
 use Rattle.outside_switch.specs.Lines.{Pushed, number_at}

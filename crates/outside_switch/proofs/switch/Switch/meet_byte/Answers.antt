@@ -1,5 +1,5 @@
 -- The byte arrived, and the count was sent.
-use Rattle.std.proofs.Common.{◌∙◌, ap, refl, subst, sym, arith}
+use Rattle.std.proofs.Common.{arith}
 use Rattle.outside_switch.specs.Meets.{seen}
 use Rattle.host_frames.specs.Frames.{Transfers}
 use Rattle.host_frames.specs.declared.frame.Transfer.TheVariants.{Accepted}

@@ -1,5 +1,5 @@
 -- The sector was read, or was not.
-use Rattle.std.proofs.Common.{◌∙◌, ap, refl, subst, sym, arith}
+use Rattle.std.proofs.Common.{refl, arith}
 use Rattle.outside_switch.specs.Meets.{seen}
 use Rattle.host_frames.specs.Frames.{Transfers}
 use Rattle.host_frames.specs.declared.frame.Transfer.TheVariants.{Sector}

@@ -1,5 +1,5 @@
 -- A Join is passed on to the host of its number.
-use Rattle.std.proofs.Common.{◌≡◌, Some, ap, refl, subst, sym, arith}
+use Rattle.std.proofs.Common.{◌≡◌, Some, refl, subst, arith}
 use Rattle.outside_switch.specs.Lines.{number_at}
 use Rattle.outside_switch.specs.Meets.{seen}
 use Rattle.outside_switch.specs.Says.{OfJoin}

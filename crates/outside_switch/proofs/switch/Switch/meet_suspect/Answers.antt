@@ -1,5 +1,5 @@
 -- The host has won, or lost, or the question is forgotten.
-use Rattle.std.proofs.Common.{◌≡◌, ◌∙◌, Some, ap, refl, subst, sym, arith}
+use Rattle.std.proofs.Common.{◌≡◌, ◌∙◌, Some, ap, refl, sym, arith}
 use Rattle.outside_switch.specs.Lines.{number_at}
 use Rattle.outside_switch.specs.Meets.{seen}
 use Rattle.host_frames.specs.Frames.{Tells}

@@ -1,5 +1,5 @@
 -- The frame is passed on.
-use Rattle.std.proofs.Common.{◌∙◌, Some, ap, refl, subst, sym, arith}
+use Rattle.std.proofs.Common.{Some, refl, arith}
 use Rattle.outside_switch.specs.Meets.{seen}
 use Rattle.host_frames.specs.Frames.{said_by}
 use Rattle.outside_switch.proofs.Lines.{posts_from}
