@@ -1,6 +1,6 @@
 -- What a run of the outside comes to, and why it ends.
-use Rattle.std.specs.Prelude.{◌≡◌, ℕ, ◌≤◌, false, List, [], ◌∷◌, ◌++◌, None}
-use Rattle.std.specs.List.{AllByRecursion}
+use Rattle.std.specs.Prelude.{◌≡◌, ℕ, ◌≤◌, Bool, is_none, false, true, List, [], ◌∷◌, ◌++◌, None}
+use Rattle.std.specs.List.{list_all}
 use Rattle.rtrb.specs.Ring.{received}
 use Rattle.outside_switch.specs.Goes.{Goes}
 use Rattle.outside_switch.specs.Meets.{seen}
@@ -21,11 +21,15 @@ pub record IsOver (port : PortEnd) : Type 0 where
   pub none : port.waiting ≡ None
   pub all : port.typed ≤ port.taken
 
+-- every host is cut off
+abbrev pub are_cut : List HostLine → Bool
+are_cut lines = list_all (λ (line : HostLine). is_none line.to) lines
+
 -- the user has asked for it; no keys are left at either port; or every host is cut off
 abbrev pub IsWhy : {D N : Type 0} → HostsEnd → Session D N → Type 0
 IsWhy UserQuit s = (before : List Quit) × (quit : Quit) × (received s.quits ≡ before ++ quit ∷ [])
 IsWhy Settled s = IsOver s.first × IsOver s.second
-IsWhy NoHosts s = AllByRecursion (λ (line : HostLine). line.to ≡ None) s.switch.lines.items
+IsWhy NoHosts s = are_cut s.switch.lines.items ≡ true
 
 -- it went on until there was a reason to end, and after that
 pub record Ended {D N : Type 0} (end : HostsEnd) (old new : Session D N) : Type 0 where

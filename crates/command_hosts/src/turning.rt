@@ -1,10 +1,8 @@
 //! One turn of the outside.
 ghost use Rattle.std.specs.Prelude.{IfSome, ◌≡◌, None, true};
-ghost use Rattle.std.specs.List.{AllByRecursion};
 ghost use Rattle.outside_switch.specs.Meets.{seen};
 ghost use Rattle.outside_switch.specs.Goes.{Goes};
-ghost use Rattle.outside_switch.specs.declared.line.HostLine.{HostLine};
-ghost use Rattle.command_hosts.specs.Runs.{IsWhy, Went};
+ghost use Rattle.command_hosts.specs.Runs.{IsWhy, Went, are_cut};
 ghost use Rattle.command_hosts.specs.declared.session.HostsEnd.TheVariants as ending;
 
 use crate::live::{Live, live_of, spare_for};
@@ -268,12 +266,7 @@ fn show_on(screen: &mut Screen, port: u8, byte: u8) {
 
 // Whether every host is cut off.
 fn is_deserted(lines: &[HostLine]) -> bool
-    ensures { result ≡ true → AllByRecursion (λ (line : HostLine). line.to ≡ None) lines.now }
+    ensures { result ≡ are_cut lines.now }
 {
-    for line in lines.iter() {
-        if !line.is_cut() {
-            return false;
-        }
-    }
-    true
+    lines.iter().all(|line| line.is_cut())
 }
