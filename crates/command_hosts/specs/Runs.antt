@@ -1,5 +1,5 @@
 -- What a run of the outside comes to, and why it ends.
-use Rattle.std.specs.Prelude.{◌≡◌, ℕ, ◌≤◌, Bool, is_none, false, true, List, [], ◌∷◌, ◌++◌, None}
+use Rattle.std.specs.Prelude.{◌≡◌, ◌≤◌, Bool, is_none, false, true, List, [], ◌∷◌, ◌++◌, None}
 use Rattle.std.specs.List.{list_all}
 use Rattle.rtrb.specs.Ring.{received}
 use Rattle.outside_switch.specs.Goes.{Goes}
