@@ -7,6 +7,8 @@ mod line;
 mod meeting;
 mod places;
 mod switch;
+#[cfg(test)]
+mod tests;
 
 pub use heard::Heard;
 pub use laws::switch_runs;
