@@ -1,5 +1,7 @@
 //! What a frame of a host asks for.
-ghost use Rattle.std.specs.Prelude.{◌≡◌, [], ℕ};
+ghost use Rattle.std.specs.Prelude.{◌≡◌, [], ℕ, None, length};
+ghost use Rattle.outside_devices.specs.Calls.{arrived_after, is_accepted};
+ghost use Rattle.outside_switch.specs.Heeds.{Asked, HeedsAt, HeedsNotice, HeedsTransfer, Stays, Writes, passed_if, room_of, shown_if, told_unless};
 ghost use Rattle.host_frames.specs.Frames.{Packet, Said, Tells, Transfers, said_by};
 ghost use Rattle.host_frames.specs.Meaning.{covered_at};
 ghost use Rattle.host_frames.specs.declared.frame.Notice.TheVariants as of_notice;
@@ -28,7 +30,8 @@ impl<D: SectorStore> Switch<D> {
         frame: Frame<'_>,
         rooms: [bool; PORTS],
     ) -> Heard
-        ensures { MeetsSaid place (said_by frame.entry) self.old self.new }
+        ensures meets { MeetsSaid place (said_by frame.entry) self.old self.new }
+        ensures heeds { HeedsAt place rooms (said_by frame.entry) self.old.lines.items self.old.devices self.new.devices result }
     {
         match frame {
             Frame::Packet { host, bytes } => {
@@ -48,7 +51,8 @@ impl<D: SectorStore> Switch<D> {
         transfer: Transfer,
         rooms: [bool; PORTS],
     ) -> Heard
-        ensures { MeetsSaid place (Transfers transfer) self.old self.new }
+        ensures meets { MeetsSaid place (Transfers transfer) self.old self.new }
+        ensures heeds { HeedsTransfer rooms transfer self.old.devices self.new.devices result }
     {
         match transfer {
             Transfer::Byte { port, number, byte } => {
@@ -63,7 +67,8 @@ impl<D: SectorStore> Switch<D> {
     // What is said to the arbiter or the switch.
     #[tactic(auto, using(crate::proofs::Acting::still_met))]
     fn meet_notice(&mut self, alloc: Global, place: u8, notice: Notice) -> Heard
-        ensures { MeetsSaid place (Tells notice) self.old self.new }
+        ensures meets { MeetsSaid place (Tells notice) self.old self.new }
+        ensures heeds { HeedsNotice (length self.old.lines.items) (number_at self.old.lines.items place) notice self.old.devices self.new.devices result }
     {
         match notice {
             Notice::Suspect(generation) => self.meet_suspect(alloc, place, generation),
@@ -93,9 +98,10 @@ impl<D: SectorStore> Switch<D> {
     // A frame is passed on to the host at a place.
     #[tactic(auto, using(crate::proofs::Acting::passed_met, crate::proofs::Acting::still_met))]
     fn pass(&mut self, alloc: Global, host: u8, frame: &Frame<'_>) -> Heard
-        ensures { (place : ℕ) (heard : Said)
+        ensures meets { (place : ℕ) (heard : Said)
             → IsPassed place host (number_at self.old.lines.items host) heard (said_by frame.now)
             → MeetsSaid place heard self.old self.new }
+        ensures heeds { Stays self.old.devices self.new.devices result (passed_if (length self.old.lines.items) host) }
     {
         if usize::from(host) >= self.lines.len() {
             return Heard::Failed;
@@ -115,7 +121,9 @@ impl<D: SectorStore> Switch<D> {
         byte: u8,
         room: bool,
     ) -> Heard
-        ensures { MeetsSaid place (Transfers (of_transfer.Byte port number byte)) self.old self.new }
+        ensures meets { MeetsSaid place (Transfers (of_transfer.Byte port number byte)) self.old self.new }
+        ensures heeds { (self.new.devices ≡ record self.old.devices { terminals = arrived_after self.old.devices.terminals port number room })
+            × (result ≡ shown_if (is_accepted self.old.devices.terminals port number room) port byte) }
     {
         let shown = self.devices.arrive(port, number, byte, room);
         let count = self.devices.accepted(port);
@@ -130,7 +138,8 @@ impl<D: SectorStore> Switch<D> {
     // A released write arrives at the disk.
     #[tactic(auto, using(crate::proofs::Acting::written_met, crate::proofs::Acting::unwritten_met))]
     fn meet_write(&mut self, alloc: Global, place: u8, write: &SectorWrite) -> Heard
-        ensures { MeetsSaid place (Transfers (of_transfer.Write write.now)) self.old self.new }
+        ensures meets { MeetsSaid place (Transfers (of_transfer.Write write.now)) self.old self.new }
+        ensures heeds { Writes write.now self.old.devices self.new.devices result }
     {
         match self.devices.put(write) {
             Ok(()) => {
@@ -149,7 +158,8 @@ impl<D: SectorStore> Switch<D> {
     // A sector is read.
     #[tactic(auto, using(crate::proofs::Acting::sector_met, crate::proofs::Acting::unread_met))]
     fn meet_get(&mut self, alloc: Global, place: u8, address: SectorAddress) -> Heard
-        ensures { MeetsSaid place (Transfers (of_transfer.Get address)) self.old self.new }
+        ensures meets { MeetsSaid place (Transfers (of_transfer.Get address)) self.old self.new }
+        ensures heeds { HeedsTransfer [] (of_transfer.Get address) self.old.devices self.new.devices result }
     {
         let Ok(read) = self.devices.read(address) else {
             return Heard::Met;
@@ -162,7 +172,8 @@ impl<D: SectorStore> Switch<D> {
     // The arbiter is asked, in the name of the host that is at the place.
     #[tactic(auto, using(crate::proofs::Acting::won_met, crate::proofs::Acting::lost_met, crate::proofs::Acting::forgot_met, crate::proofs::Acting::still_met))]
     fn meet_suspect(&mut self, alloc: Global, place: u8, generation: u32) -> Heard
-        ensures { MeetsSaid place (Tells (of_notice.Suspect generation)) self.old self.new }
+        ensures meets { MeetsSaid place (Tells (of_notice.Suspect generation)) self.old self.new }
+        ensures heeds { Asked (number_at self.old.lines.items place) generation self.old.devices self.new.devices result }
     {
         let Some(host) = places::number_at(&self.lines, place) else {
             return Heard::Met;
@@ -185,7 +196,8 @@ impl<D: SectorStore> Switch<D> {
     // Keys that are covered are told to the terminals, and the report is kept.
     #[tactic(auto, using(crate::proofs::Acting::report_met))]
     fn meet_report(&mut self, place: u8, report: &Report) -> Heard
-        ensures { MeetsSaid place (Tells (of_notice.Report report.now)) self.old self.new }
+        ensures meets { MeetsSaid place (Tells (of_notice.Report report.now)) self.old self.new }
+        ensures heeds { HeedsNotice 0 None (of_notice.Report report.now) self.old.devices self.new.devices result }
     {
         let [first, second] = report.covered;
         self.tell(0, first);
@@ -200,6 +212,8 @@ impl<D: SectorStore> Switch<D> {
     #[tactic(auto, using(crate::proofs::Acting::told_covered, crate::proofs::Acting::told_none))]
     fn tell(&mut self, port: u8, keys: u64)
         ensures called { Called self.old.devices (covered_at port keys) [] self.new.devices }
+        ensures told { self.new.devices
+            ≡ record self.old.devices { terminals = told_unless self.old.devices.terminals port keys } }
         ensures lines { self.new.lines ≡ self.old.lines }
     {
         if keys > 0 {
@@ -218,7 +232,8 @@ impl<D: SectorStore> Switch<D> {
         drives: u8,
         count: u64,
     ) -> Heard
-        ensures { MeetsSaid place (Tells (of_notice.Join generation host drives count)) self.old self.new }
+        ensures meets { MeetsSaid place (Tells (of_notice.Join generation host drives count)) self.old self.new }
+        ensures heeds { Stays self.old.devices self.new.devices result (passed_if (length self.old.lines.items) host) }
     {
         if usize::from(host) >= self.lines.len() {
             return Heard::Failed;
@@ -238,7 +253,9 @@ impl<D: SectorStore> Switch<D> {
 }
 
 // Whether the screen of a port has room.
-fn has_room(rooms: [bool; PORTS], port: u8) -> bool {
+fn has_room(rooms: [bool; PORTS], port: u8) -> bool
+    ensures { result ≡ room_of rooms port }
+{
     let [first, second] = rooms;
     if port == 0 { first } else { second }
 }

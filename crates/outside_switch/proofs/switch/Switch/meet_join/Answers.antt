@@ -9,8 +9,8 @@ use Rattle.outside_switch.proofs.Lines.{posts_from}
 use Rattle.outside_switch.proofs.Acting.{met_in, passed_met}
 use Rattle.outside_switch.proofs.switch.Switch.meet_join.Goals as goal
 
-pub returns : goal.returns
-returns g c =
+pub returns-clause-meets : goal.returns-clause-meets
+returns-clause-meets g c =
     met_in _ (seen c.args.self.now) c.args.self.now.devices c.args.self.now.lines.len c.post_join.new.lines c.args.self.now.lines.items (omega arith)
     (passed_met c.args.place c.args.host _ _ c.post_join.result (seen c.args.self.now)
     (record { devices = c.args.self.now.devices; lines = c.post_join.new.lines }) (OfJoin c.args.generation c.args.drives c.args.count

@@ -6,9 +6,9 @@ use Rattle.outside_switch.specs.Meets.{Meets, seen}
 use Rattle.outside_switch.specs.Says.{OfProgress}
 use Rattle.outside_switch.proofs.switch.Switch.meet_notice.Goals as goal
 
-pub returns-in-Progress : goal.returns-in-Progress
-returns-in-Progress g c =
+pub returns-in-Progress-clause-meets : goal.returns-in-Progress-clause-meets
+returns-in-Progress-clause-meets g c =
     subst (λ n. Meets (Some (record { place = c.args.place; said = Tells n })) (seen c.args.self.now) (seen c.pass.new.self))
     (sym c.in-Progress.is)
-    (c.pass.ensures c.args.place (Tells (Progress c.in-Progress.host c.in-Progress.entries c.in-Progress.count))
+    (c.pass.ensures.meets c.args.place (Tells (Progress c.in-Progress.host c.in-Progress.entries c.in-Progress.count))
     (OfProgress c.in-Progress.entries c.in-Progress.count))

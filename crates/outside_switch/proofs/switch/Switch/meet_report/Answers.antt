@@ -8,8 +8,8 @@ use Rattle.outside_switch.specs.Meets.{seen}
 use Rattle.outside_switch.proofs.Acting.{met_in, report_met}
 use Rattle.outside_switch.proofs.switch.Switch.meet_report.Goals as goal
 
-pub returns-then-not-keep : goal.returns-then-not-keep
-returns-then-not-keep g c =
+pub returns-then-not-keep-clause-meets : goal.returns-then-not-keep-clause-meets
+returns-then-not-keep-clause-meets g c =
     met_in _ (seen c.args.self.now) c.tell-2.new.self.devices c.tell-2.new.self.lines.len c.keep.new.lines c.tell-2.new.self.lines.items (omega arith)
     (report_met c.args.place _ _ c.args.report.now (seen c.args.self.now)
     (record { devices = c.tell-2.new.self.devices; lines = c.keep.new.lines }) c.tell.new.self.devices
@@ -19,8 +19,8 @@ returns-then-not-keep g c =
     (c.deref_mut.ensures.value ∙ ap (λ (v : Vec HostLine). v.items) (c.tell-2.ensures.lines ∙ c.tell.ensures.lines))
     c.keep.ensures.goes))
 
-pub returns : goal.returns
-returns g c =
+pub returns-clause-meets : goal.returns-clause-meets
+returns-clause-meets g c =
     met_in _ (seen c.args.self.now) c.tell-2.new.self.devices c.tell-2.new.self.lines.len c.keep.new.lines c.tell-2.new.self.lines.items (omega arith)
     (report_met c.args.place _ _ c.args.report.now (seen c.args.self.now)
     (record { devices = c.tell-2.new.self.devices; lines = c.keep.new.lines }) c.tell.new.self.devices
