@@ -48,7 +48,7 @@ heard_body a taken b place body takes heard = elim heard [
 
 pub next_so : (place : ℕ) (o : Option (Vec ℕ)) (a b : Seen) → HearsAt place o a.lines b.lines → b.devices ≡ a.devices →
     NextSo place o a b
-next_so place None a b lines devices = nothing_met None a b devices lines
+next_so place None a b lines devices = (nothing_met None a b devices lines.0, devices, lines.1)
 next_so place (Some body) a b lines devices = record { lines = lines; devices = devices }
 
 pub names : (a begun b : Seen) (place generation : ℕ) → Begins place generation a begun →

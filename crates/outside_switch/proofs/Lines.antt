@@ -9,7 +9,7 @@ use Rattle.rtrb.specs.Ring.{ProducerLooked, SameConsumer, SameProducer, received
 use Rattle.rtrb.specs.declared.producer.Producer.{Producer}
 use Rattle.host_frames.specs.Frames.{IsSpelling, Said}
 use Rattle.pair_protocol.proofs.Traces.Lists.{get_set, get_set_other}
-use Rattle.outside_switch.specs.Lines.{Hears, HearsAt, LineGoes, LinesGo, OneLine, PlaceGoes, Posts, PostsAll, Pushed, Pushes, Sends, Took, number_at, number_in, pushed_to}
+use Rattle.outside_switch.specs.Lines.{Hears, HearsAt, LineGoes, LinesGo, NoneWaits, OneLine, PlaceGoes, Posts, PostsAll, Pushed, Pushes, Sends, Took, number_at, number_in, pushed_to}
 use Rattle.outside_switch.specs.declared.line.HostLine.{HostLine}
 
 -- ---- one line
@@ -228,7 +228,11 @@ module _ (lines : List HostLine) (index place : ℕ) (d : HostLine) (same : inde
 
   pub heard_at : (o : Option (Vec ℕ)) (b : HostLine) → Hears o (get_or lines index d) b →
       HearsAt place o lines (slice_set lines index b)
-  heard_at None b goes = same_at b goes
+  heard_at None b hears = (
+    same_at b hears.0,
+    subst (λ k. NoneWaits (slice_get (slice_set lines k b) place)) (sym same)
+        (subst (λ o. NoneWaits o) (sym (get_set lines place (get_or lines index d) b there)) hears.1),
+  )
   heard_at (Some body) b goes = one_at (LineGoes (body ∷ []) []) b goes
 
   pub number_is : number_at lines place ≡ (get_or lines index d).number

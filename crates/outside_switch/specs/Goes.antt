@@ -1,9 +1,14 @@
 -- What calls of the switch come to, one after another.
-use Rattle.std.specs.Prelude.{◌≡◌, ◌⊎◌, ℕ, nat_lt, Bool, true, false, if◌then◌else◌, List, [], ◌∷◌, ◌++◌, length, Option, Some, None}
+use Rattle.std.specs.Prelude.{◌≡◌, ◌⊎◌, ℕ, slice_get, nat_lt, Bool, true, false, if◌then◌else◌, List, [], ◌∷◌, ◌++◌, length, Option, Some, None, Result, Ok, Err}
 use Rattle.std.specs.Global.{Vec}
-use Rattle.host_frames.specs.Frames.{IsBodyOf, IsSpelling, Said, Tells}
+use Rattle.host_frames.specs.Frames.{IsBodyOf, IsSpelling, Said, Tells, Transfers}
 use Rattle.host_frames.specs.declared.frame.Notice.TheVariants.{Begin}
-use Rattle.outside_switch.specs.Lines.{AtPlace, IsClosed, IsNamed, LineGoes, OneLine}
+use Rattle.host_frames.specs.declared.frame.Transfer.TheVariants.{Key}
+use Rattle.i8080_words.specs.declared.refusal.Fault.{Fault}
+use Rattle.outside_switch.specs.Heeds.{HeedsBody}
+use Rattle.outside_switch.specs.declared.heard.Heard.{Heard}
+use Rattle.outside_switch.specs.declared.heard.Heard.TheVariants.{Nothing}
+use Rattle.outside_switch.specs.Lines.{AtPlace, IsClosed, IsNamed, LineGoes, NoneWaits, OneLine, Posts}
 use Rattle.outside_switch.specs.Meets.{Meets, Seen}
 use Rattle.outside_switch.specs.declared.line.HostLine.{HostLine}
 
@@ -60,7 +65,35 @@ HearsBody place body old new = Goes old new ⊎ ((said : Said) × IsBodyOf said 
 -- a body came from the host at a place, or none waits
 abbrev pub NextSo : ℕ → Option (Vec ℕ) → Seen → Seen → Type 0
 NextSo place (Some body) old new = Takes place body old new
-NextSo place None old new = Meets None old new
+NextSo place None old new = Meets None old new × (new.devices ≡ old.devices) × NoneWaits (slice_get new.lines place)
+
+abbrev pub HeedsNext : ℕ → List Bool → Option (Vec ℕ) → Seen → Seen → Heard → Type 0
+HeedsNext place rooms None taken new heard = (new ≡ taken) × (heard ≡ Nothing)
+HeedsNext place rooms (Some body) taken new heard =
+    HeedsBody place rooms body.items taken.lines taken.devices new.devices heard
+
+-- a host was told to begin a generation, and another one has its number now; or nobody has another number
+pub record Begun (place generation : ℕ) (old new : Seen) : Type 0 where
+  pub told : Seen
+  pub begins : Begins place generation old told
+  pub names : Lines place (IsNamed generation) told new
+
+abbrev pub BegunSo : ℕ → ℕ → Bool → Seen → Seen → Type 0
+BegunSo place generation true old new = Begun place generation old new
+BegunSo place generation false old new = Meets None old new
+
+-- the key of an index was sent to the host at a place, or lost; one that is not kept is not sent
+abbrev pub SendsKey : Result ℕ Fault → ℕ → ℕ → ℕ → Bool → List HostLine → List HostLine → Type 0
+SendsKey (Ok byte) place port index is_sent old new = Posts place (Transfers (Key port index byte)) is_sent old new
+SendsKey (Err why) place port index is_sent old new = (is_sent ≡ false) × (new ≡ old)
+
+-- What was heard of the host at a place: nothing, and then no body of it is known to wait; or what becomes known of the body
+-- that came.
+pub record HearsNext (place : ℕ) (rooms : List Bool) (old new : Seen) (heard : Heard) : Type 0 where
+  pub body : Option (Vec ℕ)
+  pub taken : Seen
+  pub next : NextSo place body old taken
+  pub heeds : HeedsNext place rooms body taken new heard
 
 -- ---- before it goes
 

@@ -2,7 +2,7 @@
 use Rattle.std.specs.Prelude.{◌≡◌, ℕ, ◌==◌, ◌⊎◌, Bool, true, false, if◌then◌else◌, List, [], ◌∷◌, ◌++◌, slice_get, slice_set, Option, Some, None, is_none, not, ◌&&◌}
 use Rattle.std.specs.Global.{Vec}
 use Rattle.std.specs.List.{AllByRecursion}
-use Rattle.rtrb.specs.Ring.{SameConsumer, SameProducer, received, sent}
+use Rattle.rtrb.specs.Ring.{SameConsumer, SameProducer, known_items, received, sent}
 use Rattle.rtrb.specs.declared.producer.Producer.{Producer}
 use Rattle.host_frames.specs.Frames.{IsSpelling, Said}
 use Rattle.host_frames.specs.declared.frame.Report.{Report}
@@ -42,7 +42,7 @@ Sends said false a b = LineGoes [] [] a b
 -- the next body came from a host, or none waits
 abbrev pub Hears : Option (Vec ℕ) → HostLine → HostLine → Type 0
 Hears (Some body) a b = LineGoes (body ∷ []) [] a b
-Hears None a b = LineGoes [] [] a b
+Hears None a b = LineGoes [] [] a b × (known_items b.from ≡ [])
 
 -- a spare that may be given to a generation: it says that it is one, and was told to join none
 abbrev pub reports_spare : Option Report → Bool
@@ -104,10 +104,15 @@ IsNamed number a b = b ≡ record a { number = Some number }
 abbrev pub IsReported : Report → HostLine → HostLine → Type 0
 IsReported report a b = b ≡ record a { report = Some report }
 
+-- no body is known to wait
+abbrev pub NoneWaits : Option HostLine → Type 0
+NoneWaits None = Unit {0}
+NoneWaits (Some line) = known_items line.from ≡ []
+
 -- the next body came from the host at a place, or none waits
 abbrev pub HearsAt : ℕ → Option (Vec ℕ) → List HostLine → List HostLine → Type 0
 HearsAt place (Some body) old new = OneLine place (LineGoes (body ∷ []) []) old new
-HearsAt place None old new = LinesGo [] old new
+HearsAt place None old new = LinesGo [] old new × NoneWaits (slice_get new place)
 
 -- which host of the law is at a place
 abbrev pub number_in : Option HostLine → Option ℕ

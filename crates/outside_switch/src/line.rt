@@ -1,7 +1,7 @@
 //! The line to one host.
-ghost use Rattle.std.specs.Prelude.{◌≡◌, Some, None, true, false, is_none};
+ghost use Rattle.std.specs.Prelude.{◌≡◌, Some, None, [], true, is_none};
 ghost use Rattle.host_frames.specs.Frames.{said_by};
-ghost use Rattle.outside_switch.specs.Lines.{Hears, Pushes, Sends, is_spare};
+ghost use Rattle.outside_switch.specs.Lines.{Hears, LineGoes, Pushes, Sends, is_spare};
 
 use host_frames::{Frame, Report, spelled};
 use pair_events::Role;
@@ -57,7 +57,7 @@ impl HostLine {
 
     /// Whether the stream from the host has ended, and all its bodies were taken.
     pub(crate) fn has_ended(&mut self) -> bool
-        ensures { Hears None self.old self.new }
+        ensures { LineGoes [] [] self.old self.new }
     {
         if !self.from.is_abandoned() {
             return false;

@@ -1,6 +1,7 @@
 //! The lines to all hosts, by their places.
-ghost use Rattle.std.specs.Prelude.{◌≡◌, true, Some, None, []};
+ghost use Rattle.std.specs.Prelude.{◌≡◌, true, Some, None, [], slice_get};
 ghost use Rattle.host_frames.specs.Frames.{said_by};
+ghost use Rattle.outside_switch.specs.Heeds.{open_in};
 ghost use Rattle.outside_switch.specs.Lines as table;
 
 use crate::line::HostLine;
@@ -129,7 +130,9 @@ pub(crate) fn is_number(lines: &[HostLine], place: u8, number: u32) -> bool
 }
 
 /// Whether a host is at a place that is not cut off.
-pub(crate) fn is_open(lines: &[HostLine], place: u8) -> bool {
+pub(crate) fn is_open(lines: &[HostLine], place: u8) -> bool
+    ensures { result ≡ open_in (slice_get lines.now place) }
+{
     let place = usize::from(place);
     if place >= lines.len() {
         return false;

@@ -3,8 +3,9 @@ ghost use Rattle.std.specs.Prelude.{◌≡◌, [], IfOk, OnErr, OnOk, Some};
 ghost use Rattle.outside_switch.specs.declared.line.HostLine.{HostLine};
 ghost use Rattle.host_frames.specs.Frames.{said_by};
 ghost use Rattle.outside_devices.specs.Held.{at_boot};
-ghost use Rattle.outside_devices.specs.Calls.{typed_answer};
-ghost use Rattle.outside_switch.specs.Goes.{Adds, BeginsSo, Goes, HearsBody, HearsFrame, Lines, NextSo, first_number};
+ghost use Rattle.outside_devices.specs.Calls.{key_answer, typed_after, typed_answer};
+ghost use Rattle.outside_switch.specs.Goes.{Adds, BeginsSo, BegunSo, Goes, HearsBody, HearsFrame, HearsNext, Lines, NextSo, SendsKey, first_number};
+ghost use Rattle.outside_switch.specs.Heeds.{HeedsAt, HeedsBody};
 ghost use Rattle.outside_switch.specs.Lines.{IsClosed, IsNamed, PostsAll};
 ghost use Rattle.outside_switch.specs.Meets.{seen};
 
@@ -74,7 +75,8 @@ impl<D: SectorStore> Switch<D> {
     /// Takes the next body of the host at a place, and does what it asks for. The screen of each port may have room. A host that has
     /// failed is cut off, and what comes from one that was cut off is dropped.
     pub fn hear(&mut self, alloc: Global, place: u8, rooms: [bool; PORTS]) -> Heard
-        ensures { Goes (seen self.old) (seen self.new) }
+        ensures goes { Goes (seen self.old) (seen self.new) }
+        ensures hears { HearsNext place rooms (seen self.old) (seen self.new) result }
     {
         match self.next(place) {
             Some(body) => self.hear_body(alloc, place, &body, rooms),
@@ -84,7 +86,8 @@ impl<D: SectorStore> Switch<D> {
 
     // Does what a body asks for that came from the host at a place.
     fn hear_body(&mut self, alloc: Global, place: u8, body: &[u8], rooms: [bool; PORTS]) -> Heard
-        ensures { HearsBody place body.now (seen self.old) (seen self.new) }
+        ensures goes { HearsBody place body.now (seen self.old) (seen self.new) }
+        ensures heeds { HeedsBody place rooms body.now self.old.lines.items self.old.devices self.new.devices result }
     {
         if !places::is_open(&self.lines, place) {
             return Heard::Met;
@@ -113,7 +116,8 @@ impl<D: SectorStore> Switch<D> {
         frame: Frame<'_>,
         rooms: [bool; PORTS],
     ) -> Heard
-        ensures { HearsFrame place (said_by frame.entry) (seen self.old) (seen self.new) }
+        ensures goes { HearsFrame place (said_by frame.entry) (seen self.old) (seen self.new) }
+        ensures heeds { HeedsAt place rooms (said_by frame.entry) self.old.lines.items self.old.devices self.new.devices result }
     {
         let heard = self.meet(alloc, place, frame, rooms);
         if heard != Heard::Failed {
@@ -136,7 +140,8 @@ impl<D: SectorStore> Switch<D> {
     /// The host at a place is gone: it is cut off, and all others are told.
     #[tactic(auto, using(crate::proofs::Acting::gone_met, crate::proofs::Going::acts, crate::proofs::Going::closes, crate::proofs::Going::and_then))]
     pub fn gone(&mut self, alloc: Global, place: u8)
-        ensures { Goes (seen self.old) (seen self.new) }
+        ensures goes { Goes (seen self.old) (seen self.new) }
+        ensures devices { self.new.devices ≡ self.old.devices }
     {
         self.close(place);
         self.post_all(alloc, &Frame::Notice(Notice::Gone(place)));
@@ -161,6 +166,8 @@ impl<D: SectorStore> Switch<D> {
     #[tactic(auto, using(crate::proofs::Acting::typed_so, crate::proofs::Going::acts))]
     pub fn type_key(&mut self, port: u8, byte: u8) -> R<u64>
         ensures answer { result ≡ typed_answer self.old.devices.terminals port }
+        ensures after { self.new.devices
+            ≡ record self.old.devices { terminals = typed_after self.old.devices.terminals port byte } }
         ensures goes { Goes (seen self.old) (seen self.new) }
     {
         self.devices.type_key(port, byte)
@@ -168,7 +175,9 @@ impl<D: SectorStore> Switch<D> {
 
     /// Sends the key of an index to the host at a place. Returns false if it is not kept, or if the frame is lost.
     pub fn send_key(&mut self, alloc: Global, place: u8, port: u8, index: u64) -> bool
-        ensures { Goes (seen self.old) (seen self.new) }
+        ensures goes { Goes (seen self.old) (seen self.new) }
+        ensures sends { SendsKey (key_answer self.old.devices.terminals port index) place port index result
+            self.old.lines.items self.new.lines.items }
     {
         let Ok(byte) = self.devices.key(port, index) else {
             return false;
@@ -181,7 +190,8 @@ impl<D: SectorStore> Switch<D> {
     /// generation's number from now on. Returns false, and nobody has another number, if that place has no spare, if another place
     /// has the number, if a generation before it has no host yet, or if the frame is lost.
     pub fn send_begin(&mut self, alloc: Global, place: u8, generation: u32, spare: u8) -> bool
-        ensures { Goes (seen self.old) (seen self.new) }
+        ensures goes { Goes (seen self.old) (seen self.new) }
+        ensures begun { BegunSo spare generation result (seen self.old) (seen self.new) }
     {
         if !places::may_be_given(&self.lines, generation, spare) {
             return false;

@@ -4,8 +4,8 @@ use Rattle.outside_switch.proofs.Acting.{gone_met}
 use Rattle.outside_switch.proofs.Going.{acts, and_then, closes}
 use Rattle.outside_switch.proofs.switch.Switch.gone.Goals as goal
 
-pub returns : goal.returns
-returns g c =
+pub returns-clause-goes : goal.returns-clause-goes
+returns-clause-goes g c =
     let mid = seen c.close.new.self in
     let new = seen c.post_all.new.self in
     and_then (seen c.args.self.now) mid new (closes (seen c.args.self.now) mid c.args.place c.close.ensures)

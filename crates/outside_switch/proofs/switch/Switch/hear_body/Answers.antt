@@ -5,11 +5,11 @@ use Rattle.outside_switch.specs.Meets.{seen}
 use Rattle.outside_switch.proofs.Going.{nothing_yet}
 use Rattle.outside_switch.proofs.switch.Switch.hear_body.Goals as goal
 
-pub returns-then-not-is_open : goal.returns-then-not-is_open
-returns-then-not-is_open g c = inl (nothing_yet (seen c.args.self.now))
+pub returns-then-not-is_open-clause-goes : goal.returns-then-not-is_open-clause-goes
+returns-then-not-is_open-clause-goes g c = inl (nothing_yet (seen c.args.self.now))
 
-pub returns-in-Ok : goal.returns-in-Ok
-returns-in-Ok g c = inr (said_by c.in-Ok.frame, c.in-Ok.ensures.found, c.hear_frame.ensures)
+pub returns-in-Ok-clause-goes : goal.returns-in-Ok-clause-goes
+returns-in-Ok-clause-goes g c = inr (said_by c.in-Ok.frame, c.in-Ok.ensures.found, c.hear_frame.ensures.goes)
 
-pub returns-in-Err : goal.returns-in-Err
-returns-in-Err g c = inl c.gone.ensures
+pub returns-in-Err-clause-goes : goal.returns-in-Err-clause-goes
+returns-in-Err-clause-goes g c = inl c.gone.ensures.goes
