@@ -1,6 +1,5 @@
 -- What the devices do of what a host says, and what whoever calls is told of it.
 use Rattle.std.specs.Prelude.{◌≡◌, ◌⊎◌, ℕ, ◌==◌, Bool, true, false, not, is_none, nat_lt, if◌then◌else◌, List, length, slice_index, slice_index_or, slice_get, Option, Some, None, Result, Ok, Err}
-use Rattle.std.specs.Global.{Vec}
 use Rattle.arbiter_core.specs.declared.arbiter.Won as arbiter
 use Rattle.disk_dcdd.specs.declared.sector.SectorWrite.{SectorWrite}
 use Rattle.host_frames.specs.Frames.{IsBodyOf, Said, Packet, Transfers, Tells}
@@ -16,7 +15,7 @@ use Rattle.outside_devices.specs.Terminal.{KeptTerminal}
 use Rattle.shared_disk.specs.declared.disk.SectorRead.{SectorRead}
 use Rattle.outside_switch.specs.Lines.{number_at}
 use Rattle.outside_switch.specs.declared.heard.Heard.{Heard}
-use Rattle.outside_switch.specs.declared.heard.Heard.TheVariants.{Became, Failed, Lost, Met, Nothing, Shown, Unwritten, Won, Written}
+use Rattle.outside_switch.specs.declared.heard.Heard.TheVariants.{Became, Failed, Lost, Met, Shown, Unwritten, Won, Written}
 use Rattle.outside_switch.specs.declared.line.HostLine.{HostLine}
 
 -- whether the screen of a port has room
