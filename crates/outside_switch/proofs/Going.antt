@@ -8,7 +8,7 @@ use Rattle.outside_switch.specs.declared.line.HostLine.{HostLine}
 use Rattle.std.specs.Prelude.{List, [], Option, None, Some, drop, length, take}
 use Rattle.outside_switch.specs.Goes as goes
 use Rattle.outside_switch.specs.Goes.{Begins, Goes, HearsBody, HearsFrame, Lines, NextSo, Takes}
-use Rattle.outside_switch.specs.Lines.{HearsAt, IsClosed, IsNamed, LinesGo}
+use Rattle.outside_switch.specs.Lines.{HearsAt, IsClosed, IsNamed, LinesGo, MayBeGiven}
 use Rattle.outside_switch.specs.Meets.{Meets, Seen}
 
 pub nothing_yet : (a : Seen) → Goes a a
@@ -22,8 +22,8 @@ and_then a b c p (goes.Hears {old = old} taken new place body said before takes 
 and_then a b c p (goes.Drops {old = old} new place body before takes) =
     goes.Drops new place body (and_then a b old p before) takes
 and_then a b c p (goes.Closes {old = old} new place before closes) = goes.Closes new place (and_then a b old p before) closes
-and_then a b c p (goes.Names {old = old} begun new place generation before begins names) =
-    goes.Names begun new place generation (and_then a b old p before) begins names
+and_then a b c p (goes.Names {old = old} begun new place generation before may begins names) =
+    goes.Names begun new place generation (and_then a b old p before) may begins names
 
 pub acts : (a b : Seen) → Meets None a b → Goes a b
 acts a b meets = goes.Acts b goes.Rests meets
@@ -51,9 +51,9 @@ pub next_so : (place : ℕ) (o : Option (Vec ℕ)) (a b : Seen) → HearsAt plac
 next_so place None a b lines devices = (nothing_met None a b devices lines.0, devices, lines.1)
 next_so place (Some body) a b lines devices = record { lines = lines; devices = devices }
 
-pub names : (a begun b : Seen) (place generation : ℕ) → Begins place generation a begun →
-    Lines place (IsNamed generation) begun b → Goes a b
-names a begun b place generation begins is = goes.Names begun b place generation goes.Rests begins is
+pub names : (a begun b : Seen) (place generation : ℕ) → MayBeGiven generation place a.lines →
+    Begins place generation a begun → Lines place (IsNamed generation) begun b → Goes a b
+names a begun b place generation may begins is = goes.Names begun b place generation goes.Rests may begins is
 
 -- the lines that were lent are put back
 pub put_back : (n : ℕ) (lines items : List HostLine) → n ≡ length lines →

@@ -3,3 +3,4 @@ pub mod Meanings
 pub mod Acting
 pub mod Going
 pub mod Running
+pub mod Numbers

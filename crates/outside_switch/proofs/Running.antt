@@ -16,7 +16,7 @@ use Rattle.outside_switch.specs.Goes as goes
 use Rattle.outside_switch.specs.Goes.{Goes}
 use Rattle.outside_switch.specs.Meets.{Meets, Seen}
 use Rattle.outside_switch.specs.Says.{Brings, Saying}
-use Rattle.outside_switch.specs.Runs.{AllBring, IsRun, read_in, written_in}
+use Rattle.outside_switch.specs.Runs.{AllBring, IsRun, SwitchBegins, read_in, written_in}
 
 came_both : (xs ys frames : List Frame) → Came xs frames → Came ys frames → Came (xs ++ ys) frames
 came_both [] ys frames p q = q
@@ -149,7 +149,13 @@ module _ {S : Type 0} (M : Machine S) (drives : ℕ) where
   way_runs frames read written first last (goes.Closes {old = old} new place before closes) brings ran =
       let i = way_runs frames read written first old before brings ran in
       record { ran = same_run old.devices new.devices _ _ closes.devices i.ran; came = i.came }
-  way_runs frames read written first last (goes.Names {old = old} begun new place generation before begins names) brings ran =
+  way_runs frames read written first last (goes.Names {old = old} begun new place generation before may begins names) brings ran =
       let i = way_runs frames read written first old before brings ran in
       let t = after frames read written (read_in before) (written_in before) None old begun begins.meets tt i.ran i.came in
       record { ran = same_run begun.devices new.devices _ _ names.devices t.0; came = t.1 }
+
+-- the hosts of generation 1 are counted
+pub begins : {S : Type 0} → SwitchBegins S
+begins M drives records may_fail disk =
+    let g = goes_on M drives in
+    g.admits _ 1 [] [] (g.admits _ 0 [] [] (g.begins records may_fail disk))

@@ -8,7 +8,7 @@ use Rattle.i8080_words.specs.declared.refusal.Fault.{Fault}
 use Rattle.outside_switch.specs.Heeds.{HeedsBody}
 use Rattle.outside_switch.specs.declared.heard.Heard.{Heard}
 use Rattle.outside_switch.specs.declared.heard.Heard.TheVariants.{Nothing}
-use Rattle.outside_switch.specs.Lines.{AtPlace, IsClosed, IsNamed, LineGoes, NoneWaits, OneLine, Posts}
+use Rattle.outside_switch.specs.Lines.{AtPlace, IsClosed, IsNamed, LineGoes, MayBeGiven, NoneWaits, OneLine, Posts}
 use Rattle.outside_switch.specs.Meets.{Meets, Seen}
 use Rattle.outside_switch.specs.declared.line.HostLine.{HostLine}
 
@@ -49,8 +49,8 @@ pub data Goes (first : Seen) : Seen → Type 0 where
   -- a host is cut off
   Closes : {old : Seen} (new : Seen) (place : ℕ) → Goes first old → Lines place IsClosed old new → Goes first new
   -- a host is another one of the law from now on: it was given to a generation, and has its number
-  Names : {old : Seen} (begun new : Seen) (place generation : ℕ) → Goes first old → Begins place generation old begun →
-      Lines place (IsNamed generation) begun new → Goes first new
+  Names : {old : Seen} (begun new : Seen) (place generation : ℕ) → Goes first old →
+      MayBeGiven generation place old.lines → Begins place generation old begun → Lines place (IsNamed generation) begun new → Goes first new
 
 -- what a host said was met, and then it may be cut off
 pub record HearsFrame (place : ℕ) (said : Said) (old new : Seen) : Type 0 where
@@ -75,6 +75,7 @@ HeedsNext place rooms (Some body) taken new heard =
 -- a host was told to begin a generation, and another one has its number now; or nobody has another number
 pub record Begun (place generation : ℕ) (old new : Seen) : Type 0 where
   pub told : Seen
+  pub may : MayBeGiven generation place old.lines
   pub begins : Begins place generation old told
   pub names : Lines place (IsNamed generation) told new
 

@@ -121,3 +121,17 @@ number_in (Some line) = line.number
 
 abbrev pub number_at : List HostLine → ℕ → Option ℕ
 number_at lines place = number_in (slice_get lines place)
+
+-- it is another number, or none
+abbrev pub is_other : Option ℕ → ℕ → Bool
+is_other None other = true
+is_other (Some number) other = not (number == other)
+
+-- a generation's number was given to this place before, or to none
+abbrev pub MayBeGiven : ℕ → ℕ → List HostLine → Type 0
+MayBeGiven generation place lines =
+    (number_at lines place ≡ Some generation) ⊎ ((other : ℕ) → number_at lines other ≡ Some generation → ⊥)
+
+-- no two places have one number
+abbrev pub AreApart : List HostLine → Type 0
+AreApart lines = (m n number : ℕ) → number_at lines m ≡ Some number → number_at lines n ≡ Some number → m ≡ n

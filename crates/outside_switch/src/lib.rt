@@ -11,6 +11,6 @@ mod switch;
 mod tests;
 
 pub use heard::Heard;
-pub use laws::switch_runs;
+pub use laws::{numbers_stay_apart, switch_runs};
 pub use line::HostLine;
 pub use switch::Switch;

@@ -2,7 +2,9 @@
 ghost use Rattle.std.specs.Prelude.{◌≡◌, true, Some, None, [], slice_get};
 ghost use Rattle.host_frames.specs.Frames.{said_by};
 ghost use Rattle.outside_switch.specs.Heeds.{open_in};
+ghost use Rattle.std.specs.List.{list_all};
 ghost use Rattle.outside_switch.specs.Lines as table;
+ghost use Rattle.outside_switch.specs.Lines.{is_other};
 
 use crate::line::HostLine;
 use host_frames::{Frame, Report};
@@ -142,11 +144,16 @@ pub(crate) fn is_open(lines: &[HostLine], place: u8) -> bool
 
 /// Whether the host at a place can be given to a generation, as the host of its number: it was already, or it is a spare, and the number
 /// was given to no other place.
-pub(crate) fn may_be_given(lines: &[HostLine], generation: u32, place: u8) -> bool {
+pub(crate) fn may_be_given(lines: &[HostLine], generation: u32, place: u8) -> bool
+    ensures { result ≡ true → table.MayBeGiven generation place lines.now }
+{
     if is_number(lines, place, generation) {
         return true;
     }
-    is_spare(lines, place) && is_free(lines, generation)
+    if !is_spare(lines, place) {
+        return false;
+    }
+    is_free(lines, generation)
 }
 
 // Whether a spare is at a place.
@@ -159,11 +166,18 @@ fn is_spare(lines: &[HostLine], place: u8) -> bool {
 }
 
 // Whether this number was given to no place.
-fn is_free(lines: &[HostLine], number: u32) -> bool {
-    for line in lines.iter() {
-        if line.number() == Some(number) {
-            return false;
-        }
+fn is_free(lines: &[HostLine], number: u32) -> bool
+    ensures { result ≡ list_all (λ line. is_other line.number number) lines.now }
+{
+    lines.iter().all(|line| is_other(line.number(), number))
+}
+
+// Whether this is another number, or none.
+fn is_other(number: Option<u32>, other: u32) -> bool
+    ensures { result ≡ is_other number other }
+{
+    match number {
+        Some(number) => number != other,
+        None => true,
     }
-    true
 }
