@@ -155,7 +155,7 @@ module _ {S : Type 0} (M : Machine S) (drives : ℕ) where
       record { ran = same_run begun.devices new.devices _ _ names.devices t.0; came = t.1 }
 
 -- the hosts of generation 1 are counted
-pub begins : {S : Type 0} → SwitchBegins S
-begins M drives records may_fail disk =
+pub begins : (S : Type 0) → SwitchBegins S
+begins S M drives records may_fail disk =
     let g = goes_on M drives in
     g.admits _ 1 [] [] (g.admits _ 0 [] [] (g.begins records may_fail disk))

@@ -1,5 +1,5 @@
 -- What the calls of the switch are in the law of processes.
-use Rattle.std.specs.Prelude.{ℕ, List, [], ◌++◌, Some}
+use Rattle.std.specs.Prelude.{ℕ, List, [], ◌++◌, Some, Option}
 use Rattle.guest_lockstep.specs.Machine.{Machine}
 use Rattle.host_law.specs.Frame.{Came, Frame}
 use Rattle.shared_disk.specs.declared.store.Record.{Record}

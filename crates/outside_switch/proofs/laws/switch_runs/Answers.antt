@@ -4,6 +4,6 @@ use Rattle.outside_switch.proofs.laws.switch_runs.Goals as goal
 
 pub returns : goal.returns
 returns g c = record {
-  begins = begins;
+  begins = begins _;
   runs = λ M drives frames read written first last way. way_runs M drives frames read written first last way;
 }
