@@ -1,6 +1,6 @@
 -- No two places have one number: each step keeps the numbers, but for one that was given to no other place.
-use Rattle.std.proofs.Common.{ℕ, ◌≡◌, ◌⊎◌, Bool, true, false, Option, Some, None, List, [], ◌∷◌, refl, sym, ap, ◌∙◌, subst, eq-eqb, eqb-true, inl, inr, zero, suc}
-use Rattle.std.specs.Prelude.{◌==◌, ◌&&◌, not, slice_get, slice_set}
+use Rattle.std.proofs.Common.{ℕ, ◌≡◌, ◌⊎◌, Bool, true, false, Option, Some, None, List, [], ◌∷◌, refl, sym, ap, ◌∙◌, subst, eq-eqb, eqb-true, inl, inr}
+use Rattle.std.specs.Prelude.{◌==◌, slice_get, slice_set}
 use Rattle.std.specs.Global.{Vec}
 use Rattle.std.specs.List.{list_all}
 use Rattle.std.proofs.lemmas.List.Sums.{AllPass-from_list_all}
@@ -8,7 +8,7 @@ use Rattle.std.proofs.lemmas.Option.{get_or_from_slice_get, slice_get_within}
 use Rattle.pair_protocol.proofs.Traces.Lists.{get_set, get_set_other}
 use Rattle.outside_switch.specs.Goes as goes
 use Rattle.outside_switch.specs.Goes.{Goes}
-use Rattle.outside_switch.specs.Lines.{AreApart, AtPlace, IsClosed, IsNamed, LineGoes, LinesGo, MayBeGiven, OneLine, PlaceGoes, Pushed, is_other, number_at, number_in, pushed_to}
+use Rattle.outside_switch.specs.Lines.{AreApart, AtPlace, IsClosed, LineGoes, LinesGo, MayBeGiven, OneLine, PlaceGoes, Pushed, is_other, number_at, number_in, pushed_to}
 use Rattle.outside_switch.specs.Meets.{Seen}
 use Rattle.outside_switch.specs.declared.line.HostLine.{HostLine}
 
