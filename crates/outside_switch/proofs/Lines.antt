@@ -1,6 +1,6 @@
 -- What became of the lines: nothing, one frame at one place, and some frames after others.
-use Rattle.std.proofs.Common.{ℕ, ◌≡◌, Bool, true, false, cond, Option, Some, None, List, [], ◌∷◌, ◌++◌, append-nil, append_assoc, refl, sym, ap, ◌∙◌, subst, eqb-true, ne_eqb, eq-eqb}
-use Rattle.std.specs.Prelude.{◌==◌, ◌<◌, ◌≤◌, length, slice_get, slice_set}
+use Rattle.std.proofs.Common.{ℕ, ◌≡◌, Bool, true, false, cond, Option, Some, None, List, [], ◌∷◌, ◌++◌, append-nil, append_assoc, refl, sym, ap, ◌∙◌, subst, eqb-true, ne_eqb, eq-eqb, inl, inr}
+use Rattle.std.specs.Prelude.{◌==◌, is_none, not, ◌<◌, ◌≤◌, length, slice_get, slice_set}
 use Rattle.std.proofs.Common.{get_or}
 use Rattle.std.proofs.lemmas.Option.{slice_get-get_or, slice_get_past}
 use Rattle.std.specs.Global.{Vec}
@@ -9,7 +9,8 @@ use Rattle.rtrb.specs.Ring.{ProducerLooked, SameConsumer, SameProducer, received
 use Rattle.rtrb.specs.declared.producer.Producer.{Producer}
 use Rattle.host_frames.specs.Frames.{IsSpelling, Said}
 use Rattle.pair_protocol.proofs.Traces.Lists.{get_set, get_set_other}
-use Rattle.outside_switch.specs.Lines.{Hears, HearsAt, LineGoes, LinesGo, NoneWaits, OneLine, PlaceGoes, Posts, PostsAll, Pushed, Pushes, Sends, Took, number_at, number_in, pushed_to}
+use Rattle.outside_switch.specs.Heeds.{open_in}
+use Rattle.outside_switch.specs.Lines.{AtPlace, IsClosed, Hears, HearsAt, LineGoes, LinesGo, NoneWaits, OneLine, PlaceGoes, Posts, PostsAll, Pushed, Pushes, Sends, Took, number_at, number_in, pushed_to}
 use Rattle.outside_switch.specs.declared.line.HostLine.{HostLine}
 
 -- ---- one line
@@ -241,3 +242,31 @@ module _ (lines : List HostLine) (index place : ℕ) (d : HostLine) (same : inde
 -- none is there
 pub past_at : (lines : List HostLine) (index place : ℕ) → index ≡ place → length lines ≤ index → slice_get lines place ≡ None
 past_at lines index place same high = slice_get_past lines place (subst (λ k. length lines ≤ k) same high)
+
+-- ---- whether a host is cut off
+
+took_none-same : {A P : Type 0} (frames : List (Vec ℕ)) (a b : Option (Producer (Vec ℕ) A P)) → Took frames a b →
+    is_none b ≡ is_none a
+took_none-same frames None None p = refl
+took_none-same frames (Some a) (Some b) p = refl
+took_none-same frames None (Some b) p = absurd p
+took_none-same frames (Some a) None p = absurd p
+
+place_open : (frames : List (Vec ℕ)) (a b : Option HostLine) → PlaceGoes frames a b → open_in b ≡ open_in a
+place_open frames None None p = refl
+place_open frames (Some a) (Some b) p = ap not (took_none-same frames a.to b.to p.gone)
+place_open frames None (Some b) p = absurd p
+place_open frames (Some a) None p = absurd p
+
+pub still_open : (pushed : List Pushed) (a b : List HostLine) (place : ℕ) → LinesGo pushed a b →
+    open_in (slice_get b place) ≡ open_in (slice_get a place)
+still_open pushed a b place goes =
+    place_open (pushed_to place pushed) (slice_get a place) (slice_get b place) (goes.each place)
+
+pub closed_now : (a b : List HostLine) (place : ℕ) → AtPlace place IsClosed a b → open_in (slice_get b place) ≡ false
+closed_now a b place at = elim at [
+  | inl one ↦ ap (λ l. open_in (slice_get l place)) one.set
+      ∙ ap (λ o. open_in o) (get_set a place one.before one.after one.there)
+      ∙ ap (λ (l : HostLine). not (is_none l.to)) one.becomes
+  | inr none ↦ ap (λ l. open_in (slice_get l place)) none.1 ∙ ap (λ o. open_in o) none.0
+]

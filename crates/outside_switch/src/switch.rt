@@ -1,11 +1,13 @@
 //! The devices, the lines to all hosts, and the calls that a loop makes of them.
-ghost use Rattle.std.specs.Prelude.{◌≡◌, [], IfOk, OnErr, OnOk, Some};
+ghost use Rattle.std.specs.Prelude.{◌≡◌, [], IfOk, OnErr, OnOk, Some, IfErr, IsOkUnless, false, if◌then◌else◌, nat_lt, length, slice_get};
+ghost use Rattle.i8080_words.specs.declared.refusal.Fault.TheVariants.{OutOfMemory, Unknown};
+ghost use Rattle.outside_switch.specs.declared.heard.Heard.TheVariants as of_heard;
 ghost use Rattle.outside_switch.specs.declared.line.HostLine.{HostLine};
 ghost use Rattle.host_frames.specs.Frames.{said_by};
 ghost use Rattle.outside_devices.specs.Held.{at_boot};
 ghost use Rattle.outside_devices.specs.Calls.{key_answer, typed_after, typed_answer};
 ghost use Rattle.outside_switch.specs.Goes.{Adds, BeginsSo, BegunSo, Goes, HearsBody, HearsFrame, HearsNext, Lines, NextSo, SendsKey, first_number};
-ghost use Rattle.outside_switch.specs.Heeds.{HeedsAt, HeedsBody};
+ghost use Rattle.outside_switch.specs.Heeds.{HeedsAt, HeedsBody, open_in};
 ghost use Rattle.outside_switch.specs.Lines.{IsClosed, IsNamed, PostsAll};
 ghost use Rattle.outside_switch.specs.Meets.{seen};
 
@@ -33,8 +35,9 @@ pub struct Switch<D: SectorStore> {
 impl<D: SectorStore> Switch<D> {
     /// Devices at which nothing has happened yet, and no place. The hosts of generation 1 are counted already.
     pub fn new(alloc: Global, store: D) -> R<Switch<D>>
-        ensures { IfOk result (λ switch. seen switch
+        ensures ok { IfOk result (λ switch. seen switch
             ≡ record { devices = record (at_boot (D.records store) (D.may_fail store)) { hosts = 2 }; lines = [] }) }
+        ensures only_memory { IsOkUnless result OutOfMemory }
     {
         let mut devices = OutsideDevices::new(alloc, store)?;
         devices.admit(0)?;
@@ -55,6 +58,7 @@ impl<D: SectorStore> Switch<D> {
     ) -> R<()>
         ensures ok { OnOk result ((line : HostLine) × (line.from ≡ from) × (line.to ≡ Some to) × Adds line (seen self.old) (seen self.new)) }
         ensures err { OnErr result (seen self.new ≡ seen self.old) }
+        ensures why { IfErr result (λ fault. fault ≡ (if nat_lt (length self.old.lines.items) 256 then OutOfMemory else Unknown)) }
     {
         let place = self.lines.len();
         if place >= 256 {
@@ -77,6 +81,7 @@ impl<D: SectorStore> Switch<D> {
     pub fn hear(&mut self, alloc: Global, place: u8, rooms: [bool; PORTS]) -> Heard
         ensures goes { Goes (seen self.old) (seen self.new) }
         ensures hears { HearsNext place rooms (seen self.old) (seen self.new) result }
+        ensures cut { result ≡ of_heard.Failed → open_in (slice_get self.new.lines.items place) ≡ false }
     {
         match self.next(place) {
             Some(body) => self.hear_body(alloc, place, &body, rooms),
@@ -88,6 +93,7 @@ impl<D: SectorStore> Switch<D> {
     fn hear_body(&mut self, alloc: Global, place: u8, body: &[u8], rooms: [bool; PORTS]) -> Heard
         ensures goes { HearsBody place body.now (seen self.old) (seen self.new) }
         ensures heeds { HeedsBody place rooms body.now self.old.lines.items self.old.devices self.new.devices result }
+        ensures cut { result ≡ of_heard.Failed → open_in (slice_get self.new.lines.items place) ≡ false }
     {
         if !places::is_open(&self.lines, place) {
             return Heard::Met;
@@ -118,13 +124,15 @@ impl<D: SectorStore> Switch<D> {
     ) -> Heard
         ensures goes { HearsFrame place (said_by frame.entry) (seen self.old) (seen self.new) }
         ensures heeds { HeedsAt place rooms (said_by frame.entry) self.old.lines.items self.old.devices self.new.devices result }
+        ensures cut { result ≡ of_heard.Failed → open_in (slice_get self.new.lines.items place) ≡ false }
     {
-        let heard = self.meet(alloc, place, frame, rooms);
-        if heard != Heard::Failed {
-            return heard;
+        match self.meet(alloc, place, frame, rooms) {
+            Heard::Failed => {
+                self.gone(alloc, place);
+                Heard::Failed
+            }
+            heard => heard,
         }
-        self.gone(alloc, place);
-        Heard::Failed
     }
 
     /// Whether the stream from the host at a place has ended now: it was not cut off before.
@@ -142,6 +150,7 @@ impl<D: SectorStore> Switch<D> {
     pub fn gone(&mut self, alloc: Global, place: u8)
         ensures goes { Goes (seen self.old) (seen self.new) }
         ensures devices { self.new.devices ≡ self.old.devices }
+        ensures cut { open_in (slice_get self.new.lines.items place) ≡ false }
     {
         self.close(place);
         self.post_all(alloc, &Frame::Notice(Notice::Gone(place)));
