@@ -1,0 +1,13 @@
+//! The outside of a pair whose hosts are processes: a loop of turns, none of which waits for a stream.
+#![tactic(auto)]
+
+mod live;
+mod notes;
+mod port;
+mod serving;
+mod session;
+mod turning;
+
+pub use port::PortEnd;
+pub use serving::run_hosts;
+pub use session::{HostsEnd, Quit, Session};

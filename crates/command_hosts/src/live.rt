@@ -1,0 +1,61 @@
+//! Which host is live, and which spare is next.
+
+use host_frames::Report;
+use outside_switch::HostLine;
+use pair_events::Role;
+
+/// The host that runs the guest for the user, and what it reported last.
+#[derive(Clone, Copy)]
+pub(crate) struct Live {
+    pub(crate) place: u8,
+    pub(crate) report: Report,
+}
+
+/// The host of the greatest generation that reports that it is primary or alone.
+pub(crate) fn live_of(lines: &[HostLine]) -> Option<Live> {
+    let mut found = None;
+    for place in 0..=u8::MAX {
+        found = later_of(found, live_at(lines, place));
+    }
+    found
+}
+
+/// Which place is to be given to a generation: the one that was already, or the first that has a spare.
+pub(crate) fn spare_for(lines: &[HostLine], generation: u32) -> Option<u8> {
+    let mut found = None;
+    for place in 0..=u8::MAX {
+        let Some(line) = lines.get(usize::from(place)) else {
+            return found;
+        };
+        if line.number() == Some(generation) {
+            return Some(place);
+        }
+        if found.is_none() && line.is_spare() {
+            found = Some(place);
+        }
+    }
+    found
+}
+
+fn live_at(lines: &[HostLine], place: u8) -> Option<Live> {
+    let line = lines.get(usize::from(place))?;
+    if line.is_cut() {
+        return None;
+    }
+    let report = line.report()?;
+    match report.role {
+        Some(Role::Primary) | Some(Role::Alone) => Some(Live { place, report }),
+        _ => None,
+    }
+}
+
+// The one of the later generation, or the first.
+fn later_of(found: Option<Live>, other: Option<Live>) -> Option<Live> {
+    let Some(live) = found else {
+        return other;
+    };
+    match other {
+        Some(other) if other.report.generation > live.report.generation => Some(other),
+        _ => Some(live),
+    }
+}

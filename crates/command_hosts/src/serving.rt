@@ -1,0 +1,60 @@
+//! The loop of the outside.
+ghost use Rattle.command_hosts.specs.Runs.{Ended, IsWhy, Went};
+
+use crate::session::{HostsEnd, Session};
+use shared_disk::SectorStore;
+use std::alloc::Global;
+use std::io::Write;
+use std::sync::Wait;
+use std::thread::Parker;
+use std::time::{Clock, Duration};
+
+/// For how many milliseconds the loop rests if nothing comes and nobody wakes it.
+const REST: u64 = 5;
+
+/// Serves the hosts until there is a reason to end, and then tells them to stop. Whoever has something for the outside wakes it
+/// through the parker.
+pub fn run_hosts<D: SectorStore, N: Write + Drop, C: Wait + Clock>(
+    rt: &C,
+    alloc: Global,
+    session: &mut Session<D, N>,
+    wake: &Parker,
+) -> HostsEnd
+    ensures { Ended result session.old session.new }
+{
+    let end = serve(rt, alloc, session, wake);
+    session.switch.stop(alloc);
+    end
+}
+
+// Serves the hosts until there is a reason to end.
+#[tactic(auto, using(outside_switch::proofs::Going::nothing_yet, outside_switch::proofs::Going::and_then))]
+fn serve<D: SectorStore, N: Write + Drop, C: Wait + Clock>(
+    rt: &C,
+    alloc: Global,
+    session: &mut Session<D, N>,
+    wake: &Parker,
+) -> HostsEnd
+    ensures went { Went session.old session.new }
+    ensures why { IsWhy result session.new }
+{
+    for _ in rt.forever() {
+        let now = micros(rt, session.moments.turned);
+        let is_busy = session.turn(alloc, now);
+        if let Some(end) = session.end(now) {
+            return end;
+        }
+        if !is_busy {
+            wake.park_timeout(rt, Duration::from_millis(REST));
+        }
+    }
+    unreachable!()
+}
+
+// The time; as before, if the clock does not tell.
+fn micros<C: Clock>(clock: &C, before: u64) -> u64 {
+    let Ok(time) = clock.monotonic() else {
+        return before;
+    };
+    u64::try_from(time.as_micros()).unwrap_or(before)
+}

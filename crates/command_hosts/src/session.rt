@@ -1,0 +1,100 @@
+//! The outside of a pair: its switch, the user's ends of both ports, and what the turns remember.
+ghost use Rattle.std.specs.Prelude.{◌≡◌, [], IfOk};
+ghost use Rattle.outside_devices.specs.Held.{at_boot};
+ghost use Rattle.outside_switch.specs.Meets.{seen};
+
+use crate::port::PortEnd;
+use i8080_words::R;
+use outside_switch::Switch;
+use rtrb::{Consumer, Producer};
+use shared_disk::SectorStore;
+use std::alloc::Global;
+use std::io::Write;
+use std::sync::Arc;
+use std::thread::Parker;
+
+/// The user wants all to end.
+#[derive(Clone, Copy)]
+pub struct Quit;
+
+/// Why all ends.
+#[derive(Clone, Copy, PartialEq, Eq)]
+pub enum HostsEnd {
+    /// The user wants it.
+    UserQuit,
+    /// No more keys can come, all that came were taken, and for a second the pair has written and shown nothing more.
+    Settled,
+    /// No host is left.
+    NoHosts,
+}
+
+/// The outside of a pair.
+#[derive(Drop)]
+pub struct Session<D: SectorStore, N: Write + Drop> {
+    pub(crate) switch: Switch<D>,
+    pub(crate) first: PortEnd,
+    pub(crate) second: PortEnd,
+    pub(crate) quits: Consumer<Quit>,
+    pub(crate) notes: N,
+    pub(crate) moments: Moments,
+}
+
+/// When something happened last, in microseconds.
+#[derive(Drop)]
+pub(crate) struct Moments {
+    // The last turn; 0 if there was none.
+    pub(crate) turned: u64,
+    pub(crate) ticked: u64,
+    pub(crate) begun: u64,
+    // A key was typed, or the pair has shown or written something.
+    pub(crate) moved: u64,
+    // Which host is live, and of which generation.
+    pub(crate) live: Option<(u8, u32)>,
+}
+
+impl<D: SectorStore, N: Write + Drop> Session<D, N> {
+    /// An outside without hosts, over a disk's store.
+    pub fn new(
+        alloc: Global,
+        store: D,
+        first: PortEnd,
+        second: PortEnd,
+        quits: Consumer<Quit>,
+        notes: N,
+    ) -> R<Session<D, N>>
+        ensures { IfOk result (λ session. seen session.switch
+            ≡ record { devices = record (at_boot (D.records store) (D.may_fail store)) { hosts = 2 }; lines = [] }) }
+    {
+        let switch = Switch::new(alloc, store)?;
+        Ok(Session {
+            switch,
+            first,
+            second,
+            quits,
+            notes,
+            moments: Moments {
+                turned: 0,
+                ticked: 0,
+                begun: 0,
+                moved: 0,
+                live: None,
+            },
+        })
+    }
+
+    /// One host more, by its line.
+    pub fn add(
+        &mut self,
+        from: Consumer<Vec<u8>>,
+        to: Producer<Vec<u8>>,
+        wake: Arc<Parker>,
+    ) -> R<()> {
+        self.switch.add(from, to, wake)
+    }
+
+    /// The notes.
+    pub fn into_notes(self) -> N {
+        let Session { notes, .. } = self;
+        notes
+    }
+}

@@ -1,0 +1,6 @@
+pub mod Lines
+pub mod Meanings
+pub mod Acting
+pub mod Going
+pub mod Running
+pub mod Numbers

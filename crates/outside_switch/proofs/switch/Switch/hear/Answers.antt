@@ -1,0 +1,36 @@
+-- The body that came was heard.
+use Rattle.std.proofs.Common.{None, Some, refl, subst}
+use Rattle.outside_switch.specs.Goes.{HearsBody}
+use Rattle.outside_switch.specs.Heeds.{HeedsBody}
+use Rattle.outside_switch.specs.Meets.{seen}
+use Rattle.outside_switch.proofs.Going.{acts, heard_body}
+use Rattle.outside_switch.proofs.switch.Switch.hear.Goals as goal
+
+pub returns-in-Some-clause-goes : goal.returns-in-Some-clause-goes
+returns-in-Some-clause-goes g c =
+    heard_body (seen c.args.self.now) (seen c.next.new.self) (seen c.hear_body.new.self) c.args.place c.in-Some.body
+    c.in-Some.ensures
+    (subst (λ l. HearsBody c.args.place l (seen c.next.new.self) (seen c.hear_body.new.self)) c.deref.ensures.value
+    c.hear_body.ensures.goes)
+
+pub returns-in-None-clause-goes : goal.returns-in-None-clause-goes
+returns-in-None-clause-goes g c = acts (seen c.args.self.now) (seen c.next.new.self) c.in-None.ensures.0
+
+pub returns-in-Some-clause-hears : goal.returns-in-Some-clause-hears
+returns-in-Some-clause-hears g c = record {
+  body = Some c.in-Some.body;
+  taken = seen c.next.new.self;
+  next = c.in-Some.ensures;
+  heeds = subst
+      (λ l. HeedsBody c.args.place c.args.rooms l c.next.new.self.lines.items c.next.new.self.devices
+      c.hear_body.new.self.devices c.hear_body.result)
+      c.deref.ensures.value c.hear_body.ensures.heeds;
+}
+
+pub returns-in-None-clause-hears : goal.returns-in-None-clause-hears
+returns-in-None-clause-hears g c = record {
+  body = None;
+  taken = seen c.next.new.self;
+  next = c.in-None.ensures;
+  heeds = (refl, refl);
+}

@@ -1,0 +1,100 @@
+-- What the devices do of what a host says, and what whoever calls is told of it.
+use Rattle.std.specs.Prelude.{◌≡◌, ◌⊎◌, ℕ, ◌==◌, Bool, true, false, not, is_none, nat_lt, if◌then◌else◌, List, length, slice_index, slice_index_or, slice_get, Option, Some, None, Result, Ok, Err}
+use Rattle.arbiter_core.specs.declared.arbiter.Won as arbiter
+use Rattle.disk_dcdd.specs.declared.sector.SectorWrite.{SectorWrite}
+use Rattle.host_frames.specs.Frames.{IsBodyOf, Said, Packet, Transfers, Tells}
+use Rattle.host_frames.specs.declared.frame.Notice.{Notice}
+use Rattle.host_frames.specs.declared.frame.Notice.TheVariants.{Join, Progress, Report, Suspect}
+use Rattle.host_frames.specs.declared.frame.Transfer.{Transfer}
+use Rattle.host_frames.specs.declared.frame.Transfer.TheVariants.{Byte, Get, Write}
+use Rattle.i8080_words.specs.declared.refusal.Fault.{Fault}
+use Rattle.i8080_words.specs.declared.refusal.Fault.TheVariants as fault
+use Rattle.outside_devices.specs.Calls.{Asks, Puts, Reads, arrived_after, is_accepted, told_after}
+use Rattle.outside_devices.specs.Held.{Held}
+use Rattle.outside_devices.specs.Terminal.{KeptTerminal}
+use Rattle.shared_disk.specs.declared.disk.SectorRead.{SectorRead}
+use Rattle.outside_switch.specs.Lines.{number_at}
+use Rattle.outside_switch.specs.declared.heard.Heard.{Heard}
+use Rattle.outside_switch.specs.declared.heard.Heard.TheVariants.{Became, Failed, Lost, Met, Shown, Unwritten, Won, Written}
+use Rattle.outside_switch.specs.declared.line.HostLine.{HostLine}
+
+-- whether the screen of a port has room
+abbrev pub room_of : List Bool → ℕ → Bool
+room_of rooms port = if port == 0 then slice_index_or rooms 0 false else slice_index_or rooms 1 false
+
+-- a byte is to be shown exactly if its terminal accepts it
+abbrev pub shown_if : Bool → ℕ → ℕ → Heard
+shown_if accepts port byte = if accepts then Shown port byte else Met
+
+-- a frame that names no place means that its host has failed
+abbrev pub passed_if : ℕ → ℕ → Heard
+passed_if places host = if nat_lt host places then Met else Failed
+
+-- keys are told to be covered, unless none are
+abbrev pub told_unless : List KeptTerminal → ℕ → ℕ → List KeptTerminal
+told_unless terminals port keys = if keys == 0 then terminals else told_after terminals port keys
+
+abbrev pub Stays : Held → Held → Heard → Heard → Type 0
+Stays old new heard is = (new ≡ old) × (heard ≡ is)
+
+-- a write is put or refused
+abbrev pub Writes : SectorWrite → Held → Held → Heard → Type 0
+Writes write old new Written = Puts old.records write (Ok tt) new.records
+Writes write old new Unwritten = (why : Fault) × Puts old.records write (Err why) new.records
+Writes write old new heard = ⊥
+
+abbrev pub HeedsTransfer : List Bool → Transfer → Held → Held → Heard → Type 0
+HeedsTransfer rooms (Byte port number byte) old new heard =
+    (new ≡ record old { terminals = arrived_after old.terminals port number (room_of rooms port) })
+    × (heard ≡ shown_if (is_accepted old.terminals port number (room_of rooms port)) port byte)
+HeedsTransfer rooms (Write write) old new heard = Writes write old new heard
+HeedsTransfer rooms (Get address) old new heard =
+    ((result : Result SectorRead Fault) × Reads old.records address result new.records) × (heard ≡ Met)
+HeedsTransfer rooms transfer old new heard = Stays old new heard Failed
+
+-- the arbiter is asked by the host of a number
+abbrev pub Asked : Option ℕ → ℕ → Held → Held → Heard → Type 0
+Asked None generation old new heard = Stays old new heard Met
+Asked (Some host) generation old new (Won won) =
+    (won ≡ generation) × ((answer : arbiter.Won) × Asks old.askings generation host (Ok answer) new.askings)
+Asked (Some host) generation old new (Lost lost) =
+    (lost ≡ generation) × Asks old.askings generation host (Err fault.Lost) new.askings
+Asked (Some host) generation old new heard =
+    (heard ≡ Met) × ((why : Fault) × Asks old.askings generation host (Err why) new.askings)
+
+abbrev pub HeedsNotice : ℕ → Option ℕ → Notice → Held → Held → Heard → Type 0
+HeedsNotice places number (Suspect generation) old new heard = Asked number generation old new heard
+HeedsNotice places number (Report report) old new heard =
+    (new ≡ record old {
+      terminals = told_unless (told_unless old.terminals 0 (slice_index report.covered 0)) 1 (slice_index report.covered 1);
+    })
+    × ((heard ≡ Met) ⊎ (heard ≡ Became report.role))
+HeedsNotice places number (Join generation host drives count) old new heard = Stays old new heard (passed_if places host)
+HeedsNotice places number (Progress host entries count) old new heard = Stays old new heard (passed_if places host)
+HeedsNotice places number notice old new heard = Stays old new heard Failed
+
+-- of the host of a number, if it has one, among so many places
+abbrev pub Heeds : ℕ → Option ℕ → List Bool → Said → Held → Held → Heard → Type 0
+Heeds places number rooms (Packet host bytes) old new heard = Stays old new heard (passed_if places host)
+Heeds places number rooms (Transfers transfer) old new heard = HeedsTransfer rooms transfer old new heard
+Heeds places number rooms (Tells notice) old new heard = HeedsNotice places number notice old new heard
+
+-- the same, of the host at a place
+abbrev pub HeedsAt : ℕ → List Bool → Said → List HostLine → Held → Held → Heard → Type 0
+HeedsAt place rooms said lines old new heard = Heeds (length lines) (number_at lines place) rooms said old new heard
+
+-- whether a host is at a place that is not cut off
+abbrev pub open_in : Option HostLine → Bool
+open_in None = false
+open_in (Some line) = not (is_none line.to)
+
+-- what comes from a host that is cut off is dropped, and one that sends what is no frame has failed
+abbrev pub HeedsOpen : Bool → ℕ → List Bool → List ℕ → List HostLine → Held → Held → Heard → Type 0
+HeedsOpen false place rooms body lines old new heard = Stays old new heard Met
+HeedsOpen true place rooms body lines old new heard =
+    ((said : Said) × IsBodyOf said body × HeedsAt place rooms said lines old new heard)
+    ⊎ (((said : Said) → IsBodyOf said body → ⊥) × Stays old new heard Failed)
+
+abbrev pub HeedsBody : ℕ → List Bool → List ℕ → List HostLine → Held → Held → Heard → Type 0
+HeedsBody place rooms body lines old new heard =
+    HeedsOpen (open_in (slice_get lines place)) place rooms body lines old new heard

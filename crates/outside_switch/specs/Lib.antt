@@ -1,0 +1,7 @@
+pub mod Lines
+pub mod Calls
+pub mod Says
+pub mod Heeds
+pub mod Meets
+pub mod Goes
+pub mod Runs
