@@ -11,7 +11,8 @@ pub(crate) struct Live {
     pub(crate) report: Report,
 }
 
-/// The host of the greatest generation that reports that it is primary or alone.
+/// The host of the greatest generation that reports that it is primary or alone. One that is alone has won its generation, so
+/// it comes before a primary of that generation, which has yet to hear that it has lost.
 pub(crate) fn live_of(lines: &[HostLine]) -> Option<Live> {
     let mut found = None;
     for place in 0..=u8::MAX {
@@ -49,13 +50,19 @@ fn live_at(lines: &[HostLine], place: u8) -> Option<Live> {
     }
 }
 
-// The one of the later generation, or the first.
+// The one of the later generation, or the one that has won it, or the first.
 fn later_of(found: Option<Live>, other: Option<Live>) -> Option<Live> {
     let Some(live) = found else {
         return other;
     };
     match other {
-        Some(other) if other.report.generation > live.report.generation => Some(other),
+        Some(other) if is_later(&other.report, &live.report) => Some(other),
         _ => Some(live),
     }
+}
+
+// Whether a live host is of a later generation than another one, or has won the generation of both.
+fn is_later(report: &Report, other: &Report) -> bool {
+    let has_won = report.role == Some(Role::Alone) && other.role != Some(Role::Alone);
+    report.generation > other.generation || report.generation == other.generation && has_won
 }
