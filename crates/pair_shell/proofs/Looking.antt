@@ -116,16 +116,17 @@ pub read_alone : {B H X E : Type 0} (guest : B → Guest) (address : SectorAddre
 read_alone guest address tape world old new (Ok done) none reads = (none, reads)
 read_alone guest address tape world old new (Err refused) none reads = tt
 
-pub shown_alone : {B H X E : Type 0} (guest : B → Guest) (port : ℕ) (is_new : Bool) (shown bytes : List ℕ) (tape : List Played)
-    (world : Running B H Disk) (old new : Printed) (result : Result X E) → tape ≡ []
-    → ((c : Course Guest) → Shows guest guest some_altair records_in world c → bytes ≡ accepted c.world port)
+pub shown_alone : {B H X E : Type 0} (guest : B → Guest) (line : ShellLine) (port : ℕ) (is_new : Bool) (shown bytes : List ℕ)
+    (tape : List Played) (world : Running B H Disk) (old new : Printed) (result : Result X E) → line ≡ shell.Screen port is_new
+    → tape ≡ [] → ((c : Course Guest) → Shows guest guest some_altair records_in world c → bytes ≡ accepted c.world port)
     → IfOk result (λ done. Prints (screen_rows port bytes (left_out shown port is_new)) old new)
-    → IfOk result (λ done. IsLooked guest (shell.Screen port is_new) tape (Some world) old new)
-shown_alone guest port is_new shown bytes tape world old new (Ok done) none are prints = (
-  none,
-  λ c shows. (shown, subst (λ b. Prints (screen_rows port b (left_out shown port is_new)) old new) (are c shows) prints),
-)
-shown_alone guest port is_new shown bytes tape world old new (Err refused) none are prints = tt
+    → IfOk result (λ done. IsLooked guest line tape (Some world) old new)
+shown_alone guest line port is_new shown bytes tape world old new (Ok done) is none are prints =
+    subst (λ l. IsLooked guest l tape (Some world) old new) (sym is) (
+      none,
+      λ c shows. (shown, subst (λ b. Prints (screen_rows port b (left_out shown port is_new)) old new) (are c shows) prints),
+    )
+shown_alone guest line port is_new shown bytes tape world old new (Err refused) is none are prints = tt
 
 -- the pair is there afterwards
 pub looked_in : {B H : Type 0} (guest : B → Guest) (line : ShellLine) (tape : List Played) (world : Running B H Disk)

@@ -20,7 +20,7 @@ use shell_picture::{print_listing, print_memory, print_refusal, print_registers}
 use std::alloc::{AllocError, Global};
 
 /// Does what a line says, other than one of the setup, in a pair of Altairs: of these a line may look at what they have.
-#[tactic(auto, using(crate::proofs::Playing::plays_nothing, crate::proofs::Tracing::begins_nothing, crate::proofs::Looking::looked_alone, crate::proofs::Looking::asked_alone, crate::proofs::Looking::read_alone, crate::proofs::Looking::shown_alone))]
+#[tactic(auto, using(crate::proofs::Playing::plays_nothing, crate::proofs::Tracing::begins_nothing, crate::proofs::Looking::looked_alone, crate::proofs::Looking::asked_alone, crate::proofs::Looking::read_alone))]
 pub fn take_line<T: Completes + Drop, S: Completes + Drop, W: Completes + Drop>(
     alloc: Global,
     notes: &mut Notes,
