@@ -13,7 +13,7 @@ returns c =
       c.print_picture.new.printed,
       (
         subst (λ items. DrawsPicture items c.args.stretch c.args.printed.now c.print_picture.new.printed) c.deref.ensures.value
-        c.in_ok-print_picture.ensures,
+            c.in_ok-print_picture.ensures,
         subst (λ b. Prints (full_row b) c.print_picture.new.printed c.print_full.new.printed) full told,
       ),
     )) c.print_full.ensures
