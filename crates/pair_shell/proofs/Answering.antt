@@ -26,11 +26,10 @@ use Rattle.shell_book.specs.declared.tape.Played.{Played}
 use Rattle.shell_language.specs.Saying.{said}
 use Rattle.shell_language.specs.declared.line.ShellLine.{ShellLine}
 use Rattle.shell_language.specs.declared.line.ShellLine.TheVariants as shell
-use Rattle.shell_language.specs.declared.look.Look.{Look}
 use Rattle.shell_opening.specs.Openings.{SetsUpSaid}
 use Rattle.shell_opening.specs.declared.opening.Opening.{Opening}
 use Rattle.command_ending.proofs.Handing.{keeps-appends}
-use Rattle.pair_shell.specs.Answering.{AreAnswers, Boots, Further, GoesOn, HasSeen, IsAnswer, Next, NoLine, Once, PairPasses, Passes, Sees, SeesSaid, Sitting, begun}
+use Rattle.pair_shell.specs.Answering.{AreAnswers, Boots, Further, GoesOn, HasSeen, IsAnswer, Next, NoLine, Once, PairPasses, Passes, SeesIn, SeesSaid, Sitting, begun}
 use Rattle.pair_shell.specs.Lines.{is_run_line, without_cr}
 use Rattle.pair_shell.specs.Running.{AnswersAll, AnswersEach, AnswersFurther, Desk, PairShows, sitting}
 
@@ -131,31 +130,37 @@ module _ {B H : Type 0} (guest : B → Guest) where
   pair_passes opening None None tape None shows plays = (None, (plays, tt))
   pair_passes opening None None tape (Some c) shows plays = absurd shows
 
-  sees : (look : Look) (world : Option (Running B H Disk)) (pair : Option (Course Guest)) (old new : Printed)
-      → PairShows guest world pair → LooksIn guest look world old new → Sees look pair old new
-  sees look None None old new shows h = h
-  sees look None (Some c) old new shows h = absurd shows
-  sees look (Some v) None old new shows h = absurd shows
-  sees look (Some v) (Some c) old new shows h = h c shows
+  sees : (line : ShellLine) (world : Option (Running B H Disk)) (pair : Option (Course Guest)) (old new : Printed)
+      → PairShows guest world pair → LooksIn guest line world old new → SeesIn line pair old new
+  sees line None None old new shows h = h
+  sees line None (Some c) old new shows h = absurd shows
+  sees line (Some v) None old new shows h = absurd shows
+  sees line (Some v) (Some c) old new shows h = h c shows
 
-  has_seen : (look : Look) (tape : List Played) (world : Option (Running B H Disk)) (pair : Option (Course Guest)) (is_traced : Bool)
-      (answer : List ℕ) → PairShows guest world pair → IsSeen guest look tape world is_traced answer
-      → HasSeen look tape pair is_traced answer
-  has_seen look tape world pair is_traced answer shows h = record {
+  has_seen : (line : ShellLine) (tape : List Played) (world : Option (Running B H Disk)) (pair : Option (Course Guest)) (is_traced : Bool)
+      (answer : List ℕ) → PairShows guest world pair → IsSeen guest line tape world is_traced answer
+      → HasSeen line tape pair is_traced answer
+  has_seen line tape world pair is_traced answer shows h = record {
     nothing_played = h.nothing_played;
     before = h.before;
     after = h.after;
     blank = h.blank;
     traced = h.traced;
     told = h.told;
-    seen = sees look world pair h.before h.after shows h.seen;
+    seen = sees line world pair h.before h.after shows h.seen;
   }
 
   sees_said : (line : Option ShellLine) (tape : List Played) (world : Option (Running B H Disk)) (pair : Option (Course Guest))
       (is_traced : Bool) (answer : List ℕ) → PairShows guest world pair → IsSeenSaid guest line tape world is_traced answer
       → SeesSaid line tape pair is_traced answer
   sees_said (Some (shell.Look look)) tape world pair is_traced answer shows h =
-      has_seen look tape world pair is_traced answer shows h
+      has_seen (shell.Look look) tape world pair is_traced answer shows h
+  sees_said (Some (shell.Query query)) tape world pair is_traced answer shows h =
+      has_seen (shell.Query query) tape world pair is_traced answer shows h
+  sees_said (Some (shell.Screen port is_new)) tape world pair is_traced answer shows h =
+      has_seen (shell.Screen port is_new) tape world pair is_traced answer shows h
+  sees_said (Some (shell.Sector address)) tape world pair is_traced answer shows h =
+      has_seen (shell.Sector address) tape world pair is_traced answer shows h
   sees_said line tape world pair is_traced answer shows h = tt
 
   -- a pair has booted in the one exactly if it has in the other

@@ -10,3 +10,4 @@ pub mod Playing
 pub mod Refusing
 pub mod Same
 pub mod Tracing
+pub mod Finding

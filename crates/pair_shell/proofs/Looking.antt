@@ -9,6 +9,9 @@ use Rattle.guest_parts.specs.Guest.{Guest}
 use Rattle.i8080_words.specs.Arithmetic.{wrapped}
 use Rattle.i8080_words.specs.declared.refusal.Fault.TheVariants.{Unknown, WrongRole}
 use Rattle.i8080_words.specs.declared.registers.Processor.{Processor}
+use Rattle.disk_dcdd.specs.declared.address.SectorAddress.{SectorAddress}
+use Rattle.pair_protocol.specs.World.{accepted}
+use Rattle.script_language.specs.declared.line.Query.{Query}
 use Rattle.pair_protocol.specs.Node.{Node, Role, Spare, Primary, Backup, Joining, Draining, Alone}
 use Rattle.ft_node.specs.Guests.{shown_machine}
 use Rattle.ft_world.specs.Applies.{Shows}
@@ -28,7 +31,8 @@ use Rattle.shell_language.specs.declared.look.View.{View}
 use Rattle.shell_language.specs.declared.look.View.TheVariants as view
 use Rattle.shell_picture.specs.Answers.{refused}
 use Rattle.shell_picture.specs.Machines.{register_rows}
-use Rattle.pair_shell.specs.Looking.{IsLooked, IsSeenSaid, Looks, absence, bytes_from, look_rows, rows_by, rows_of}
+use Rattle.shell_picture.specs.Screens.{screen_rows}
+use Rattle.pair_shell.specs.Looking.{Asks, IsLooked, IsSeen, IsSeenSaid, Looks, LooksAlone, Reads, absence, bytes_from, left_out, look_rows, rows_by, rows_of}
 
 -- the rows of a node with a machine
 sees_at : (seen : View) (x : Option (Node Guest)) (g : Guest) → Some g ≡ option_and_then (λ (n : Node Guest). shown_machine n) x
@@ -99,18 +103,43 @@ pub looked_alone : {B H X E : Type 0} (guest : B → Guest) (look : Look) (tape 
 looked_alone guest look tape world old new (Ok done) none looks = (none, looks)
 looked_alone guest look tape world old new (Err refused) none looks = tt
 
+-- so has a query, or one that looks at a terminal or at a sector
+pub asked_alone : {B H X E : Type 0} (guest : B → Guest) (query : Query) (tape : List Played) (world : Running B H Disk)
+    (old new : Printed) (result : Result X E) → tape ≡ [] → IfOk result (λ done. Asks guest guest some_altair query world old new)
+    → IfOk result (λ done. IsLooked guest (shell.Query query) tape (Some world) old new)
+asked_alone guest query tape world old new (Ok done) none asks = (none, asks)
+asked_alone guest query tape world old new (Err refused) none asks = tt
+
+pub read_alone : {B H X E : Type 0} (guest : B → Guest) (address : SectorAddress) (tape : List Played) (world : Running B H Disk)
+    (old new : Printed) (result : Result X E) → tape ≡ [] → IfOk result (λ done. Reads guest guest some_altair address world old new)
+    → IfOk result (λ done. IsLooked guest (shell.Sector address) tape (Some world) old new)
+read_alone guest address tape world old new (Ok done) none reads = (none, reads)
+read_alone guest address tape world old new (Err refused) none reads = tt
+
+pub shown_alone : {B H X E : Type 0} (guest : B → Guest) (line : ShellLine) (port : ℕ) (is_new : Bool) (shown bytes : List ℕ)
+    (tape : List Played) (world : Running B H Disk) (old new : Printed) (result : Result X E) → line ≡ shell.Screen port is_new
+    → tape ≡ [] → ((c : Course Guest) → Shows guest guest some_altair records_in world c → bytes ≡ accepted c.world port)
+    → IfOk result (λ done. Prints (screen_rows port bytes (left_out shown port is_new)) old new)
+    → IfOk result (λ done. IsLooked guest line tape (Some world) old new)
+shown_alone guest line port is_new shown bytes tape world old new (Ok done) is none are prints =
+    subst (λ l. IsLooked guest l tape (Some world) old new) (sym is) (
+      none,
+      λ c shows. (shown, subst (λ b. Prints (screen_rows port b (left_out shown port is_new)) old new) (are c shows) prints),
+    )
+shown_alone guest line port is_new shown bytes tape world old new (Err refused) is none are prints = tt
+
 -- the pair is there afterwards
 pub looked_in : {B H : Type 0} (guest : B → Guest) (line : ShellLine) (tape : List Played) (world : Running B H Disk)
     (after : Option (Running B H Disk)) (old new : Printed) → after ≡ Some world → IsLooked guest line tape (Some world) old new
     → IsLooked guest line tape after old new
 looked_in guest line tape world after old new is looked = subst (λ w. IsLooked guest line tape w old new) (sym is) looked
 
--- what is said of a line is said of a text that says it
-line_seen : {B H : Type 0} (guest : B → Guest) (line : ShellLine) (tape : List Played) (world : Option (Running B H Disk))
-    (before after : Printed) (is_traced : Bool) (text : List ℕ) → IsLooked guest line tape world before after
+-- the whole text that answers such a line
+is_seen : {B H : Type 0} (guest : B → Guest) (line : ShellLine) (tape : List Played) (world : Option (Running B H Disk))
+    (before after : Printed) (is_traced : Bool) (text : List ℕ) → LooksAlone guest line tape world before after
     → string_bytes before.text ≡ [] → before.is_traced ≡ is_traced → string_bytes after.text ≡ text
-    → IsSeenSaid guest (Some line) tape world is_traced text
-line_seen guest (shell.Look look) tape world before after is_traced text h blank traced told = record {
+    → IsSeen guest line tape world is_traced text
+is_seen guest line tape world before after is_traced text h blank traced told = record {
   nothing_played = h.0;
   before = before;
   after = after;
@@ -119,6 +148,20 @@ line_seen guest (shell.Look look) tape world before after is_traced text h blank
   told = told;
   seen = h.1;
 }
+
+-- what is said of a line is said of a text that says it
+line_seen : {B H : Type 0} (guest : B → Guest) (line : ShellLine) (tape : List Played) (world : Option (Running B H Disk))
+    (before after : Printed) (is_traced : Bool) (text : List ℕ) → IsLooked guest line tape world before after
+    → string_bytes before.text ≡ [] → before.is_traced ≡ is_traced → string_bytes after.text ≡ text
+    → IsSeenSaid guest (Some line) tape world is_traced text
+line_seen guest (shell.Look look) tape world before after is_traced text h blank traced told =
+    is_seen guest (shell.Look look) tape world before after is_traced text h blank traced told
+line_seen guest (shell.Query query) tape world before after is_traced text h blank traced told =
+    is_seen guest (shell.Query query) tape world before after is_traced text h blank traced told
+line_seen guest (shell.Screen port is_new) tape world before after is_traced text h blank traced told =
+    is_seen guest (shell.Screen port is_new) tape world before after is_traced text h blank traced told
+line_seen guest (shell.Sector address) tape world before after is_traced text h blank traced told =
+    is_seen guest (shell.Sector address) tape world before after is_traced text h blank traced told
 line_seen guest line tape world before after is_traced text h blank traced told = tt
 
 pub seen_said : {B H : Type 0} (guest : B → Guest) (line : ShellLine) (said : Option ShellLine) (tape : List Played)

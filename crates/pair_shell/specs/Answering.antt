@@ -1,5 +1,5 @@
 -- What a session answers to its lines, one after another, and what each of them does to its pair.
-use Rattle.std.specs.Prelude.{◌≡◌, ℕ, Bool, true, false, List, [], ◌∷◌, ◌++◌, Option, Some, None, is_some, map, slice_get, string_bytes}
+use Rattle.std.specs.Prelude.{◌≡◌, ℕ, Bool, true, false, List, [], ◌∷◌, ◌++◌, Option, Some, None, is_some, map, string_bytes}
 use Rattle.std.specs.List.{concat}
 use Rattle.std.specs.Io.KnownBytes.{Appends}
 use Rattle.altair_copies.specs.Copies.{image_copy}
@@ -12,14 +12,13 @@ use Rattle.ft_world.specs.Standing.{Course, machine_of}
 use Rattle.ft_world.specs.Words.{answer_of}
 use Rattle.pair_protocol.specs.World.{World}
 use Rattle.pair_setup.specs.Booting.{HostsCome}
-use Rattle.pair_shell.specs.Looking.{look_rows}
+use Rattle.pair_shell.specs.Looking.{Sees}
 use Rattle.pair_shell.specs.Playing.{answers_of, events_of}
 use Rattle.pair_shell.specs.Sessions.{HeedsSaid, MayRefuse, is_quit, is_run, trace_after}
 use Rattle.shared_disk.specs.Records.{HasDrives, IsAtBoot, IsUnwritten}
 use Rattle.shared_disk.specs.declared.store.Record.{Record}
 use Rattle.shell_book.specs.Outcomes.{is_ended}
 use Rattle.shell_book.specs.Tapes.{Begins, trace_text}
-use Rattle.shell_book.specs.Texts.{Prints}
 use Rattle.shell_book.specs.declared.outcome.Outcome.{Outcome}
 use Rattle.shell_book.specs.declared.outcome.Outcome.TheVariants.{Done, Refused}
 use Rattle.shell_book.specs.declared.printing.Printed.{Printed}
@@ -27,7 +26,6 @@ use Rattle.shell_book.specs.declared.tape.Played.{Played}
 use Rattle.shell_language.specs.Saying.{said}
 use Rattle.shell_language.specs.declared.line.ShellLine.{ShellLine}
 use Rattle.shell_language.specs.declared.line.ShellLine.TheVariants as shell
-use Rattle.shell_language.specs.declared.look.Look.{Look}
 use Rattle.shell_opening.specs.Openings.{IsDefault, IsSame, SetsUpSaid}
 use Rattle.shell_opening.specs.declared.opening.Opening.{Opening}
 use Rattle.pair_shell.specs.Lines.{without_cr}
@@ -73,12 +71,12 @@ PairPasses opening None tape (Some new) = (booted : Course Guest) × (Boots open
 PairPasses opening None tape None = tape ≡ []
 PairPasses opening (Some old) tape None = ⊥
 
--- a line that looks at a machine plays nothing, and its answer is what the node shows
-abbrev pub Sees : Look → Option (Course Guest) → Printed → Printed → Type 0
-Sees look None old new = ⊥
-Sees look (Some pair) old new = Prints (look_rows look.view (slice_get pair.world.nodes look.node)) old new
+-- a line that looks at what the pair has plays nothing, and its answer is what is there
+abbrev pub SeesIn : ShellLine → Option (Course Guest) → Printed → Printed → Type 0
+SeesIn line None old new = ⊥
+SeesIn line (Some pair) old new = Sees pair line old new
 
-pub record HasSeen (look : Look) (tape : List Played) (pair : Option (Course Guest)) (is_traced : Bool) (answer : List ℕ)
+pub record HasSeen (line : ShellLine) (tape : List Played) (pair : Option (Course Guest)) (is_traced : Bool) (answer : List ℕ)
     : Type 0 where
   pub nothing_played : tape ≡ []
   pub before : Printed
@@ -86,10 +84,13 @@ pub record HasSeen (look : Look) (tape : List Played) (pair : Option (Course Gue
   pub blank : string_bytes before.text ≡ []
   pub traced : before.is_traced ≡ is_traced
   pub told : string_bytes after.text ≡ answer
-  pub seen : Sees look pair before after
+  pub seen : SeesIn line pair before after
 
 abbrev pub SeesSaid : Option ShellLine → List Played → Option (Course Guest) → Bool → List ℕ → Type 0
-SeesSaid (Some (shell.Look look)) tape pair is_traced answer = HasSeen look tape pair is_traced answer
+SeesSaid (Some (shell.Look look)) tape pair is_traced answer = HasSeen (shell.Look look) tape pair is_traced answer
+SeesSaid (Some (shell.Query query)) tape pair is_traced answer = HasSeen (shell.Query query) tape pair is_traced answer
+SeesSaid (Some (shell.Screen port is_new)) tape pair is_traced answer = HasSeen (shell.Screen port is_new) tape pair is_traced answer
+SeesSaid (Some (shell.Sector address)) tape pair is_traced answer = HasSeen (shell.Sector address) tape pair is_traced answer
 SeesSaid _ tape pair is_traced answer = Unit {0}
 
 -- a line that is refused leaves the session as it was
@@ -100,7 +101,7 @@ pub record IsLeft (tape : List Played) (old new : Sitting) : Type 0 where
   pub is_traced : new.is_traced ≡ old.is_traced
 
 -- What a line is answered. A trace of the events that it made comes first, if events are traced. A line that is an event made
--- that event alone, and is answered as in a script; one that looks at a machine is told what is there. A line that says nothing
+-- that event alone, and is answered as in a script; one that looks at what the pair has is told what is there. A line that says nothing
 -- is refused, and one that says something only for one of the reasons that there are.
 pub record IsAnswer (line : List ℕ) (old : Sitting) (answer : List ℕ) (new : Sitting) : Type 0 where
   pub outcome : Outcome

@@ -1,4 +1,4 @@
-//! Lines that look at the machine of a node.
+//! Lines that look at what a pair has: the machine of a node, a terminal, a sector, or what a query finds.
 ghost use Rattle.std.specs.Prelude.{◌≡◌, ◌<◌, ◌^◌, [], true, IfOk, Some, string_bytes};
 ghost use Rattle.guest_board.specs.Inputs.{some_altair};
 ghost use Rattle.shell_book.specs.Tapes.{Begins, trace_text};
@@ -8,6 +8,7 @@ ghost use Rattle.pair_shell.specs.Playing.{Plays};
 ghost use Rattle.pair_shell.specs.Sessions.{IsHeeded};
 
 use crate::notes::Notes;
+use crate::showing::{show_found, show_sector};
 use event_callbacks::Completes;
 use guest_board::Board;
 use i8080_words::Fault;
@@ -18,8 +19,8 @@ use shell_opening::Opening;
 use shell_picture::{print_listing, print_memory, print_refusal, print_registers};
 use std::alloc::{AllocError, Global};
 
-/// Does what a line says, other than one of the setup, in a pair of Altairs: of these a line may look at a machine.
-#[tactic(auto, using(crate::proofs::Playing::plays_nothing, crate::proofs::Tracing::begins_nothing, crate::proofs::Looking::looked_alone))]
+/// Does what a line says, other than one of the setup, in a pair of Altairs: of these a line may look at what they have.
+#[tactic(auto, using(crate::proofs::Playing::plays_nothing, crate::proofs::Tracing::begins_nothing, crate::proofs::Looking::looked_alone, crate::proofs::Looking::asked_alone, crate::proofs::Looking::read_alone))]
 pub fn take_line<T: Completes + Drop, S: Completes + Drop, W: Completes + Drop>(
     alloc: Global,
     notes: &mut Notes,
@@ -39,6 +40,11 @@ pub fn take_line<T: Completes + Drop, S: Completes + Drop, W: Completes + Drop>(
 {
     match line {
         ShellLine::Look(look) => show_machine(alloc, world, look, printed),
+        ShellLine::Query(query) => show_found(world, query, printed),
+        ShellLine::Screen { port, is_new } => {
+            notes.show_screen(port, is_new, world.accepted(port), printed)
+        }
+        ShellLine::Sector(address) => show_sector(world, address, printed),
         line => notes.take(alloc, opening, world, line, printed),
     }
 }

@@ -3,19 +3,23 @@ ghost use Rattle.std.specs.Prelude.{◌≡◌, [], true, IfOk, length, slice_get
 ghost use Rattle.pair_check.specs.Disks.{over_records};
 ghost use Rattle.pair_shell.specs.Playing.{Plays};
 ghost use Rattle.pair_shell.specs.Sessions.{IsHeeded, shown_at};
-ghost use Rattle.shell_book.specs.Texts.{AddsSome};
+ghost use Rattle.pair_shell.specs.Hints.{early_row, full_row, is_early, is_full};
+ghost use Rattle.pair_shell.specs.Looking.{left_out};
+ghost use Rattle.shell_book.specs.Texts.{AddsSome, Prints};
+ghost use Rattle.shell_book.specs.declared.printing.Printed.{Printed};
+ghost use Rattle.shell_picture.specs.Pictures.{DrawsPicture};
+ghost use Rattle.shell_picture.specs.Screens.{screen_rows};
 ghost use Rattle.shell_book.specs.Tapes.{Begins, IsAnswered, Traces, trace_text};
 
 use crate::asked::{keys_of, left};
 use crate::play::{KEPT, play, play_one};
 use crate::polling::MayPoll;
 use crate::running::Left;
-use crate::showing::{check, show_sector};
+use crate::showing::check;
 use clone_state::Copies;
 use event_callbacks::PORTS;
 use ft_world::World;
 use pair_events::Event;
-use pair_setup::find;
 use sequence_diagram::Moment;
 use shared_disk::Disk;
 use shell_book::{Book, Played, Printed};
@@ -103,7 +107,7 @@ impl Notes {
         }
     }
 
-    // Shows what a line asks for, and makes nothing happen.
+    // Shows what a line asks for that is not what the pair has, and makes nothing happen.
     fn show<B: Copies<H> + Drop, H: Drop>(
         &mut self,
         alloc: Global,
@@ -116,11 +120,6 @@ impl Notes {
         ensures tape { self.new.tape ≡ self.old.tape }
     {
         match line {
-            ShellLine::Query(query) => printed.line(&find(world, query)),
-            ShellLine::Screen { port, is_new } => {
-                self.show_screen(port, is_new, world.accepted(port), printed)
-            }
-            ShellLine::Sector(address) => show_sector(world, address, printed),
             ShellLine::Last => print_last(&self.book, printed),
             ShellLine::Check => check(alloc, opening, world, printed),
             ShellLine::Picture(stretch) => self.show_picture(alloc, stretch, printed),
@@ -134,14 +133,12 @@ impl Notes {
         alloc: Global,
         stretch: Option<Stretch>,
         printed: &mut Printed,
-    ) -> Result<(), AllocError> {
+    ) -> Result<(), AllocError>
+        ensures { IfOk result (λ _. (mid : Printed) × (DrawsPicture self.now.past.items stretch printed.old mid
+            × Prints (full_row (is_full (length self.now.past.items))) mid printed.new)) }
+    {
         print_picture(alloc, &self.past, stretch, printed)?;
-        if self.past.len() < KEPT {
-            return Ok(());
-        }
-        printed.line(&format_args!(
-            "  the first {KEPT} events are kept for pictures; later ones are in none"
-        ))
+        print_full(is_full(self.past.len()), printed)
     }
 
     // Types a text at a port.
@@ -161,11 +158,11 @@ impl Notes {
     {
         let events = keys_of(alloc, port, text)?;
         self.happen_all(alloc, world, events, printed)?;
-        print_early(port, &self.book, printed)
+        print_early(is_early(port, &self.book), port, printed)
     }
 
-    // What a terminal has accepted; it was shown then.
-    fn show_screen(
+    /// What a terminal has accepted; it was shown then.
+    pub(crate) fn show_screen(
         &mut self,
         port: u8,
         is_new: bool,
@@ -176,15 +173,23 @@ impl Notes {
         ensures tape { self.new.tape ≡ self.old.tape }
         ensures past { self.new.past ≡ self.old.past }
         ensures shown { IfOk result (λ _. self.new.shown ≡ shown_at self.old.shown port (length accepted.now)) }
+        ensures told { IfOk result (λ _. Prints (screen_rows port accepted.now (left_out self.old.shown port is_new))
+            printed.old printed.new) }
     {
-        let seen = if is_new { Some(self.seen(port)) } else { None };
-        print_screen(port, accepted, seen, printed)?;
+        print_screen(port, accepted, self.left_out(port, is_new), printed)?;
         match port {
             0 => self.shown[0] = accepted.len(),
             1 => self.shown[1] = accepted.len(),
             _ => {}
         }
         Ok(())
+    }
+
+    // How many bytes of a terminal are left out: those that were shown so far, if a line asks for what is new.
+    fn left_out(&self, port: u8, is_new: bool) -> Option<usize>
+        ensures { result ≡ left_out self.now.shown port is_new }
+    {
+        if is_new { Some(self.seen(port)) } else { None }
     }
 
     // How many bytes of a terminal were shown so far.
@@ -266,15 +271,43 @@ impl Notes {
     }
 }
 
-// Says that keys may get lost, if the guest has not run so far and so has not set up its port.
-#[tactic(auto, using(shell_book::proofs::Adding::adds_none))]
-fn print_early(port: u8, book: &Book, printed: &mut Printed) -> Result<(), AllocError>
-    ensures { IfOk result (λ _. AddsSome printed.old printed.new) }
+// Says that no more events are kept for pictures, if so many were.
+#[tactic(auto, using(shell_book::proofs::Adding::prints_none, shell_book::proofs::Adding::prints_text))]
+fn print_full(is_full: bool, printed: &mut Printed) -> Result<(), AllocError>
+    ensures { IfOk result (λ _. Prints (full_row is_full) printed.old printed.new) }
 {
-    if usize::from(port) >= PORTS || book.has_run {
-        return Ok(());
+    if is_full {
+        printed.line(&format_args!(
+            "  the first {KEPT} events are kept for pictures; later ones are in none"
+        ))?;
     }
-    printed.line(&format_args!(
-        "  the guest has not run yet: keys that it takes before it resets port {port} are lost"
-    ))
+    Ok(())
+}
+
+// Whether as many events are kept as can be.
+fn is_full(count: usize) -> bool
+    ensures { result ≡ is_full count }
+{
+    count >= KEPT
+}
+
+// Says that keys may get lost, if they come too early.
+#[tactic(auto, using(shell_book::proofs::Adding::adds_none, shell_book::proofs::Adding::prints_none, shell_book::proofs::Adding::prints_text))]
+fn print_early(is_early: bool, port: u8, printed: &mut Printed) -> Result<(), AllocError>
+    ensures some { IfOk result (λ _. AddsSome printed.old printed.new) }
+    ensures told { IfOk result (λ _. Prints (early_row is_early port) printed.old printed.new) }
+{
+    if is_early {
+        printed.line(&format_args!(
+            "  the guest has not run yet: keys that it takes before it resets port {port} are lost"
+        ))?;
+    }
+    Ok(())
+}
+
+// Whether the guest has not run so far, and so has not set up its port.
+fn is_early(port: u8, book: &Book) -> bool
+    ensures { result ≡ is_early port book.now.has_run }
+{
+    usize::from(port) < PORTS && !book.has_run
 }

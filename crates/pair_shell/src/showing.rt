@@ -1,5 +1,6 @@
-//! Lines that look at the disk of a pair: a sector, or all that the single machine has to agree with.
-ghost use Rattle.std.specs.Prelude.{◌≡◌, ◌==◌, ◌&&◌, length};
+//! What a pair has: what a query finds, a sector, and all that the single machine has to agree with.
+ghost use Rattle.std.specs.Prelude.{◌≡◌, ◌==◌, ◌&&◌, IfOk, length};
+ghost use Rattle.pair_shell.specs.Looking.{Asks, Reads};
 ghost use Rattle.pair_check.specs.Disks.{over_records};
 
 use clone_state::Copies;
@@ -7,19 +8,35 @@ use disk_dcdd::SectorAddress;
 use ft_world::World;
 use guest_lockstep::Timed;
 use pair_check::{compare, sector_of};
+use pair_setup::find;
+use script_language::Query;
 use shared_disk::Disk;
 use shell_book::Printed;
 use shell_opening::Opening;
 use shell_picture::{print_refusal, print_sector};
 use std::alloc::{AllocError, Global};
 
+/// What a query finds.
+#[tactic(auto, using(crate::proofs::Finding::asks))]
+pub fn show_found<B: Copies<H> + Drop, H: Drop>(
+    world: &World<B, Disk, H>,
+    query: Query,
+    printed: &mut Printed,
+) -> Result<(), AllocError>
+    ensures { IfOk result (λ _. Asks B.state B.copied B.machine query world.now printed.old printed.new) }
+{
+    printed.line(&find(world, query))
+}
+
 /// What the disk has in a sector.
+#[tactic(auto, using(crate::proofs::Finding::reads))]
 pub fn show_sector<B: Copies<H> + Drop, H: Drop>(
     world: &mut World<B, Disk, H>,
     address: SectorAddress,
     printed: &mut Printed,
 ) -> Result<(), AllocError>
-    ensures { over_records world.new ≡ over_records world.old }
+    ensures unchanged { over_records world.new ≡ over_records world.old }
+    ensures found { IfOk result (λ _. Reads B.state B.copied B.machine address world.new printed.old printed.new) }
 {
     print_sector(address, sector_of(world, address), printed)
 }

@@ -1,2 +1,2 @@
-pub mod EchoTrace
+pub mod Held
 pub mod LoggedRun

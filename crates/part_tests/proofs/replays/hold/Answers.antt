@@ -1,7 +1,7 @@
 use Rattle.std.proofs.Common.{ℕ, List, ◌++◌, Ok, ap, ◌∙◌, arith}
 use Rattle.log_channel.specs.Packet.{packet_bytes}
 use Rattle.log_channel.specs.declared.packet.Packet.TheVariants.{Log}
-use Rattle.part_tests.proofs.EchoTrace.{held_next}
+use Rattle.part_tests.proofs.Held.{held_next}
 use Rattle.part_tests.proofs.replays.hold.Goals as goal
 
 pub returns : goal.returns

@@ -8,4 +8,4 @@ pub returns-clause-traced : goal.returns-clause-traced
 returns-clause-traced g c =
     begins_on c.print_early.result (trace_text c.happen_all.new.self.tape.items) c.args.printed.now.is_traced
     (string_bytes c.args.printed.now.text) c.happen_all.new.printed c.print_early.new.printed
-    c.in_ok-happen_all.ensures.traced c.print_early.ensures
+    c.in_ok-happen_all.ensures.traced c.print_early.ensures.some
