@@ -9,6 +9,7 @@ use Rattle.ft_node.specs.Roles.{node_count}
 use Rattle.ft_node.specs.declared.node.Node as code
 use Rattle.guest_lockstep.specs.Machine.{Machine}
 use Rattle.guest_lockstep.specs.declared.reads.Reads.TheVariants.{Shared}
+use Rattle.guest_lockstep.specs.declared.timed.Timed.{Timed}
 use Rattle.guest_parts.specs.Guest.{Guest}
 use Rattle.host_calls.proofs.Stepping.{are-steps, joins}
 use Rattle.host_calls.proofs.Straying.{has-list, no-list, steps-follow}
@@ -30,6 +31,7 @@ use Rattle.host_node.specs.declared.host.HostNode.{HostNode}
 use Rattle.host_node.specs.declared.host.Hosted.TheVariants as hosted
 use Rattle.pair_events.specs.declared.reply.Role.TheVariants as role
 use Rattle.pair_protocol.specs.Copying.{Copying}
+use Rattle.pair_protocol.specs.Lawful.{Among}
 use Rattle.pair_protocol.specs.Node.{Node, Alone, Spare}
 
 module _ {B S : Type 0} {H : Type 0} (state : B → S) (M : Machine S) (copied : B → Guest) where
@@ -37,7 +39,7 @@ module _ {B S : Type 0} {H : Type 0} (state : B → S) (M : Machine S) (copied :
   begun : (C : Copying S) (drives me : ℕ) (n m : code.Node B H) (y : Node S) (generation before count began : ℕ)
       → CopiesAs state copied drives C.parts C.part_count C.assemble → y.role ≢ Spare → y.role ≡ Alone → y.reads ≡ Shared
       → y.generation ≡ before → suc before ≡ generation → node_count M y y.role ≡ count
-      → (list : List Rattle.guest_lockstep.specs.declared.timed.Timed.Timed)
+      → (list : List Timed)
       → calls.HasTakenKeys M (record y { list = list }) → IsNode state M C drives n y
       → ((x : Node S) → calls.HasTakenKeys M x → IsNode state M C drives n x
       → calls.BeginsPair M x (Ok began) (IsNode state M C drives m))
@@ -133,7 +135,7 @@ module _ {B S : Type 0} {H : Type 0} (state : B → S) (M : Machine S) (copied :
           y = y;
           ran = ran_one M C old.drives me x y frames (law.taking (law.Recruits me count Shared list)) []
               (host.Joins count Shared list spare)
-              (subst (λ k. Rattle.pair_protocol.specs.Lawful.Among (law.Recruits k count Shared list) frames) mine t.1.1, tt)
+              (subst (λ k. Among (law.Recruits k count Shared list) frames) mine t.1.1, tt)
               goes.Nothing;
           is = subst (λ h. HasNode state M C old.drives new.number me h y) (sym is) (
             numbered (subst (λ h. HasJoined h) (sym is) tt),

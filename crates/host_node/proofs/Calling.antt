@@ -11,6 +11,7 @@ use Rattle.host_frames.specs.Frames.{Said}
 use Rattle.host_frames.specs.Meaning.{IsTold, Means, Speaks, is_report}
 use Rattle.host_frames.specs.Meaning as meaning
 use Rattle.host_law.specs.Frame.{Act, Came, Frame, quiet, sending, taking}
+use Rattle.host_law.specs.Host as host
 use Rattle.host_law.specs.Host.{HostStep}
 use Rattle.host_node.proofs.Going.{ran_one}
 use Rattle.host_node.proofs.Roles.{keeps_reads, never_spare}
@@ -153,7 +154,7 @@ module _ {B S : Type 0} {H : Type 0} (state : B → S) (M : Machine S) (copied :
       y = x;
       ran = record {
         acts = [];
-        run = Rattle.host_law.specs.Host.Rests;
+        run = host.Rests;
         came = tt;
         says = goes.Then went.bytes said [] went.spells (speaks old.drives me) goes.Nothing;
       };

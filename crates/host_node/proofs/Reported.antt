@@ -1,5 +1,5 @@
 -- How a host goes on when it reports: it tells the terminals how many keys are covered.
-use Rattle.std.proofs.Common.{ℕ, ◌≡◌, ◌≢◌, ◌<◌, Bool, true, false, cond, eqb, List, [], ◌∷◌, ◌++◌, append-nil, refl, sym, ap, ◌∙◌, subst}
+use Rattle.std.proofs.Common.{Bool, List, [], ap, append-nil, arith, cond, eqb, false, refl, subst, sym, true, ℕ, ◌++◌, ◌<◌, ◌∙◌, ◌∷◌, ◌≡◌, ◌≢◌}
 use Rattle.std.specs.Prelude.{slice_index}
 use Rattle.ft_node.specs.AnyNode.{IsNode}
 use Rattle.ft_node.specs.declared.node.Node as code
@@ -88,9 +88,9 @@ module _ {B S : Type 0} {H : Type 0} (state : B → S) (M : Machine S) (copied :
         let k = slice_index report.covered 0 in
         let l = slice_index report.covered 1 in
         let a = told_port M C me x y 0 k h.1.follows
-        (told_step C old.drives me n y 0 k h.1.other (omega Rattle.std.proofs.Common.arith) h.1.is first) in
+        (told_step C old.drives me n y 0 k h.1.other (omega arith) h.1.is first) in
         let b = told_port M C me a.z y 1 l a.follows
-        (told_step C old.drives me n y 1 l h.1.other (omega Rattle.std.proofs.Common.arith) h.1.is second) in
+        (told_step C old.drives me n y 1 l h.1.other (omega arith) h.1.is second) in
         record {
           y = b.z;
           ran = record {

@@ -13,7 +13,7 @@ use Rattle.log_entry.specs.declared.entry.Entry.{Entry}
 use Rattle.pair_protocol.specs.Copying.{Copying}
 use Rattle.pair_protocol.specs.Effects as effect
 use Rattle.pair_protocol.specs.Effects.{Advances, GotPart, Held, Replays, after_drain, stepped, took}
-use Rattle.pair_protocol.specs.Node.{Node, Role, Primary, Backup, Joining, Draining, Alone, Spare, won_role}
+use Rattle.pair_protocol.specs.Node.{Node, Role, Primary, Backup, Joining, Draining, Alone, Spare, won_role, plainly_steps, passes_mark, passes_input, passes_read}
 use Rattle.pair_protocol.specs.Reply.{Reply}
 
 module _ {S : Type 0} (M : Machine S) where
@@ -48,13 +48,13 @@ module _ {S : Type 0} (M : Machine S) where
   of_replays x y turns made (effect.AwaitsBytes a) = refl
   of_replays x y turns made (effect.NoMemory a) = refl
   of_replays x y turns made (effect.OneStep {turns = fewer} {made = less} e s gives a b c more) =
-      of_replays (Rattle.pair_protocol.specs.Node.plainly_steps x s) y fewer less more
+      of_replays (plainly_steps x s) y fewer less more
   of_replays x y turns made (effect.OneMark {turns = fewer} {made = less} e a b c more) =
-      of_replays (Rattle.pair_protocol.specs.Node.passes_mark x) y fewer less more
+      of_replays (passes_mark x) y fewer less more
   of_replays x y turns made (effect.OneInput {turns = fewer} {made = less} e i s a b c d more) =
-      of_replays (Rattle.pair_protocol.specs.Node.passes_input x s) y fewer less more
+      of_replays (passes_input x s) y fewer less more
   of_replays x y turns made (effect.OneRead {turns = fewer} {made = less} drive sector number bytes s a b c more) =
-      of_replays (Rattle.pair_protocol.specs.Node.passes_read x s) y fewer less more
+      of_replays (passes_read x s) y fewer less more
 
 kept : {S : Type 0} (x y : Node S) → y.role ≡ x.role → x.role ≢ Spare → y.role ≢ Spare
 kept x y same other e = other (sym same ∙ e)
@@ -155,13 +155,13 @@ module _ {S : Type 0} (M : Machine S) where
   reads_replays x y turns made (effect.AwaitsBytes a) = refl
   reads_replays x y turns made (effect.NoMemory a) = refl
   reads_replays x y turns made (effect.OneStep {turns = fewer} {made = less} e s gives a b c more) =
-      reads_replays (Rattle.pair_protocol.specs.Node.plainly_steps x s) y fewer less more
+      reads_replays (plainly_steps x s) y fewer less more
   reads_replays x y turns made (effect.OneMark {turns = fewer} {made = less} e a b c more) =
-      reads_replays (Rattle.pair_protocol.specs.Node.passes_mark x) y fewer less more
+      reads_replays (passes_mark x) y fewer less more
   reads_replays x y turns made (effect.OneInput {turns = fewer} {made = less} e i s a b c d more) =
-      reads_replays (Rattle.pair_protocol.specs.Node.passes_input x s) y fewer less more
+      reads_replays (passes_input x s) y fewer less more
   reads_replays x y turns made (effect.OneRead {turns = fewer} {made = less} drive sector number bytes s a b c more) =
-      reads_replays (Rattle.pair_protocol.specs.Node.passes_read x s) y fewer less more
+      reads_replays (passes_read x s) y fewer less more
 
 reads_drained : {S : Type 0} (z : Node S) (why : ReplayEnd) → (after_drain z why).reads ≡ z.reads
 reads_drained z end.Turns = refl

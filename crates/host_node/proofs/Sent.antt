@@ -1,6 +1,8 @@
 -- How a host goes on by each call of its node whose answer is sent.
+use Rattle.guest_lockstep.specs.declared.reads.Reads.TheVariants.{Logged, Shared}
+use Rattle.guest_lockstep.specs.declared.reads.Reads.{Reads}
 use Rattle.std.proofs.Common.{ℕ, ◌≡◌, ◌≢◌, ◌<◌, ◌^◌, refl, sym, subst}
-use Rattle.std.specs.Prelude.{Ok, unwrap_or, ◌⊎◌}
+use Rattle.std.specs.Prelude.{Ok, length, unwrap_or}
 use Rattle.std.specs.Global.{Vec}
 use Rattle.disk_dcdd.specs.declared.address.SectorAddress.{SectorAddress}
 use Rattle.disk_dcdd.specs.declared.sector.SectorWrite.{SectorWrite}
@@ -13,7 +15,7 @@ use Rattle.ft_node.specs.declared.node.Node as code
 use Rattle.guest_lockstep.specs.Machine.{Machine}
 use Rattle.guest_parts.specs.Guest.{Guest}
 use Rattle.host_calls.proofs.Stepping.{are-steps, passes, said}
-use Rattle.host_frames.specs.Frames.{Packet, Tells, Transfers}
+use Rattle.host_frames.specs.Frames.{Packet, Said, Transfers}
 use Rattle.host_frames.specs.Meaning as meaning
 use Rattle.host_frames.specs.Meaning.{Means}
 use Rattle.host_frames.specs.declared.frame.Transfer.TheVariants.{Byte, Get, Write}
@@ -37,7 +39,7 @@ use Rattle.pair_protocol.specs.World as message
 
 module _ {S : Type 0} (M : Machine S) (C : Copying S) (drives me : ℕ) (y : Node S) (other : y.role ≢ Spare) where
   -- a frame of the law that a frame means, sent at a step that leaves the node
-  abbrev pub Sends : Rattle.host_frames.specs.Frames.Said → Type 0
+  abbrev pub Sends : Said → Type 0
   Sends frame = (means : law.Frame) × Means drives me frame means × HostStep M C me y (sending means) y
 
   sends_entry : (place index : ℕ) (bytes : Vec ℕ) → calls.Sends index y (Ok bytes) → Sends (Packet place bytes.items)
@@ -49,24 +51,24 @@ module _ {S : Type 0} (M : Machine S) (C : Copying S) (drives me : ℕ) (y : Nod
         host.SendsEntry index c.1.e (passes M C me y other (λ z. Unit {0}) (refusals.send_refusal index) c.0) c.1.entry,
       ))
 
-  told_so : (reads : Rattle.guest_lockstep.specs.declared.reads.Reads.Reads) (replayed : ℕ)
+  told_so : (reads : Reads) (replayed : ℕ)
       → unwrap_or (reported_by reads replayed) 0 ≡ told_by reads replayed
-  told_so Rattle.guest_lockstep.specs.declared.reads.Reads.TheVariants.Logged replayed = refl
-  told_so Rattle.guest_lockstep.specs.declared.reads.Reads.TheVariants.Shared replayed = refl
+  told_so Logged replayed = refl
+  told_so Shared replayed = refl
 
   sends_ack : (place : ℕ) (bytes : Vec ℕ) → calls.Acknowledges y (Ok bytes) → Sends (Packet place bytes.items)
   sends_ack place bytes call =
       (let c = said (refusals.acknowledge_refusal y) Ever
-      (λ bytes x. calls.IsSpelled (Ack x.generation (Rattle.std.specs.Prelude.length x.held) (reported_by x.reads x.replayed)) bytes)
+      (λ bytes x. calls.IsSpelled (Ack x.generation (length x.held) (reported_by x.reads x.replayed)) bytes)
       y bytes call in (
-        law.Carries (message.Acknowledgement y.generation (Rattle.std.specs.Prelude.length y.held) (told_by y.reads y.replayed)),
+        law.Carries (message.Acknowledgement y.generation (length y.held) (told_by y.reads y.replayed)),
         subst (λ k. Means drives me (Packet place bytes.items)
-            (law.Carries (message.Acknowledgement y.generation (Rattle.std.specs.Prelude.length y.held) k))) (told_so y.reads y.replayed)
+            (law.Carries (message.Acknowledgement y.generation (length y.held) k))) (told_so y.reads y.replayed)
             (subst (λ l. Means drives me (Packet place l) (law.Carries
-            (message.Acknowledgement y.generation (Rattle.std.specs.Prelude.length y.held) (unwrap_or (reported_by y.reads y.replayed) 0))))
-            (sym c.1.1) (meaning.OfAcknowledgement place y.generation (Rattle.std.specs.Prelude.length y.held)
+            (message.Acknowledgement y.generation (length y.held) (unwrap_or (reported_by y.reads y.replayed) 0))))
+            (sym c.1.1) (meaning.OfAcknowledgement place y.generation (length y.held)
             (reported_by y.reads y.replayed) c.1.0)),
-        host.Acknowledges (Rattle.std.specs.Prelude.length y.held) (told_by y.reads y.replayed)
+        host.Acknowledges (length y.held) (told_by y.reads y.replayed)
             (passes M C me y other (λ z. Unit {0}) refusals.acknowledge_refusal c.0) (refl, refl),
       ))
 

@@ -309,16 +309,13 @@ impl<B: Copies<H> + Drop, H: Drop> Serving<B, H> {
         self.tell_parts()
     }
 
-    // Makes moves from the entries that are held. How many are replayed is acknowledged, too: a write of the primary may wait
-    // for the reads before it.
+    // Makes moves from the entries that are held.
     #[tactic(auto, using(crate::proofs::Going::stays, crate::proofs::Going::and_then))]
     fn replay(&mut self) -> R<bool>
         ensures { Goes B.state B.machine B.copied self.old.host self.new.host }
     {
         let replayed = self.host.replay(self.settings.steps)?;
-        if replayed.moves > 0 && matches!(replayed.why, ReplayEnd::End) {
-            self.pace.owes_acknowledgement = true;
-        }
+        self.pace.note_replayed(&replayed);
         self.fetch(replayed.why)?;
         Ok(replayed.moves > 0)
     }

@@ -3,7 +3,9 @@
 use crate::heard::Heard;
 use event_callbacks::PORTS;
 use ft_node::PartCame;
+use guest_lockstep::ReplayEnd;
 use host_frames::Report;
+use replayer::Replayed;
 
 /// How long a frame of the outside's clock is, in microseconds: it sends a tick so often.
 pub const TICK: u64 = 50_000;
@@ -163,6 +165,14 @@ impl Pace {
             Heard::Tick => self.silent = self.silent.saturating_add(1),
             Heard::Stop => self.end = Some(End::Stopped),
             Heard::Nothing | Heard::Nonsense | Heard::Progress { .. } => {}
+        }
+    }
+
+    /// Takes in the moves of a backup. How many entries are replayed is acknowledged too, since a write of the primary may wait
+    /// for the reads before it.
+    pub fn note_replayed(&mut self, replayed: &Replayed) {
+        if replayed.moves > 0 && matches!(replayed.why, ReplayEnd::End) {
+            self.owes_acknowledgement = true;
         }
     }
 
