@@ -20,7 +20,7 @@ use Rattle.host_law.specs.Frame as law
 use Rattle.host_law.specs.Host as host
 use Rattle.host_calls.proofs.Straying.{steps-follow}
 use Rattle.host_node.proofs.Calling.{sending_it, taking_mine, told}
-use Rattle.host_node.proofs.Going.{ran_one}
+use Rattle.host_node.proofs.Going.{once, ran_one}
 use Rattle.host_node.specs.Goes as goes
 use Rattle.host_node.specs.Goes.{Goes}
 use Rattle.host_node.specs.Hosts.{HasJoined, HasNode, SameHost}
@@ -91,11 +91,11 @@ module _ {B S : Type 0} {H : Type 0} (state : B → S) (M : Machine S) (copied :
 
   -- whom nobody else asks, so it has not lost
   pub never_lost : (old new : HostNode B H) (n m : code.Node B H) (r : shown.Role) (asker : ℕ) (askings after : List Asking)
-      (fault : Fault) → fault ≡ Lost → MayAsk r → old.node ≡ hosted.Node n → new.node ≡ hosted.Over → SameHost old new → new.mail ≡ old.mail → askings ≡ []
+      (fault : Fault) → fault ≡ Lost → MayAsk r → old.node ≡ hosted.Node n → new.node ≡ hosted.Halted → SameHost old new → new.mail ≡ old.mail → askings ≡ []
       → ((C : Copying S) (drives : ℕ) (x : Node S) → IsNode state M C drives n x → IsRole x r)
       → ((C : Copying S) (drives : ℕ) (x : Node S) → IsNode state M C drives n x
       → calls.Suspects askings asker x (Err fault) after (IsNode state M C drives m)) → Goes state M copied old new
-  never_lost old new n m r asker askings after fault lost may was is number mail none role_is call = record {
+  never_lost old new n m r asker askings after fault lost may was is number mail none role_is call = once state M copied old new (record {
     heard = [];
     said = [];
     came = ap (λ p. p.came) mail ∙ sym (append-nil old.mail.came);
@@ -109,16 +109,16 @@ module _ {B S : Type 0} {H : Type 0} (state : B → S) (M : Machine S) (copied :
         (subst (λ l. calls.Suspects l asker h.1.y (Err Lost) after (IsNode state M C drives m)) none
         (subst (λ f. calls.Suspects askings asker h.1.y (Err f) after (IsNode state M C drives m)) lost
         (call C drives h.1.y h.1.is)))));
-  }
+  })
 
   -- it has lost: the node halts, and is kept no longer
   pub loses : (old new : HostNode B H) (n m : code.Node B H) (generation : ℕ) → old.node ≡ hosted.Node n
-      → new.node ≡ hosted.Over → SameHost old new → new.mail ≡ old.mail
+      → new.node ≡ hosted.Halted → SameHost old new → new.mail ≡ old.mail
       → IsFrom old.mail.came (Tells (notice.Lost generation))
       → ((C : Copying S) (drives : ℕ) (x : Node S) → IsNode state M C drives n x → x.generation ≡ generation)
       → ((C : Copying S) (drives : ℕ) (x : Node S) → IsNode state M C drives n x
       → calls.Stops x (Ok tt) (IsNode state M C drives m)) → Goes state M copied old new
-  loses old new n m generation was is number mail from generation_is call = record {
+  loses old new n m generation was is number mail from generation_is call = once state M copied old new (record {
     heard = [];
     said = [];
     came = ap (λ p. p.came) mail ∙ sym (append-nil old.mail.came);
@@ -141,4 +141,4 @@ module _ {B S : Type 0} {H : Type 0} (state : B → S) (M : Machine S) (copied :
               (t (law.HasLost generation me) (meaning.OfLost generation), tt) goes.Nothing;
           is = subst (λ h. HasNode state M C drives new.number me h l.next) (sym is) tt;
         });
-  }
+  })

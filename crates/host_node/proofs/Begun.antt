@@ -21,7 +21,7 @@ use Rattle.host_frames.specs.declared.frame.Notice.TheVariants as notice
 use Rattle.host_law.specs.Frame as law
 use Rattle.host_law.specs.Host as host
 use Rattle.host_node.proofs.Calling.{told}
-use Rattle.host_node.proofs.Going.{ran_one}
+use Rattle.host_node.proofs.Going.{once, ran_one}
 use Rattle.host_node.proofs.Roles.{keeps_reads, never_spare}
 use Rattle.host_node.specs.Goes as goes
 use Rattle.host_node.specs.Goes.{Goes}
@@ -69,7 +69,7 @@ module _ {B S : Type 0} {H : Type 0} (state : B → S) (M : Machine S) (copied :
       → calls.HasTakenKeys M x → IsNode state M C drives n x
       → calls.BeginsPair M x (Ok began) (IsNode state M C drives m)) → Goes state M copied old new
   begins old new n m generation place before count began was is same came went from next role_is generation_is count_is call =
-      record {
+      once state M copied old new (record {
         heard = [];
         said = went.bytes ∷ [];
         came = came ∙ sym (append-nil old.mail.came);
@@ -109,14 +109,14 @@ module _ {B S : Type 0} {H : Type 0} (state : B → S) (M : Machine S) (copied :
                 },
               );
             });
-      }
+      })
 
   pub joins_it : (old new : HostNode B H) (callbacks : H) (n : code.Node B H) (generation place count : ℕ)
       → old.node ≡ hosted.Spare callbacks → new.node ≡ hosted.Node n → new.number ≡ generation → new.drives ≡ old.drives
       → new.mail ≡ old.mail → IsFrom old.mail.came (Tells (notice.Join generation place old.drives count))
       → ((C : Copying S) (x : Node S) → C.part_count ≡ part_count old.drives → calls.Joins C generation count Shared x
       → IsNode state M C old.drives n x) → Goes state M copied old new
-  joins_it old new callbacks n generation place count was is number drives mail from call = record {
+  joins_it old new callbacks n generation place count was is number drives mail from call = once state M copied old new (record {
     heard = [];
     said = [];
     came = ap (λ p. p.came) mail ∙ sym (append-nil old.mail.came);
@@ -150,4 +150,4 @@ module _ {B S : Type 0} {H : Type 0} (state : B → S) (M : Machine S) (copied :
             },
           );
         });
-  }
+  })

@@ -13,7 +13,7 @@ use Rattle.host_frames.specs.Meaning as meaning
 use Rattle.host_law.specs.Frame.{Act, Came, Frame, quiet, sending, taking}
 use Rattle.host_law.specs.Host as host
 use Rattle.host_law.specs.Host.{HostStep}
-use Rattle.host_node.proofs.Going.{ran_one}
+use Rattle.host_node.proofs.Going.{once, ran_one}
 use Rattle.host_node.proofs.Roles.{keeps_reads, never_spare}
 use Rattle.host_node.specs.Goes as goes
 use Rattle.host_node.specs.Goes.{AllBring, Goes, RunsTo, Says}
@@ -50,7 +50,7 @@ module _ {B S : Type 0} {H : Type 0} (state : B → S) (M : Machine S) (copied :
   pub calls_once : (old new : HostNode B H) (n m : code.Node B H) (heard said : List (List ℕ)) → old.node ≡ hosted.Node n
       → new.node ≡ hosted.Node m → SameHost old new → new.mail.came ≡ old.mail.came ++ heard
       → new.mail.gone ≡ old.mail.gone ++ said → IsCalled new n m said → Goes state M copied old new
-  calls_once old new n m heard said was is number came gone call = record {
+  calls_once old new n m heard said was is number came gone call = once state M copied old new (record {
     heard = heard;
     said = said;
     came = came;
@@ -76,7 +76,7 @@ module _ {B S : Type 0} {H : Type 0} (state : B → S) (M : Machine S) (copied :
             },
           );
         });
-  }
+  })
 
   -- a call with no frame
   pub quietly : (old new : HostNode B H) (n m : code.Node B H) → old.node ≡ hosted.Node n → new.node ≡ hosted.Node m
@@ -143,7 +143,7 @@ module _ {B S : Type 0} {H : Type 0} (state : B → S) (M : Machine S) (copied :
   pub saying : (old new : HostNode B H) (said : Said) → new.node ≡ old.node → SameHost old new
       → new.mail.came ≡ old.mail.came → HasSaid said old.mail.gone new.mail.gone
       → ((drives me : ℕ) → Speaks drives me said []) → Goes state M copied old new
-  saying old new said same number came went speaks = record {
+  saying old new said same number came went speaks = once state M copied old new (record {
     heard = [];
     said = went.bytes ∷ [];
     came = came ∙ sym (append-nil old.mail.came);
@@ -160,4 +160,4 @@ module _ {B S : Type 0} {H : Type 0} (state : B → S) (M : Machine S) (copied :
       };
       is = rw same (rw number.number hosted);
     };
-  }
+  })

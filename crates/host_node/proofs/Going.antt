@@ -8,7 +8,7 @@ use Rattle.host_law.specs.Frame.{Act, Came, Frame, sent, taken}
 use Rattle.host_law.specs.Host as host
 use Rattle.host_law.specs.Host.{HostRun, HostStep}
 use Rattle.host_node.specs.Goes as goes
-use Rattle.host_node.specs.Goes.{AllBring, Goes, Ran, RunsTo, Says}
+use Rattle.host_node.specs.Goes.{Goes, Moves, Ran, Says}
 use Rattle.host_node.specs.Hosts.{HasJoined, IsHosted, SameHost}
 use Rattle.host_node.specs.Mail.{HasSaid, IsFrom}
 use Rattle.host_node.specs.declared.host.HostNode.{HostNode}
@@ -29,13 +29,6 @@ sent_both (x ∷ xs) ys = ap (λ l. x.sends ++ l) (sent_both xs ys) ∙ sym (app
 pub came_both : (xs ys before : List Frame) → Came xs before → Came ys before → Came (xs ++ ys) before
 came_both [] ys before p q = q
 came_both (x ∷ xs) ys before p q = (p.0, came_both xs ys before p.1 q)
-
-says_both : (drives me : ℕ) (a b : List (List ℕ)) (f g : List Frame) → Says drives me a f → Says drives me b g
-    → Says drives me (a ++ b) (f ++ g)
-says_both drives me a b f g goes.Nothing q = q
-says_both drives me a b f g (goes.Then {rest = rest} {more = more} bytes said frames spells speaks p) q =
-    subst (λ l. Says drives me (bytes ∷ (rest ++ b)) l) (sym (append_assoc frames more g))
-    (goes.Then bytes said frames spells speaks (says_both drives me rest b more g p q))
 
 pub run_both : {S : Type 0} (M : Machine S) (C : Copying S) (me : ℕ) (x y z : Node S) (a b : List Act) → HostRun M C me x a y
     → HostRun M C me y b z → HostRun M C me x (a ++ b) z
@@ -70,17 +63,6 @@ module _ {S : Type 0} (M : Machine S) (C : Copying S) (drives me : ℕ) where
   pub ran_none : (x : Node S) (frames : List Frame) → Ran M C drives me x frames [] x
   ran_none x frames = record { acts = []; run = host.Rests; came = tt; says = goes.Nothing }
 
-  pub ran_both : (x y z : Node S) (frames : List Frame) (a b : List (List ℕ)) → Ran M C drives me x frames a y
-      → Ran M C drives me y frames b z → Ran M C drives me x frames (a ++ b) z
-  ran_both x y z frames a b p q = record {
-    acts = p.acts ++ q.acts;
-    run = run_both M C me x y z p.acts q.acts p.run q.run;
-    came = subst (λ l. Came l frames) (sym (taken_both p.acts q.acts))
-        (came_both (taken p.acts) (taken q.acts) frames p.came q.came);
-    says = subst (λ l. Says drives me (a ++ b) l) (sym (sent_both p.acts q.acts))
-        (says_both drives me a b (sent p.acts) (sent q.acts) p.says q.says);
-  }
-
   -- one call
   pub ran_one : (x y : Node S) (frames : List Frame) (act : Act) (said : List (List ℕ)) → HostStep M C me x act y
       → Came act.takes frames → Says drives me said act.sends → Ran M C drives me x frames said y
@@ -92,10 +74,14 @@ module _ {S : Type 0} (M : Machine S) (C : Copying S) (drives me : ℕ) where
   }
 
 module _ {B S : Type 0} {H : Type 0} (state : B → S) (M : Machine S) (copied : B → Guest) where
+  -- one move
+  pub once : (old new : HostNode B H) → Moves state M copied old new → Goes state M copied old new
+  once old new move = goes.Next new goes.Rests move
+
   -- nothing was called
   pub nothing_yet : (old new : HostNode B H) (heard : List (List ℕ)) → new.node ≡ old.node → SameHost old new
       → new.mail.came ≡ old.mail.came ++ heard → new.mail.gone ≡ old.mail.gone → Goes state M copied old new
-  nothing_yet old new heard node number came gone = record {
+  nothing_yet old new heard node number came gone = once old new (record {
     heard = heard;
     said = [];
     came = came;
@@ -107,7 +93,7 @@ module _ {B S : Type 0} {H : Type 0} (state : B → S) (M : Machine S) (copied :
       ran = ran_none M C old.drives me x frames;
       is = rw node (rw number.number hosted);
     };
-  }
+  })
 
   -- nothing changed, or nothing that is promised
   pub stays : (old new : HostNode B H) → new.node ≡ old.node → SameHost old new → new.mail ≡ old.mail
@@ -132,24 +118,5 @@ module _ {B S : Type 0} {H : Type 0} (state : B → S) (M : Machine S) (copied :
   heard_one old new body node number came gone = nothing_yet old new (body ∷ []) node number came gone
 
   pub and_then : (a b c : HostNode B H) → Goes state M copied a b → Goes state M copied b c → Goes state M copied a c
-  and_then a b c p q = record {
-    heard = p.heard ++ q.heard;
-    said = p.said ++ q.said;
-    came = q.came ∙ ap (λ l. l ++ q.heard) p.came ∙ append_assoc a.mail.came p.heard q.heard;
-    gone = q.gone ∙ ap (λ l. l ++ q.said) p.gone ∙ append_assoc a.mail.gone p.said q.said;
-    stays = λ joined. (let s = p.stays joined in let t = q.stays s.0 in (t.0, t.1 ∙ s.1));
-    drives = q.drives ∙ p.drives;
-    runs = λ C me copies is x hosted frames brought.
-        (let first = p.runs C me copies (λ joined. (let t = q.stays joined in sym t.1 ∙ is t.0)) x hosted frames
-        (λ body among. brought body (subst (λ l. Among body l) (sym q.came)
-        (among_before body b.mail.came q.heard among))) in
-        let then = subst (λ d. CopiesAs state copied d C.parts C.part_count C.assemble
-        → IsHosted state M C d me b first.y → AllBring d me c.mail.came frames
-        → RunsTo state M C d me first.y frames q.said c) p.drives
-        (λ copies hosted brought. q.runs C me copies is first.y hosted frames brought) copies first.is brought in
-        record {
-          y = then.y;
-          ran = ran_both M C a.drives me x first.y then.y frames p.said q.said first.ran then.ran;
-          is = then.is;
-        });
-  }
+  and_then a b c p goes.Rests = p
+  and_then a b c p (goes.Next {mid = mid} new q move) = goes.Next new (and_then a b mid p q) move

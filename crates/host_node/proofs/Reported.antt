@@ -18,7 +18,7 @@ use Rattle.host_law.specs.Frame.{Act, Came, Frame, sent, taken}
 use Rattle.host_law.specs.Host as host
 use Rattle.host_law.specs.Host.{HostRun, HostStep}
 use Rattle.host_node.proofs.Calling.{saying}
-use Rattle.host_node.proofs.Going.{came_both, run_both, sent_both, taken_both}
+use Rattle.host_node.proofs.Going.{once, came_both, run_both, sent_both, taken_both}
 use Rattle.host_node.specs.Goes as goes
 use Rattle.host_node.specs.Goes.{Goes}
 use Rattle.host_node.specs.Hosts.{HasJoined, HasNode, SameHost}
@@ -75,7 +75,7 @@ module _ {B S : Type 0} {H : Type 0} (state : B → S) (M : Machine S) (copied :
       → HasSaid (Tells (notice.Report report)) old.mail.gone new.mail.gone
       → IsCovered state M n 0 (slice_index report.covered 0) → IsCovered state M n 1 (slice_index report.covered 1)
       → Goes state M copied old new
-  reports old new n report was is same came went first second = record {
+  reports old new n report was is same came went first second = once state M copied old new (record {
     heard = [];
     said = went.bytes ∷ [];
     came = came ∙ sym (append-nil old.mail.came);
@@ -117,7 +117,7 @@ module _ {B S : Type 0} {H : Type 0} (state : B → S) (M : Machine S) (copied :
             },
           );
         });
-  }
+  })
 
   -- without a node nothing is covered
   pub reports_none : (old new : HostNode B H) (report : Report) → new.node ≡ old.node → SameHost old new

@@ -39,10 +39,10 @@ pub record RunsTo {B S : Type 0} {H : Type 0} (state : B → S) (M : Machine S) 
   pub ran : Ran M C drives me x frames said y
   pub is : IsHosted state M C drives me new y
 
--- From one state of a host to a later one: bodies came and frames went, and whatever node of the law the host has, this
--- node has made a run that leads to the one that it has then. It holds of whatever list of frames has what the bodies mean,
--- and of the number that the host has then.
-pub record Goes {B S : Type 0} {H : Type 0} (state : B → S) (M : Machine S) (copied : B → Guest) (old new : HostNode B H)
+-- One move of a host: bodies came, and then frames went, and whatever node of the law the host has, this node has made a run
+-- that leads to the one that it has then. It holds of whatever list of frames has what the bodies mean that ever came, and of
+-- the number that the host has then.
+pub record Moves {B S : Type 0} {H : Type 0} (state : B → S) (M : Machine S) (copied : B → Guest) (old new : HostNode B H)
     : Type 0 where
   pub heard : List (List ℕ)
   pub said : List (List ℕ)
@@ -53,3 +53,10 @@ pub record Goes {B S : Type 0} {H : Type 0} (state : B → S) (M : Machine S) (c
   pub runs : (C : Copying S) (me : ℕ) → CopiesAs state copied old.drives C.parts C.part_count C.assemble →
       IsNumber me new → (x : Node S) → IsHosted state M C old.drives me old x → (frames : List Frame) →
       AllBring old.drives me new.mail.came frames → RunsTo state M C old.drives me x frames said new
+
+-- From one state of a host to a later one, move by move: what it says in one may be answered before the next.
+pub data Goes {B S : Type 0} {H : Type 0} (state : B → S) (M : Machine S) (copied : B → Guest) (first : HostNode B H)
+    : HostNode B H → Type 0 where
+  Rests : Goes state M copied first first
+  Next : {mid : HostNode B H} (new : HostNode B H) → Goes state M copied first mid → Moves state M copied mid new →
+      Goes state M copied first new

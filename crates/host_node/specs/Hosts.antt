@@ -27,7 +27,7 @@ abbrev pub HasNode : {B S : Type 0} {H : Type 0} → (B → S) → Machine S →
     → Node S → Type 0
 HasNode state M C drives number me (hosted.Spare callbacks) x = x.role ≡ Spare
 HasNode state M C drives number me (hosted.Node node) x = (number ≡ me) × Stands state M C drives node x
-HasNode state M C drives number me hosted.Over x = Unit {0}
+HasNode state M C drives number me hosted.Halted x = Unit {0}
 
 abbrev pub IsHosted : {B S : Type 0} {H : Type 0} → (B → S) → Machine S → Copying S → (drives me : ℕ) → HostNode B H
     → Node S → Type 0
@@ -37,7 +37,7 @@ IsHosted state M C drives me h x = HasNode state M C drives h.number me h.node x
 abbrev pub HasJoined : {B : Type 0} {H : Type 0} → Hosted B H → Type 0
 HasJoined (hosted.Spare callbacks) = ⊥
 HasJoined (hosted.Node node) = Unit {0}
-HasJoined hosted.Over = Unit {0}
+HasJoined hosted.Halted = Unit {0}
 
 -- it is the same host: its number, and the drives of the pair's machines
 pub record SameHost {B : Type 0} {H : Type 0} (old new : HostNode B H) : Type 0 where

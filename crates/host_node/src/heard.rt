@@ -8,7 +8,7 @@ pub enum Heard {
     /// The frame says nothing that is new to this host, or nothing that its node takes.
     Nothing,
     /// The bytes are no frame, or a packet of the peer is none of its log, or fits nothing.
-    Nonsense,
+    Malformed,
     /// A packet of the peer came that says only that it is there.
     Beat,
     /// An entry of the log is held now, or was before.

@@ -31,7 +31,7 @@ impl<B: Copies<H> + Drop, H: Drop> HostNode<B, H> {
         };
         match frame_of(&body) {
             Ok(frame) => Ok(Some(self.take(&frame)?)),
-            Err(_) => Ok(Some(Heard::Nonsense)),
+            Err(_) => Ok(Some(Heard::Malformed)),
         }
     }
 
@@ -63,7 +63,7 @@ impl<B: Copies<H> + Drop, H: Drop> HostNode<B, H> {
             [LOG, ..] => self.take_entry(host, bytes),
             [ACKNOWLEDGED, ..] | [REPORTED, ..] => self.take_acknowledgement(host, bytes),
             [PART, ..] => self.take_part(host, bytes),
-            _ => Ok(Heard::Nonsense),
+            _ => Ok(Heard::Malformed),
         }
     }
 
@@ -79,7 +79,7 @@ impl<B: Copies<H> + Drop, H: Drop> HostNode<B, H> {
         match node.on_log(bytes) {
             Ok(_) => Ok(Heard::Entry),
             Err(Fault::OutOfMemory) => Err(Fault::OutOfMemory),
-            Err(Fault::Malformed) => Ok(Heard::Nonsense),
+            Err(Fault::Malformed) => Ok(Heard::Malformed),
             Err(_) => Ok(Heard::Nothing),
         }
     }
@@ -95,7 +95,7 @@ impl<B: Copies<H> + Drop, H: Drop> HostNode<B, H> {
         };
         match node.on_ack(bytes) {
             Ok(covered) => Ok(Heard::Acknowledged(covered)),
-            Err(Fault::Malformed) | Err(Fault::BadAck) => Ok(Heard::Nonsense),
+            Err(Fault::Malformed) | Err(Fault::BadAck) => Ok(Heard::Malformed),
             Err(_) => Ok(Heard::Nothing),
         }
     }
@@ -112,7 +112,7 @@ impl<B: Copies<H> + Drop, H: Drop> HostNode<B, H> {
         match node.part(self.alloc, bytes) {
             Ok(came) => Ok(Heard::Part(came)),
             Err(Fault::OutOfMemory) => Err(Fault::OutOfMemory),
-            Err(Fault::Malformed) => Ok(Heard::Nonsense),
+            Err(Fault::Malformed) => Ok(Heard::Malformed),
             Err(_) => Ok(Heard::Nothing),
         }
     }

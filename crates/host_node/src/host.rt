@@ -16,7 +16,7 @@ use std::alloc::Global;
 pub enum Hosted<B: Copies<H> + Drop, H: Drop> {
     Spare(H),
     Node(Node<B, H>),
-    Over,
+    Halted,
 }
 
 /// A host: the number of its node among the hosts of the pair, how many drives the pair's machines have, the place of the
@@ -80,7 +80,7 @@ impl<B: Copies<H> + Drop, H: Drop> HostNode<B, H> {
         match &self.node {
             Hosted::Spare(_) => None,
             Hosted::Node(node) => Some(node.role()),
-            Hosted::Over => Some(Role::Halted),
+            Hosted::Halted => Some(Role::Halted),
         }
     }
 
@@ -88,7 +88,7 @@ impl<B: Copies<H> + Drop, H: Drop> HostNode<B, H> {
     pub fn generation(&self) -> u32 {
         match &self.node {
             Hosted::Node(node) => node.generation(),
-            Hosted::Spare(_) | Hosted::Over => 0,
+            Hosted::Spare(_) | Hosted::Halted => 0,
         }
     }
 
@@ -96,7 +96,7 @@ impl<B: Copies<H> + Drop, H: Drop> HostNode<B, H> {
     pub fn count(&self) -> u64 {
         match &self.node {
             Hosted::Node(node) => node.count(),
-            Hosted::Spare(_) | Hosted::Over => 0,
+            Hosted::Spare(_) | Hosted::Halted => 0,
         }
     }
 
@@ -130,7 +130,7 @@ impl<B: Copies<H> + Drop, H: Drop> HostNode<B, H> {
     pub fn guest(&self) -> Option<&B> {
         match &self.node {
             Hosted::Node(node) => node.guest(),
-            Hosted::Spare(_) | Hosted::Over => None,
+            Hosted::Spare(_) | Hosted::Halted => None,
         }
     }
 

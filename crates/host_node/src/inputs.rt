@@ -120,7 +120,7 @@ impl<B: Copies<H> + Drop, H: Drop> HostNode<B, H> {
     {
         let sector = read.sector;
         if usize::from(read.drive) >= DRIVES || sector >= SECTORS {
-            return Ok(Heard::Nonsense);
+            return Ok(Heard::Malformed);
         }
         let is_taken = match self.role() {
             Some(Role::Backup) | Some(Role::Draining) => self.take_wanted(read),

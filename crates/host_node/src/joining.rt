@@ -39,7 +39,7 @@ impl<B: Copies<H> + Drop, H: Drop> HostNode<B, H> {
                 Ok(Heard::Won)
             }
             Err(Fault::Lost) => {
-                self.node = Hosted::Over;
+                self.node = Hosted::Halted;
                 Ok(Heard::Lost)
             }
             Err(fault) => Err(fault),
@@ -59,7 +59,7 @@ impl<B: Copies<H> + Drop, H: Drop> HostNode<B, H> {
             return Ok(Heard::Nothing);
         }
         node.stop()?;
-        self.node = Hosted::Over;
+        self.node = Hosted::Halted;
         Ok(Heard::Lost)
     }
 
@@ -99,13 +99,13 @@ impl<B: Copies<H> + Drop, H: Drop> HostNode<B, H> {
         ensures { Goes B.state B.machine B.copied self.old self.new }
     {
         if generation == 0 || drives == 0 || usize::from(drives) > DRIVES {
-            return Ok(Heard::Nonsense);
+            return Ok(Heard::Malformed);
         }
         if drives != self.drives {
             return Ok(Heard::Nothing);
         }
         let assembly = Assembly::new(self.alloc, generation, drives)?;
-        match mem::replace(&mut self.node, Hosted::Over) {
+        match mem::replace(&mut self.node, Hosted::Halted) {
             Hosted::Spare(callbacks) => {
                 let node = Node::joining(assembly, callbacks, generation, count, Reads::Shared);
                 self.node = Hosted::Node(node);

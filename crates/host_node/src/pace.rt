@@ -164,7 +164,7 @@ impl Pace {
             Heard::Joined => self.join(),
             Heard::Tick => self.silent = self.silent.saturating_add(1),
             Heard::Stop => self.end = Some(End::Stopped),
-            Heard::Nothing | Heard::Nonsense | Heard::Progress { .. } => {}
+            Heard::Nothing | Heard::Malformed | Heard::Progress { .. } => {}
         }
     }
 

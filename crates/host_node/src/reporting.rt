@@ -17,7 +17,7 @@ impl<B: Copies<H> + Drop, H: Drop> HostNode<B, H> {
     pub fn report(&self) -> Report {
         match &self.node {
             Hosted::Node(node) => self.report_of(node),
-            Hosted::Spare(_) | Hosted::Over => self.report_of_none(),
+            Hosted::Spare(_) | Hosted::Halted => self.report_of_none(),
         }
     }
 
@@ -34,7 +34,7 @@ impl<B: Copies<H> + Drop, H: Drop> HostNode<B, H> {
                 let report = self.report_of(node);
                 self.mail.say(&Frame::Notice(Notice::Report(report)))?;
             }
-            Hosted::Spare(_) | Hosted::Over => {
+            Hosted::Spare(_) | Hosted::Halted => {
                 let report = self.report_of_none();
                 self.mail.say(&Frame::Notice(Notice::Report(report)))?;
             }
@@ -62,7 +62,7 @@ impl<B: Copies<H> + Drop, H: Drop> HostNode<B, H> {
     {
         let generation = match &self.node {
             Hosted::Spare(_) => 0,
-            Hosted::Node(_) | Hosted::Over => self.number.max(1),
+            Hosted::Node(_) | Hosted::Halted => self.number.max(1),
         };
         Report {
             generation,

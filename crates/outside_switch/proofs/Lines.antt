@@ -165,13 +165,7 @@ posted lines place a b said true there sends = (
 posted lines place a b said false there sends =
     lines_one lines place a b [] [] there sends refl (λ other ne. refl)
 
--- the line of the place changed afterwards, but for its rings and its number
-pub posted_and : (place : ℕ) (said : Said) (a b c : List HostLine) → Posts place said true a b → LinesGo [] b c →
-    Posts place said true a c
-posted_and place said a b c posts goes =
-    (posts.0, posts.1, lines_both (record { place = place; bytes = posts.0 } ∷ []) [] a b c posts.2 goes)
-
--- the same, of the lines that were lent
+-- a frame that went, of the lines that were lent
 pub posts_from : (place : ℕ) (said : Said) (r : Bool) (a b c : List HostLine) → a ≡ b → Posts place said r a c →
     Posts place said r b c
 posts_from place said r a b c same posts = subst (λ l. Posts place said r l c) same posts

@@ -1,6 +1,6 @@
 -- No two places have one number: each step keeps the numbers, but for one that was given to no other place.
 use Rattle.std.proofs.Common.{ℕ, ◌≡◌, ◌⊎◌, Bool, true, false, Option, Some, None, List, [], ◌∷◌, refl, sym, ap, ◌∙◌, subst, eq-eqb, eqb-true, inl, inr}
-use Rattle.std.specs.Prelude.{◌==◌, slice_get, slice_set}
+use Rattle.std.specs.Prelude.{◌==◌, ◌&&◌, is_none, not, slice_get, slice_set}
 use Rattle.std.specs.Global.{Vec}
 use Rattle.std.specs.List.{list_all}
 use Rattle.std.proofs.lemmas.List.Sums.{AllPass-from_list_all}
@@ -8,7 +8,7 @@ use Rattle.std.proofs.lemmas.Option.{get_or_from_slice_get, slice_get_within}
 use Rattle.pair_protocol.proofs.Traces.Lists.{get_set, get_set_other}
 use Rattle.outside_switch.specs.Goes as goes
 use Rattle.outside_switch.specs.Goes.{Goes}
-use Rattle.outside_switch.specs.Lines.{AreApart, AtPlace, IsClosed, LineGoes, LinesGo, MayBeGiven, OneLine, PlaceGoes, Pushed, is_other, number_at, number_in, pushed_to}
+use Rattle.outside_switch.specs.Lines.{AreApart, AtPlace, IsClosed, LineGoes, LinesGo, MayBeGiven, OneLine, PlaceGoes, Pushed, is_other, is_spare, number_at, number_in, pushed_to, reports_spare}
 use Rattle.outside_switch.specs.Meets.{Seen}
 use Rattle.outside_switch.specs.declared.line.HostLine.{HostLine}
 
@@ -33,6 +33,15 @@ none_given lines number all place is = go (slice_get lines place) refl is
         (slice_get_within lines place line e) in
         other line.number has
         (subst (λ (l : HostLine). is_other l.number number ≡ true) (get_or_from_slice_get lines place line line e) passes)
+
+-- a spare has no number
+pub spare_number : (line : HostLine) → is_spare line ≡ true → line.number ≡ None
+spare_number line = go (is_none line.to) line.number (reports_spare line.report)
+  where
+    go : (cut : Bool) (n : Option ℕ) (says : Bool) → (not cut && (is_none n && says)) ≡ true → n ≡ None
+    go true n says e = absurd (cc)
+    go false None says e = refl
+    go false (Some k) says e = absurd (cc)
 
 -- ---- numbers that stay
 
@@ -96,7 +105,7 @@ named_apart a place number before after there is may apart m n k p q =
     never : (other : ℕ) → (other ≡ place → ⊥) → number_at a other ≡ Some number → ⊥
     never other ne has = elim may [
       | inl mine ↦ ne (apart other place number has mine)
-      | inr none ↦ none other has
+      | inr none ↦ none.1 other has
     ]
 
     given : (j : ℕ) → after.number ≡ Some j → Some number ≡ Some j
@@ -128,7 +137,7 @@ stay_apart first last (goes.Names {old = old} begun new place generation before 
     let now : AreApart begun.lines = still_apart old.lines begun.lines same (stay_apart first old before apart) in
     let given : MayBeGiven generation place begun.lines = elim may [
       | inl mine ↦ inl (same place ∙ mine)
-      | inr none ↦ inr (λ other has. none other (sym (same other) ∙ has))
+      | inr none ↦ inr (same place ∙ none.0, λ other has. none.1 other (sym (same other) ∙ has))
     ] in
     elim names.lines [
       | inl one ↦ subst (λ l. AreApart l) (sym one.set)

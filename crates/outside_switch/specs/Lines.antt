@@ -44,13 +44,13 @@ abbrev pub Hears : Option (Vec ℕ) → HostLine → HostLine → Type 0
 Hears (Some body) a b = LineGoes (body ∷ []) [] a b
 Hears None a b = LineGoes [] [] a b × (known_items b.from ≡ [])
 
--- a spare that may be given to a generation: it says that it is one, and was told to join none
+-- a spare that may be given to a generation: it says that it is one, and has no number
 abbrev pub reports_spare : Option Report → Bool
 reports_spare None = false
 reports_spare (Some report) = is_none report.role
 
 abbrev pub is_spare : HostLine → Bool
-is_spare line = not (is_none line.to) && (not line.joins && reports_spare line.report)
+is_spare line = not (is_none line.to) && (is_none line.number && reports_spare line.report)
 
 -- ---- all lines
 
@@ -127,10 +127,11 @@ abbrev pub is_other : Option ℕ → ℕ → Bool
 is_other None other = true
 is_other (Some number) other = not (number == other)
 
--- a generation's number was given to this place before, or to none
+-- a generation's number was given to this place before; or this place has none, and no other one has this one
 abbrev pub MayBeGiven : ℕ → ℕ → List HostLine → Type 0
 MayBeGiven generation place lines =
-    (number_at lines place ≡ Some generation) ⊎ ((other : ℕ) → number_at lines other ≡ Some generation → ⊥)
+    (number_at lines place ≡ Some generation)
+    ⊎ ((number_at lines place ≡ None) × ((other : ℕ) → number_at lines other ≡ Some generation → ⊥))
 
 -- no two places have one number
 abbrev pub AreApart : List HostLine → Type 0

@@ -18,10 +18,8 @@ pub struct HostLine {
     to: Option<Producer<Vec<u8>>>,
     // Wakes the thread that writes to the host.
     wake: Arc<Parker>,
-    // Which host of the law it is; None of a spare that was given to no generation yet.
+    // Which host of the law it is, for good; None of a spare that was given to no generation yet.
     number: Option<u32>,
-    // Whether it is a host of a generation already: one of the first, or one that was told to join.
-    joins: bool,
     // What it reported last.
     report: Option<Report>,
 }
@@ -43,7 +41,6 @@ impl HostLine {
             to: Some(to),
             wake,
             number,
-            joins: number.is_some(),
             report: None,
         }
     }
@@ -98,13 +95,6 @@ impl HostLine {
         self.number = Some(number);
     }
 
-    /// A host was told to join by this line.
-    pub(crate) fn join(&mut self)
-        ensures { self.new ≡ record self.old { joins = true } }
-    {
-        self.joins = true;
-    }
-
     /// Which host of the law it is.
     pub fn number(&self) -> Option<u32>
         ensures { result ≡ self.now.number }
@@ -126,11 +116,11 @@ impl HostLine {
         self.to.is_none()
     }
 
-    /// Whether the host is a spare that can be given to a generation: nobody was told to join by its line.
+    /// Whether the host is a spare that can be given to a generation: it says that it is one, and has no number yet.
     pub fn is_spare(&self) -> bool
         ensures { result ≡ is_spare self.now }
     {
-        if self.to.is_none() || self.joins {
+        if self.to.is_none() || self.number.is_some() {
             return false;
         }
         match self.report {

@@ -247,7 +247,7 @@ impl<D: SectorStore> Switch<D> {
             drives,
             count,
         };
-        let _ = places::post_join(&mut self.lines, alloc, host, &Frame::Notice(passed));
+        let _ = places::post(&mut self.lines, alloc, host, &Frame::Notice(passed));
         Heard::Met
     }
 }

@@ -34,28 +34,6 @@ pub(crate) fn post_all(lines: &mut [HostLine], alloc: Global, frame: &Frame<'_>)
     }
 }
 
-/// Sends the host at a place the frame by which it is to join. Returns false if there is none, or if the frame is lost.
-#[tactic(auto, using(crate::proofs::Lines::posted_and))]
-pub(crate) fn post_join(lines: &mut [HostLine], alloc: Global, place: u8, frame: &Frame<'_>) -> bool
-    ensures { table.Posts place (said_by frame.now) result lines.old lines.new }
-{
-    if !post(lines, alloc, place, frame) {
-        return false;
-    }
-    join(lines, place);
-    true
-}
-
-// The host at a place was told to join.
-fn join(lines: &mut [HostLine], place: u8)
-    ensures goes { table.LinesGo [] lines.old lines.new }
-{
-    let place = usize::from(place);
-    if place < lines.len() {
-        lines[place].join();
-    }
-}
-
 /// Keeps what the host at a place reports. Returns whether its role is another one.
 pub(crate) fn keep(lines: &mut [HostLine], place: u8, report: &Report) -> bool
     ensures kept { table.AtPlace place (table.IsReported report.now) lines.old lines.new }
@@ -142,8 +120,8 @@ pub(crate) fn is_open(lines: &[HostLine], place: u8) -> bool
     !lines[place].is_cut()
 }
 
-/// Whether the host at a place can be given to a generation, as the host of its number: it was already, or it is a spare, and the number
-/// was given to no other place.
+/// Whether the host at a place can be given to a generation, as the host of its number: it was already, or it is a spare
+/// without a number, and the number was given to no other place.
 pub(crate) fn may_be_given(lines: &[HostLine], generation: u32, place: u8) -> bool
     ensures { result ≡ true → table.MayBeGiven generation place lines.now }
 {
@@ -156,8 +134,10 @@ pub(crate) fn may_be_given(lines: &[HostLine], generation: u32, place: u8) -> bo
     is_free(lines, generation)
 }
 
-// Whether a spare is at a place.
-fn is_spare(lines: &[HostLine], place: u8) -> bool {
+// Whether a spare without a number is at a place.
+fn is_spare(lines: &[HostLine], place: u8) -> bool
+    ensures { result ≡ true → table.number_at lines.now place ≡ None }
+{
     let place = usize::from(place);
     if place >= lines.len() {
         return false;

@@ -11,9 +11,9 @@ use Rattle.outside_switch.proofs.switch.Switch.meet_join.Goals as goal
 
 pub returns-clause-meets : goal.returns-clause-meets
 returns-clause-meets g c =
-    met_in _ (seen c.args.self.now) c.args.self.now.devices c.args.self.now.lines.len c.post_join.new.lines c.args.self.now.lines.items (omega arith)
-    (passed_met c.args.place c.args.host _ _ c.post_join.result (seen c.args.self.now)
-    (record { devices = c.args.self.now.devices; lines = c.post_join.new.lines }) (OfJoin c.args.generation c.args.drives c.args.count
+    met_in _ (seen c.args.self.now) c.args.self.now.devices c.args.self.now.lines.len c.post.new.lines c.args.self.now.lines.items (omega arith)
+    (passed_met c.args.place c.args.host _ _ c.post.result (seen c.args.self.now)
+    (record { devices = c.args.self.now.devices; lines = c.post.new.lines }) (OfJoin c.args.generation c.args.drives c.args.count
     (subst (λ l. number_at l c.args.host ≡ Some c.args.generation) c.deref.ensures.value (c.is_number.ensures c.if-not-is_number.false))) refl
-    (posts_from c.args.host (Tells (Join c.args.generation c.args.place c.args.drives c.args.count)) c.post_join.result c.deref_mut.result.now
-    c.args.self.now.lines.items c.post_join.new.lines c.deref_mut.ensures.value c.post_join.ensures))
+    (posts_from c.args.host (Tells (Join c.args.generation c.args.place c.args.drives c.args.count)) c.post.result c.deref_mut.result.now
+    c.args.self.now.lines.items c.post.new.lines c.deref_mut.ensures.value c.post.ensures))
