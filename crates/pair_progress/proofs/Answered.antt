@@ -11,7 +11,7 @@ use Rattle.pair_protocol.specs.Effects.{Again, Comes, Completes, GotPart}
 use Rattle.pair_protocol.specs.Reply.{Accepted, Dropped, New, Old, Refused, Reply}
 use Rattle.pair_protocol.specs.Row.{Accepts, Run}
 use Rattle.pair_protocol.specs.Rows.{Does, drain_reply}
-use Rattle.pair_progress.specs.Leads.{CarriedOut, First, NoneRefuses, Nothing}
+use Rattle.pair_progress.specs.Leads.{CarriedOut, First, NoneFails, NoneRefuses, Nothing}
 
 new_or_old : (next : Bool) (fault : Fault) → (if next then New else Old) ≢ Refused fault
 new_or_old true fault is = (cc)
@@ -63,8 +63,8 @@ no_refusal M C w new (Fetch n) r d fault is = let k = sym is ∙ d.reply in (cc)
 no_refusal M C w new (Fetched m n) r d fault is = let k = sym is ∙ d.reply in (cc)
 
 pub carried_runs : {S : Type 0} (M : Machine S) (C : Copying S) (w new : World S) (events : List Event) →
-    CarriedOut M C w events new → (replies : List Reply) × Run M C w events replies new × NoneRefuses replies
-carried_runs M C w new events Nothing = ([], Run.Nothing, tt)
-carried_runs M C w new _ (First {mid = v} {e = e} {events = es} r p d rest) =
+    CarriedOut M C w events new → (replies : List Reply) × Run M C w events replies new × NoneRefuses replies × NoneFails replies
+carried_runs M C w new events Nothing = ([], Run.Nothing, tt, tt)
+carried_runs M C w new _ (First {mid = v} {e = e} {events = es} r fine p d rest) =
     let k = carried_runs M C v new es rest in
-    (r ∷ k.0, Run.First (Accepts p d) k.1, (no_refusal M C w v e r d, k.2))
+    (r ∷ k.0, Run.First (Accepts p d) k.1, (no_refusal M C w v e r d, k.2), (fine, k.3))

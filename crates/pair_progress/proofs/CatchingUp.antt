@@ -148,9 +148,9 @@ module _ {S : Type 0} (M : Machine S) (C : Copying S) (laws : Lawful M) (copies 
           Leads M C w (IsLogging n m) (suc (suc most)) (λ new. IsCaughtUp new n m generation)
       one_entry most rest =
           and_then M C w (IsLogging n m) (suc most) (λ new. IsCaughtUp new n m generation) sent (Send n (length p.y.held))
-          (MessageIs (length w.messages)) refl may_send sends
+          (MessageIs (length w.messages)) (λ f. f) refl may_send sends
           (and_then M C sent (IsLogging n m) most (λ new. IsCaughtUp new n m generation) then
-          (DeliverLog (length w.messages) m) New refl may_hold delivers rest)
+          (DeliverLog (length w.messages) m) New (λ f. f) refl may_hold delivers rest)
 
     -- ---- all is held, and it is acknowledged
 
@@ -233,9 +233,10 @@ module _ {S : Type 0} (M : Machine S) (C : Copying S) (laws : Lawful M) (copies 
       acknowledged : Leads M C w (IsLogging n m) 2 (λ new. IsCaughtUp new n m generation)
       acknowledged =
           and_then M C w (IsLogging n m) 1 (λ new. IsCaughtUp new n m generation) told (Acknowledge m)
-          (MessageIs (length w.messages)) refl may_tell tells
+          (MessageIs (length w.messages)) (λ f. f) refl may_tell tells
           (and_then M C told (IsLogging n m) 0 (λ new. IsCaughtUp new n m generation) heard
-          (DeliverAcknowledgement (length w.messages) n) (HeldIs (max p.x.covered (length p.y.held))) refl may_hear hearing
+          (DeliverAcknowledgement (length w.messages) n) (HeldIs (max p.x.covered (length p.y.held))) (λ f. f) refl may_hear
+          hearing
           (is_there M C heard (IsLogging n m) 0 (λ new. IsCaughtUp new n m generation) caught_up))
 
   -- entry by entry

@@ -1,5 +1,5 @@
 -- A live node completes one outstanding operation: the byte that is due, or a write.
-use Rattle.std.proofs.Common.{◌≡◌, ◌≢◌, ℕ, ◌+◌, ◌-◌, ◌<◌, ◌≤◌, inl, inr, true, false, cond, not, Option, Some, None, is_none, List, [], ◌∷◌, ◌++◌, length, length-append, refl, ap, ◌∙◌, arith, eq-eqb, eqb-true, ltb-true, leb-true}
+use Rattle.std.proofs.Common.{◌≡◌, ◌≢◌, ℕ, ◌+◌, ◌-◌, ◌<◌, ◌≤◌, inl, inr, Bool, true, false, cond, not, Option, Some, None, is_none, List, [], ◌∷◌, ◌++◌, length, length-append, refl, ap, ◌∙◌, arith, eq-eqb, eqb-true, ltb-true, leb-true}
 use Rattle.std.specs.Prelude.{slice_get, ◌==◌, ◌&&◌, ◌||◌, nat_le, nat_lt}
 use Rattle.std.specs.Option.{option_map}
 use Rattle.std.proofs.lemmas.Bool.Decides.{leb_tells}
@@ -21,7 +21,7 @@ use Rattle.pair_protocol.specs.World.{with_arrival}
 use Rattle.pair_protocol.proofs.Promises.OneMore.{accepted-one, next_byte, terminal-set}
 use Rattle.pair_protocol.proofs.Traces.Lists.{bool_cases, get-at, get_set, get_set_other}
 use Rattle.pair_progress.specs.Completion.{IsCompletion, Responds}
-use Rattle.pair_progress.specs.Leads.{Leads}
+use Rattle.pair_progress.specs.Leads.{Fails, Leads}
 use Rattle.pair_progress.proofs.Leading.{and_then, at_most, is_there, one_reaches}
 use Rattle.pair_progress.proofs.Passing.{acts_first, acts_later, at_here, in_role, not_if, not_spare, passed}
 use Rattle.pair_progress.proofs.TwoTerminals.{two_terminals}
@@ -183,7 +183,8 @@ module _ {S : Type 0} (M : Machine S) (C : Copying S) (laws : Lawful M) (copies 
     tells port k o due some le found =
         let t = responds.takes_byte live.moves live.x.machine port k live.runs due in
         let new = with_node w n (took M live.x live.x.role t.0 (input.Sent port)) in
-        and_then M C w Kind 0 (Fewer w.nodes w.winners live.x) new (TellSent n port k) Taken (ok (TellSent n port k) refl)
+        and_then M C w Kind 0 (Fewer w.nodes w.winners live.x) new (TellSent n port k) Taken (λ f. f)
+        (ok (TellSent n port k) refl)
         (passed (not_accepted w port k) (at_node (slice_get w.nodes n) (tell_sent_refusal M port k) ∷ [])
         (not_if (k == 0 || nat_lt (length (accepted w port)) k) Unknown
         (ap (λ b. b || nat_lt (length (accepted w port)) k) (not_zero k some)
@@ -219,7 +220,8 @@ module _ {S : Type 0} (M : Machine S) (C : Copying S) (laws : Lawful M) (copies 
     writes v m message found =
         let t = responds.takes_write live.moves live.x.machine v.number (Write v) live.runs found in
         let new = with_node w n (took M live.x live.x.role t.0 (input.Written v.number)) in
-        and_then M C w Kind 0 (Fewer w.nodes w.winners live.x) new (PutReply m n) Taken (ok (PutReply m n) refl)
+        and_then M C w Kind 0 (Fewer w.nodes w.winners live.x) new (PutReply m n) Taken (λ f. f)
+        (ok (PutReply m n) refl)
         (ap (λ z. at_write_done M (slice_get w.nodes n) z) message
         ∙ at_here (slice_get w.nodes n) live.x (put_reply_refusal M v.number) live.there live.real
         (server_written M w n live v.number (Write v) found))
@@ -260,6 +262,13 @@ module _ {S : Type 0} (M : Machine S) (C : Copying S) (laws : Lawful M) (copies 
     may_arrive : refusal M C sent (Arrive (length w.messages)) ≡ None
     may_arrive = ap byte_refusal message
 
+    arrives_well : Fails reply → ⊥
+    arrives_well = either (nat_lt (length (accepted sent port)) (length (accepted come port)))
+      where
+        either : (b : Bool) → Fails (cond b Accepted Dropped) → ⊥
+        either true f = f
+        either false f = f
+
     arrives : Arrives sent (length w.messages) reply come
     arrives = record { port = port; number = k; byte = byte; message = message; reply = refl; after = refl }
 
@@ -284,9 +293,9 @@ module _ {S : Type 0} (M : Machine S) (C : Copying S) (laws : Lawful M) (copies 
     pub sends_byte : Leads M C w Kind 3 (Fewer w.nodes w.winners live.x)
     sends_byte =
         and_then M C w Kind 2 (Fewer w.nodes w.winners live.x) sent (Release n (id.Byte port k))
-        (MessageIs (length w.messages)) (ok (Release n (id.Byte port k)) refl) may_send sends
+        (MessageIs (length w.messages)) (λ f. f) (ok (Release n (id.Byte port k)) refl) may_send sends
         (and_then M C sent Kind 1 (Fewer w.nodes w.winners live.x) come
-        (Arrive (length w.messages)) reply (ok (Arrive (length w.messages)) tt) may_arrive arrives
+        (Arrive (length w.messages)) reply arrives_well (ok (Arrive (length w.messages)) tt) may_arrive arrives
         (tells come come_reached (same_server M w come n refl live) port k (Byte port k byte) due (omega (arith, next)) is_accepted
         found))
 
@@ -344,9 +353,11 @@ module _ {S : Type 0} (M : Machine S) (C : Copying S) (laws : Lawful M) (copies 
     pub sends_write : Leads M C w Kind 3 (Fewer w.nodes w.winners live.x)
     sends_write =
         and_then M C w Kind 2 (Fewer w.nodes w.winners live.x) sent_write
-        (Release n (id.Write v.number)) (MessageIs (length w.messages)) (ok (Release n (id.Write v.number)) refl) may_send_write sends_it
+        (Release n (id.Write v.number)) (MessageIs (length w.messages)) (λ f. f)
+        (ok (Release n (id.Write v.number)) refl) may_send_write sends_it
         (and_then M C sent_write Kind 1 (Fewer w.nodes w.winners live.x) put
-        (Put (length w.messages)) (MessageIs (length sent_write.messages)) (ok (Put (length w.messages)) tt) may_put puts
+        (Put (length w.messages)) (MessageIs (length sent_write.messages)) (λ f. f)
+        (ok (Put (length w.messages)) tt) may_put puts
         (writes put put_reached (same_server M w put n refl live) v (length sent_write.messages)
         (get-at sent_write.messages [] (WriteDone v.number)) found))
 

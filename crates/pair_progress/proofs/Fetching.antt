@@ -29,7 +29,7 @@ pub some_of : {A : Type 0} (o : Option A) → is_none o ≡ false → (x : A) ×
 some_of None h = absurd (cc)
 some_of (Some x) h = (x, refl)
 
-wants : (fetched : Option (List ℕ)) (read : Option (ℕ × ℕ × ℕ)) (r : ℕ × ℕ × ℕ) → wanted_of fetched read ≡ Some r →
+pub wants : (fetched : Option (List ℕ)) (read : Option (ℕ × ℕ × ℕ)) (r : ℕ × ℕ × ℕ) → wanted_of fetched read ≡ Some r →
     (read ≡ Some r) × (fetched ≡ None)
 wants None read r h = (h, refl)
 wants (Some bytes) read r h = absurd (cc)
@@ -171,6 +171,6 @@ module _ {S : Type 0} (M : Machine S) (C : Copying S) (laws : Lawful M) (copies 
     pub fetch_first : (Kind : Event → Type 0) (most : ℕ) (End : World S → Type 0) → Kind (Fetch n) →
         ((m : ℕ) → Kind (Fetched m n)) → Leads M C answered Kind most End → Leads M C w Kind (suc (suc most)) End
     fetch_first Kind most End ask come rest =
-        and_then M C w Kind (suc most) End asked (Fetch n) (MessageIs (length w.messages)) ask asks asking
-        (and_then M C asked Kind most End answered (Fetched (length w.messages) n) Taken (come (length w.messages)) comes
-        coming rest)
+        and_then M C w Kind (suc most) End asked (Fetch n) (MessageIs (length w.messages)) (λ f. f) ask asks asking
+        (and_then M C asked Kind most End answered (Fetched (length w.messages) n) Taken (λ f. f)
+        (come (length w.messages)) comes coming rest)

@@ -80,7 +80,7 @@ module _ {S : Type 0} (M : Machine S) (C : Copying S) (responds : Responds M) (w
             reply = refl;
           };
         } in
-        (with_node w n y, First Taken may_take taken Nothing)
+        (with_node w n y, First Taken (λ f. f) may_take taken Nothing)
 
   pub goes_on : MayGoOn M C w n x
   goes_on = record { steps = steps; keys = takes_it }

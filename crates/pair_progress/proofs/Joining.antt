@@ -17,7 +17,7 @@ use Rattle.pair_protocol.proofs.Promises.Faithful.{reached}
 use Rattle.pair_protocol.proofs.Promises.Joining.{joining_is_given}
 use Rattle.pair_protocol.proofs.Traces.Lists.{get-at, get_set, get_set_other, same_some}
 use Rattle.pair_progress.specs.CatchingUp.{IsPair}
-use Rattle.pair_progress.specs.Leads.{Leads}
+use Rattle.pair_progress.specs.Leads.{Fails, Leads}
 use Rattle.pair_progress.specs.Renewal.{HasBegun, IsOfParts, missing}
 use Rattle.pair_progress.proofs.Fetching.{some_of}
 use Rattle.pair_progress.proofs.Imaged.{imaged}
@@ -145,18 +145,18 @@ module _ {S : Type 0} (M : Machine S) (C : Copying S) (laws : Lawful M) (copies 
 
     -- the part arrives, with a reply
     abbrev GetsIt : World S → Type 0
-    GetsIt new = (r : Reply) × row.GetsPart C sent (length w.messages) host r new
+    GetsIt new = (r : Reply) × (Fails r → ⊥) × row.GetsPart C sent (length w.messages) host r new
 
     both : (most : ℕ) (new : World S) → GetsIt new → Fills new most → Fills w (suc (suc most))
     both most new got rest =
         and_then M C w (IsOfParts n host) (suc most) (λ new. IsPair new n host generation) sent (SendPart n l.index)
-        (MessageIs (length w.messages)) refl may_send sends
+        (MessageIs (length w.messages)) (λ f. f) refl may_send sends
         (and_then M C sent (IsOfParts n host) most (λ new. IsPair new n host generation) new
-        (PartComes (length w.messages) host) got.0 refl may_come got.1 rest)
+        (PartComes (length w.messages) host) got.0 got.1 refl may_come got.2 rest)
 
     -- it is not the last one
     comes : gathered after.parts ≡ None → GetsIt came
-    comes more = (New, record {
+    comes more = (New, (λ f. f), record {
       generation = p.x.generation;
       index = l.index;
       part = l.part;
@@ -182,7 +182,7 @@ module _ {S : Type 0} (M : Machine S) (C : Copying S) (laws : Lawful M) (copies 
 
     -- it is the last one
     last_comes : (parts : List (List ℕ)) → gathered after.parts ≡ Some parts → Fills w 2
-    last_comes parts all = both 0 whole (Whole, record {
+    last_comes parts all = both 0 whole (Whole, (λ f. f), record {
       generation = p.x.generation;
       index = l.index;
       part = l.part;

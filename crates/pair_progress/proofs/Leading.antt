@@ -8,13 +8,13 @@ use Rattle.pair_protocol.specs.Row.{Accepts}
 use Rattle.pair_protocol.specs.Rows.{Does}
 use Rattle.pair_protocol.proofs.Promises.Runs.{changes_reach}
 use Rattle.pair_protocol.proofs.RowActions.{row_changes}
-use Rattle.pair_progress.specs.Leads.{CarriedOut, Each, First, Leads, Nothing}
+use Rattle.pair_progress.specs.Leads.{Fails, CarriedOut, Each, First, Leads, Nothing}
 
 pub carried-append : {S : Type 0} (M : Machine S) (C : Copying S) (w mid new : World S) (events more : List Event) →
     CarriedOut M C w events mid → CarriedOut M C mid more new → CarriedOut M C w (events ++ more) new
 carried-append M C w mid new events more Nothing k = k
-carried-append M C w mid new _ more (First {mid = v} {events = es} r p d rest) k =
-    First r p d (carried-append M C v mid new es more rest k)
+carried-append M C w mid new _ more (First {mid = v} {events = es} r fine p d rest) k =
+    First r fine p d (carried-append M C v mid new es more rest k)
 
 pub one_reaches : {S : Type 0} (M : Machine S) (C : Copying S) (w new : World S) (e : Event) (r : Reply) → Reached M C w →
     refusal M C w e ≡ None → Does M C w e r new → Reached M C new
@@ -23,7 +23,7 @@ one_reaches M C w new e r reached p d = changes_reach M C w new reached (row_cha
 pub carried_reaches : {S : Type 0} (M : Machine S) (C : Copying S) (w new : World S) (events : List Event) →
     Reached M C w → CarriedOut M C w events new → Reached M C new
 carried_reaches M C w new events reached Nothing = reached
-carried_reaches M C w new _ reached (First {mid = v} {e = e} {events = es} r p d rest) =
+carried_reaches M C w new _ reached (First {mid = v} {e = e} {events = es} r fine p d rest) =
     carried_reaches M C v new es (one_reaches M C w v e r reached p d) rest
 
 pub each-append : (Kind : Event → Type 0) (events more : List Event) → Each Kind events → Each Kind more →
@@ -38,12 +38,12 @@ module _ {S : Type 0} (M : Machine S) (C : Copying S) (w : World S) (Kind : Even
   is_there e = record { events = []; new = w; done = Nothing; kind = tt; few = omega arith; end = e }
 
   -- one event, and then others
-  pub and_then : (mid : World S) (e : Event) (r : Reply) → Kind e → refusal M C w e ≡ None → Does M C w e r mid →
-      Leads M C mid Kind most End → Leads M C w Kind (suc most) End
-  and_then mid e r k p d l = record {
+  pub and_then : (mid : World S) (e : Event) (r : Reply) → (Fails r → ⊥) → Kind e → refusal M C w e ≡ None →
+      Does M C w e r mid → Leads M C mid Kind most End → Leads M C w Kind (suc most) End
+  and_then mid e r fine k p d l = record {
     events = e ∷ l.events;
     new = l.new;
-    done = First r p d l.done;
+    done = First r fine p d l.done;
     kind = (k, l.kind);
     few = (let f = l.few in omega (arith, f));
     end = l.end;

@@ -21,3 +21,6 @@ pub mod PairExact
 pub mod Settling
 pub mod Recovering
 pub mod Reading
+pub mod OneMove
+pub mod Outcomes
+pub mod Following

@@ -182,9 +182,9 @@ module _ {S : Type 0} (M : Machine S) (C : Copying S) (laws : Lawful M) (copies 
     pub sector_comes : Leads M C w (IsReading n) 2 (λ new. HasTaken M new n generation x.machine drive sector)
     sector_comes =
         and_then M C w (IsReading n) 1 (λ new. HasTaken M new n generation x.machine drive sector) asked (Get n sector)
-        (MessageIs (length w.messages)) refl may_ask asks
+        (MessageIs (length w.messages)) (λ f. f) refl may_ask asks
         (and_then M C asked (IsReading n) 0 (λ new. HasTaken M new n generation x.machine drive sector) taken_world
-        (GetReply (length w.messages) n) Taken refl may_come comes
+        (GetReply (length w.messages) n) Taken (λ f. f) refl may_come comes
         (is_there M C taken_world (IsReading n) 0 (λ new. HasTaken M new n generation x.machine drive sector) (record {
           live = record {
             x = y;

@@ -99,7 +99,7 @@ module _ {S : Type 0} (M : Machine S) (C : Copying S) (laws : Lawful M) (copies 
       (λ new. IsPair new n host (suc generation)) (2 * C.part_count + 1) (omega (arith, k))
       (and_then M C w (IsRenewal n host) (2 * missing (replicate C.part_count None))
       (λ new. IsPair new n host (suc generation)) begun_world
-      (BeginPair n host) (GenerationIs (suc live.x.generation)) (refl, refl) may_begin begins
+      (BeginPair n host) (GenerationIs (suc live.x.generation)) (λ f. f) (refl, refl) may_begin begins
       (as_kind M C begun_world (IsOfParts n host) (IsRenewal n host) (2 * missing (replicate C.part_count None))
       (λ new. IsPair new n host (suc generation)) (of_parts n host) filled))
 

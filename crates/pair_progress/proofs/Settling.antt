@@ -1,16 +1,17 @@
 -- A whole pair comes to rest: the log is sent and held, replayed and acknowledged; then nothing that is outstanding waits, and it is
 -- completed; and then the entries of the completions are sent and acknowledged.
-use Rattle.std.proofs.Common.{◌≡◌, ℕ, zero, suc, ◌+◌, ◌-◌, ◌*◌, ◌<◌, ◌≤◌, inl, inr, Bool, true, false, max, not, Option, Some, None, is_none, List, [], ◌∷◌, ◌++◌, drop, length, length-append, refl, sym, ap, subst, ◌∙◌, arith, lt-ltb, le-leb}
-use Rattle.std.specs.Prelude.{slice_get, ◌&&◌, nat_le}
+use Rattle.std.proofs.Common.{◌≡◌, ℕ, zero, suc, ◌+◌, ◌-◌, ◌*◌, ◌<◌, ◌≤◌, inl, inr, Bool, true, false, cond, max, not, Option, Some, None, is_none, List, [], ◌∷◌, ◌++◌, drop, length, length-append, refl, sym, ap, subst, ◌∙◌, arith, eq-eqb, lt-ltb, le-leb}
+use Rattle.std.specs.Prelude.{◌==◌, slice_get, ◌&&◌, nat_le}
 use Rattle.std.proofs.lemmas.Option.{slice_get_cases}
 use Rattle.event_callbacks.proofs.Names.{name_cases}
 use Rattle.guest_lockstep.specs.declared.reads.Reads.TheVariants.{Logged, Shared}
 use Rattle.guest_lockstep.specs.declared.replay_end.ReplayEnd.{ReplayEnd}
+use Rattle.guest_lockstep.specs.declared.replay_end.ReplayEnd.TheVariants as ended
 use Rattle.i8080_words.specs.declared.refusal.Fault.TheVariants.{LogFull, NotCovered, NotDue, Spent}
 use Rattle.pair_events.specs.declared.event.Event.{Event}
 use Rattle.pair_events.specs.declared.event.Event.TheVariants.{Acknowledge, Arrive, DeliverAcknowledgement, DeliverLog, Put, PutReply, Release, Replay, Send, TellSent}
 use Rattle.pair_protocol.proofs.Words.{Acts, Alone, Among, Backup, Copying, Entry, IsCopying, Lawful, Machine, Node, Note, OpId, Operation, Primary, Reached, Reads, Spare, World, covers, entries, entry_of, fetches, is_role, note_of, primary_takes, replay_told, sector_record, steps, told_by, winner_in, with_node}
-use Rattle.pair_protocol.specs.Effects.{replay_end, took}
+use Rattle.pair_protocol.specs.Effects.{replay_end, took, wanted}
 use Rattle.pair_protocol.specs.Lawful.{top}
 use Rattle.pair_protocol.specs.ReadsKept.{StillReplays}
 use Rattle.pair_protocol.specs.Refusals.{fault_if, log_size, refusal, release_refusal, replay_refusal, serves}
@@ -25,7 +26,7 @@ use Rattle.pair_protocol.proofs.Promises.Settling.{highest_is}
 use Rattle.pair_protocol.proofs.Traces.Lists.{get_set, get_set_other}
 use Rattle.pair_protocol.proofs.Waiting.{no_reads}
 use Rattle.pair_progress.specs.Completion.{IsCompletion, Responds}
-use Rattle.pair_progress.specs.Leads.{Leads}
+use Rattle.pair_progress.specs.Leads.{Fails, Leads}
 use Rattle.pair_progress.specs.CatchingUp.{IsPair, lacks}
 use Rattle.pair_progress.specs.Settling.{IsPairAtRest, IsPairing, reads_left}
 use Rattle.pair_progress.specs.Takeover.{less_fetched, reads_among, to_fetch}
@@ -82,11 +83,12 @@ module _ {S : Type 0} (M : Machine S) (C : Copying S) (laws : Lawful M) (copies 
         (let l = length-append p.y.held (g.0 ∷ []) in
         at_most M C w (IsPairing n m) (suc (suc (2 * k))) (AllHeld p.x p.y.replayed p.y.fetched) (2 * suc k) (omega arith)
         (and_then M C w (IsPairing n m) (suc (2 * k)) (AllHeld p.x p.y.replayed p.y.fetched)
-        (relief.sent M C laws copies n m generation w r p g.0 g.2) (Send n (length p.y.held)) (MessageIs (length w.messages)) refl
+        (relief.sent M C laws copies n m generation w r p g.0 g.2) (Send n (length p.y.held)) (MessageIs (length w.messages))
+        (λ f. f) refl
         (relief.may_send M C laws copies n m generation w r p g.0 g.2) (relief.sends M C laws copies n m generation w r p g.0 g.2)
         (and_then M C (relief.sent M C laws copies n m generation w r p g.0 g.2) (IsPairing n m) (2 * k)
         (AllHeld p.x p.y.replayed p.y.fetched) (relief.then M C laws copies n m generation w r p g.0 g.2)
-        (DeliverLog (length w.messages) m) New refl (relief.may_hold M C laws copies n m generation w r p g.0 g.2)
+        (DeliverLog (length w.messages) m) New (λ f. f) refl (relief.may_hold M C laws copies n m generation w r p g.0 g.2)
         (relief.delivers M C laws copies n m generation w r p g.0 g.2)
         (sends_all k (relief.then M C laws copies n m generation w r p g.0 g.2)
         (relief.then_reached M C laws copies n m generation w r p g.0 g.2)
@@ -121,6 +123,17 @@ module _ {S : Type 0} (M : Machine S) (C : Copying S) (laws : Lawful M) (copies 
 
     abbrev why : ReplayEnd
     why = replay_end M f.y f.made f.made
+
+    -- all moves that were asked for are made, if something is left
+    whole : Fails (Moved f.made why) → ⊥
+    whole = go (f.y.replayed == length f.y.held) (is_none (wanted M f.y)) (f.made == f.made) (eq-eqb f.made f.made refl)
+      where
+        go : (all none same : Bool) → same ≡ true →
+            Fails (Moved f.made (cond all ended.End (cond none (cond same ended.Turns ended.Memory) ended.Wait))) → ⊥
+        go true none same is f = f
+        go false true true is f = f
+        go false true false is f = absurd (cc)
+        go false false same is f = f
 
     replays : ReplaysHeld M w m f.made (Moved f.made why) next
     replays = record {
@@ -203,15 +216,16 @@ module _ {S : Type 0} (M : Machine S) (C : Copying S) (laws : Lawful M) (copies 
       go_on : (most : ℕ) (End : World S → Type 0) → Leads M C then (IsPairing n m) most End →
           Leads M C w (IsPairing n m) (suc (suc (suc most))) End
       go_on most End rest =
-          and_then M C w (IsPairing n m) (suc (suc most)) End next (Replay m f.made) (Moved f.made why) refl may_replay replays
+          and_then M C w (IsPairing n m) (suc (suc most)) End next (Replay m f.made) (Moved f.made why)
+          whole refl may_replay replays
           (fetch_first M C laws copies next next_reached m f.y Backup acts_on (inl refl) still a (IsPairing n m) most End refl
           (λ k. refl) rest)
 
     -- nothing is left
     all_done : (most : ℕ) → f.y.replayed ≡ length f.y.held → Leads M C w (IsPairing n m) (suc most) (AllReplayed p.x p.y.held)
     all_done most e =
-        and_then M C w (IsPairing n m) most (AllReplayed p.x p.y.held) next (Replay m f.made) (Moved f.made why) refl may_replay
-        replays
+        and_then M C w (IsPairing n m) most (AllReplayed p.x p.y.held) next (Replay m f.made) (Moved f.made why)
+        whole refl may_replay replays
         (is_there M C next (IsPairing n m) most (AllReplayed p.x p.y.held)
         (record { q = next_pair; x_is = refl; held_is = f.held; replayed_is = e }))
 
@@ -263,10 +277,10 @@ module _ {S : Type 0} (M : Machine S) (C : Copying S) (laws : Lawful M) (copies 
         Leads M C w (IsPairing n m) (suc (suc most)) End
     acknowledges most End rest =
         and_then M C w (IsPairing n m) (suc most) End (relief.told M C laws copies n m generation w r p held) (Acknowledge m)
-        (MessageIs (length w.messages)) refl (relief.may_tell M C laws copies n m generation w r p held)
+        (MessageIs (length w.messages)) (λ f. f) refl (relief.may_tell M C laws copies n m generation w r p held)
         (relief.tells M C laws copies n m generation w r p held)
         (and_then M C (relief.told M C laws copies n m generation w r p held) (IsPairing n m) most End heard
-        (DeliverAcknowledgement (length w.messages) n) (HeldIs (max p.x.covered (length p.y.held))) refl
+        (DeliverAcknowledgement (length w.messages) n) (HeldIs (max p.x.covered (length p.y.held))) (λ f. f) refl
         (relief.may_hear M C laws copies n m generation w r p held) (relief.hearing M C laws copies n m generation w r p held)
         rest)
 

@@ -77,7 +77,7 @@ module _ {S : Type 0} (M : Machine S) (C : Copying S) (laws : Lawful M) (copies 
         Leads M C w (IsItsOwn n) (suc most) (λ new. IsLive new n x.generation)
     live_now most e =
         and_then M C w (IsItsOwn n) most (λ new. IsLive new n x.generation) (with_node w n (goes_live f.y)) (Drain n f.made)
-        (drain_reply f.made End) refl may_drain (drained End (end_is M f.y f.made f.made e))
+        (drain_reply f.made End) (λ f. f) refl may_drain (drained End (end_is M f.y f.made f.made e))
         (is_there M C (with_node w n (goes_live f.y)) (IsItsOwn n) most (λ new. IsLive new n x.generation) (record {
           x = goes_live f.y;
           there = get_set w.nodes n x (goes_live f.y) there;
@@ -126,7 +126,7 @@ module _ {S : Type 0} (M : Machine S) (C : Copying S) (laws : Lawful M) (copies 
           Leads M C w (IsItsOwn n) (suc (suc (suc most))) (λ new. IsLive new n x.generation)
       go_on most rest =
           and_then M C w (IsItsOwn n) (suc (suc most)) (λ new. IsLive new n x.generation) waits_in (Drain n f.made)
-          (drain_reply f.made Wait) refl may_drain (drained Wait (wait_is M f.y f.made f.made a))
+          (drain_reply f.made Wait) (λ f. f) refl may_drain (drained Wait (wait_is M f.y f.made f.made a))
           (fetch_first M C laws copies waits_in then_reached n f.y Draining acts_on (inr refl) still a (IsItsOwn n) most
           (λ new. IsLive new n x.generation) refl (λ m. refl) rest)
 
@@ -173,7 +173,7 @@ module _ {S : Type 0} (M : Machine S) (C : Copying S) (laws : Lawful M) (copies 
 
     asks : (most : ℕ) → Leads M C won (IsItsOwn n) most (λ new. IsLive new n x.generation) →
         Leads M C w (IsItsOwn n) (suc most) (λ new. IsLive new n x.generation)
-    asks most rest = and_then M C w (IsItsOwn n) most (λ new. IsLive new n x.generation) won (Suspect n) Won refl
+    asks most rest = and_then M C w (IsItsOwn n) most (λ new. IsLive new n x.generation) won (Suspect n) Won (λ f. f) refl
         (nothing_refuses M C w n x m) asked_won rest
 
   may_win : (w : World S) (n : ℕ) (x : Node S) → slice_get w.nodes n ≡ Some x → x.running ≡ true →

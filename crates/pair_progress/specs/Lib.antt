@@ -1,5 +1,6 @@
 -- What "never stuck" means: events that are all carried out lead on.
 pub mod Leads
+pub mod Following
 -- A node by itself: it goes live, completes what is outstanding, reads the disk, and goes on.
 pub mod Takeover
 pub mod Completion

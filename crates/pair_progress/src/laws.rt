@@ -2,6 +2,7 @@
 ghost use Rattle.pair_progress.specs.Always.{Always, AsksNothing, AsksParts, AsksResponse, AsksSectors};
 ghost use Rattle.pair_progress.specs.CatchingUp.{CatchesUp};
 ghost use Rattle.pair_progress.specs.Completion.{Completes, CompletesSoon};
+ghost use Rattle.pair_progress.specs.Following.{HasOneOutcome, IsFollowed};
 ghost use Rattle.pair_progress.specs.Going.{CaughtUpGoesOn, LiveGoesOn, ServesOn};
 ghost use Rattle.pair_progress.specs.Leads.{CarriedOutRuns};
 ghost use Rattle.pair_progress.specs.Reading.{SectorsCome};
@@ -14,6 +15,13 @@ ghost use Rattle.pair_progress.specs.Takeover.{TakesOver};
 /// rules, not as out of memory, and not as a fault of the disk.
 pub fn carried_out_runs<S>()
     ensures runs { CarriedOutRuns S }
+{}
+
+/// An event has one outcome, unless memory or the disk fails; so a run of the events of such a list, in which nothing fails
+/// and no host is added, leads where the list leads.
+pub fn lists_are_followed<S>()
+    ensures once { Always S AsksNothing HasOneOutcome }
+    ensures followed { Always S AsksNothing IsFollowed }
 {}
 
 /// Whatever happened before: a node that is up and whole, and whose generation nobody else has won, goes live by a few
