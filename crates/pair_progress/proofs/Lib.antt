@@ -16,6 +16,7 @@ pub mod Slots
 pub mod Imaged
 pub mod Joining
 pub mod Renewing
+pub mod Lacking
 pub mod Going
 pub mod PairExact
 pub mod Settling

@@ -29,7 +29,7 @@ of_parts n host (SendPart a index) k = k
 of_parts n host (PartComes message b) k = k
 of_parts n host e k = absurd k
 
-none_yet : (k : ℕ) → 0 < k → gathered (replicate k None) ≡ None
+pub none_yet : (k : ℕ) → 0 < k → gathered (replicate k None) ≡ None
 none_yet zero some = absurd (omega (arith, some))
 none_yet (suc k) some = refl
 

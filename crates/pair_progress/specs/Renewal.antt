@@ -1,12 +1,15 @@
 -- Renewal: a live node and a spare host become a whole pair again; and a host that lost parts of its image gets them.
 use Rattle.std.specs.Prelude.{◌≡◌, ℕ, zero, suc, ◌+◌, ◌*◌, ◌<◌, true, Option, Some, None, List, [], ◌∷◌, slice_get}
 use Rattle.guest_lockstep.specs.Machine.{Machine}
+use Rattle.guest_lockstep.specs.declared.reads.Reads.{Reads}
 use Rattle.pair_events.specs.declared.event.Event.{Event}
 use Rattle.pair_events.specs.declared.event.Event.TheVariants.{BeginPair, SendPart, PartComes}
 use Rattle.pair_protocol.specs.Copying.{Copying}
 use Rattle.pair_protocol.specs.Node.{Node, Primary, Joining, Spare, gathered}
 use Rattle.pair_protocol.specs.Refusals.{last_generation}
-use Rattle.pair_protocol.specs.World.{World, winner_in}
+use Rattle.pair_protocol.specs.Reply.{Reply}
+use Rattle.pair_protocol.specs.Row.{Run}
+use Rattle.pair_protocol.specs.World.{World, opening, winner_in}
 use Rattle.pair_progress.specs.CatchingUp.{IsPair}
 use Rattle.pair_progress.specs.Leads.{Leads}
 use Rattle.pair_progress.specs.Takeover.{IsLive}
@@ -42,6 +45,15 @@ IsOfParts n host e = ⊥
 abbrev pub HostsJoin : {S : Type 0} → Machine S → Copying S → World S → Type 0
 HostsJoin M C w = (n host generation : ℕ) (pair : HasBegun w n host generation) →
     Leads M C w (IsOfParts n host) (2 * missing pair.y.parts) (λ new. IsPair new n host generation)
+
+-- in every world of a run a host that joins lacks a part, so it is such a host
+abbrev pub JoinersLack : {S : Type 0} → Machine S → Copying S → World S → Type 0
+JoinersLack {S} M C w = (n : ℕ) (x : Node S) → slice_get w.nodes n ≡ Some x → x.role ≡ Joining → gathered x.parts ≡ None
+
+abbrev pub JoinersInRunsLack : (S : Type 0) → Type 0
+JoinersInRunsLack S =
+    (M : Machine S) (C : Copying S) → 0 < C.part_count → (reads : Reads) (events : List Event) (replies : List Reply)
+    (w : World S) → Run M C (opening M reads) events replies w → JoinersLack M C w
 
 -- a pair begins, and the parts of its image are sent and arrive
 abbrev pub IsRenewal : ℕ → ℕ → Event → Type 0

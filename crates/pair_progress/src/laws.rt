@@ -7,7 +7,7 @@ ghost use Rattle.pair_progress.specs.Going.{CaughtUpGoesOn, LiveGoesOn, ServesOn
 ghost use Rattle.pair_progress.specs.Leads.{CarriedOutRuns};
 ghost use Rattle.pair_progress.specs.Reading.{SectorsCome};
 ghost use Rattle.pair_progress.specs.Recovery.{Recovers};
-ghost use Rattle.pair_progress.specs.Renewal.{HostsJoin, Renews};
+ghost use Rattle.pair_progress.specs.Renewal.{HostsJoin, JoinersInRunsLack, Renews};
 ghost use Rattle.pair_progress.specs.Settling.{PairsSettle};
 ghost use Rattle.pair_progress.specs.Takeover.{TakesOver};
 
@@ -55,9 +55,11 @@ pub fn pairs_settle<S>()
     ensures { Always S AsksResponse PairsSettle }
 {}
 
-/// Whatever was lost before: a host that joins, and lacks some part of the image, becomes the backup.
+/// Whatever was lost before: a host that joins, and lacks some part of the image, becomes the backup; and in every world of
+/// a run each host that joins lacks one.
 pub fn hosts_join<S>()
-    ensures { Always S AsksParts HostsJoin }
+    ensures joins { Always S AsksParts HostsJoin }
+    ensures lacks { JoinersInRunsLack S }
 {}
 
 /// A live node and a spare host become a whole pair again.
