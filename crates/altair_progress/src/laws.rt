@@ -6,10 +6,11 @@ ghost use Rattle.guest_board.specs.Guest.{altair};
 ghost use Rattle.altair_progress.specs.Pairs.{AltairsAlways};
 ghost use Rattle.pair_progress.specs.CatchingUp.{CatchesUp};
 ghost use Rattle.pair_progress.specs.Completion.{Completes, CompletesSoon, Responds};
+ghost use Rattle.pair_progress.specs.Following.{IsFollowed};
 ghost use Rattle.pair_progress.specs.Going.{CaughtUpGoesOn, ServesOn};
 ghost use Rattle.pair_progress.specs.Reading.{ReadsSectors, SectorsCome};
 ghost use Rattle.pair_progress.specs.Recovery.{Recovers};
-ghost use Rattle.pair_progress.specs.Renewal.{HostsJoin, Renews};
+ghost use Rattle.pair_progress.specs.Renewal.{HostsJoin, JoinersLack, Renews};
 ghost use Rattle.pair_progress.specs.Settling.{PairsSettle};
 ghost use Rattle.pair_progress.specs.Takeover.{TakesOver};
 
@@ -31,7 +32,8 @@ pub fn altairs_respond()
 
 /// Whatever events came, in whatever order: a node that may still serve goes on after a few events of its own; a live node
 /// brings all that is outstanding to its devices, and reads its disk; a whole pair empties its log, and comes to rest; a
-/// live node makes a whole pair with a spare host; and a host that lacks parts of its image gets them.
+/// live node makes a whole pair with a spare host; and a host that joins lacks parts of its image, and gets them. Whoever
+/// makes these events, and is told of no failure, is where they lead.
 pub fn altair_pairs_are_never_stuck()
     ensures takes_over { AltairsAlways TakesOver }
     ensures serves { AltairsAlways ServesOn }
@@ -43,7 +45,9 @@ pub fn altair_pairs_are_never_stuck()
     ensures settle { AltairsAlways PairsSettle }
     ensures renew { AltairsAlways Renews }
     ensures join { AltairsAlways HostsJoin }
+    ensures lack { AltairsAlways JoinersLack }
     ensures read { AltairsAlways SectorsCome }
+    ensures followed { AltairsAlways IsFollowed }
 {
     altairs_are_lawful();
     altairs_respond();

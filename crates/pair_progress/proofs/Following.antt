@@ -1,10 +1,10 @@
 -- Who makes the events of a list, without a failure, is where the list leads.
-use Rattle.std.proofs.Common.{◌≡◌, ℕ, zero, suc, ◌≤◌, inl, inr, List, [], ◌∷◌, ◌++◌, length, length-append, refl, sym, ap, subst, ◌∙◌, arith}
+use Rattle.std.proofs.Common.{◌≡◌, ℕ, zero, suc, ◌≤◌, inl, inr, List, [], ◌∷◌, length, length-append, refl, ap, subst, ◌∙◌, arith}
 use Rattle.std.proofs.lemmas.Option.{slice_get_cases, slice_get_within}
 use Rattle.pair_events.specs.declared.event.Event.{Event}
 use Rattle.pair_protocol.proofs.Words.{Changes, Copying, IsCopying, Lawful, Machine, Reached, World, spare, with_host}
 use Rattle.pair_protocol.specs.Reply.{Reply}
-use Rattle.pair_protocol.specs.Row.{Accepts, Row, Run}
+use Rattle.pair_protocol.specs.Row.{Accepts, Run}
 use Rattle.pair_protocol.specs.Row as row
 use Rattle.pair_protocol.proofs.RowActions.{row_changes}
 use Rattle.pair_protocol.proofs.Promises.Lists.{changes_longer}

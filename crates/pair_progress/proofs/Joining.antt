@@ -156,13 +156,17 @@ module _ {S : Type 0} (M : Machine S) (C : Copying S) (laws : Lawful M) (copies 
 
     -- it is not the last one
     comes : gathered after.parts ≡ None → GetsIt came
-    comes more = (New, (λ f. f), record {
-      generation = p.x.generation;
-      index = l.index;
-      part = l.part;
-      message = message;
-      at = record { x = p.y; there = p.joining; y = after; done = Comes l.place more; after = refl };
-    })
+    comes more = (
+      New,
+      (λ f. f),
+      record {
+        generation = p.x.generation;
+        index = l.index;
+        part = l.part;
+        message = message;
+        at = record { x = p.y; there = p.joining; y = after; done = Comes l.place more; after = refl };
+      },
+    )
 
     abbrev goes_on : gathered after.parts ≡ None → HasBegun came n host generation
     goes_on more = record {
@@ -182,19 +186,23 @@ module _ {S : Type 0} (M : Machine S) (C : Copying S) (laws : Lawful M) (copies 
 
     -- it is the last one
     last_comes : (parts : List (List ℕ)) → gathered after.parts ≡ Some parts → Fills w 2
-    last_comes parts all = both 0 whole (Whole, (λ f. f), record {
-      generation = p.x.generation;
-      index = l.index;
-      part = l.part;
-      message = message;
-      at = record {
-        x = p.y;
-        there = p.joining;
-        y = joins after given.machine;
-        done = Completes parts given.machine l.place all (given.all parts all);
-        after = refl;
-      };
-    }) (is_there M C whole (IsOfParts n host) 0 (λ new. IsPair new n host generation) (record {
+    last_comes parts all = both 0 whole (
+      Whole,
+      (λ f. f),
+      record {
+        generation = p.x.generation;
+        index = l.index;
+        part = l.part;
+        message = message;
+        at = record {
+          x = p.y;
+          there = p.joining;
+          y = joins after given.machine;
+          done = Completes parts given.machine l.place all (given.all parts all);
+          after = refl;
+        };
+      },
+    ) (is_there M C whole (IsOfParts n host) 0 (λ new. IsPair new n host generation) (record {
       x = p.x;
       y = joins after given.machine;
       primary = get_set_other w.nodes host n (joins after given.machine) apart ∙ p.primary;

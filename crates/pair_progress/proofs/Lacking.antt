@@ -1,6 +1,6 @@
 -- In every world of a run a host that joins lacks a part: the event that brings the last one makes it the backup.
-use Rattle.std.proofs.Common.{◌≡◌, ℕ, zero, suc, ◌<◌, inl, inr, Bool, true, false, Option, Some, None, List, [], ◌∷◌, ◌++◌, replicate, refl, sym, ap, subst, ◌∙◌, arith}
-use Rattle.std.specs.Prelude.{slice_get, slice_set}
+use Rattle.std.proofs.Common.{◌≡◌, ℕ, zero, suc, ◌<◌, inl, inr, Bool, true, false, Option, Some, None, List, refl, sym, ap, subst, ◌∙◌}
+use Rattle.std.specs.Prelude.{slice_set}
 use Rattle.event_callbacks.specs.declared.operations.Operation.{Operation}
 use Rattle.guest_lockstep.specs.declared.input.Input.{Input}
 use Rattle.guest_lockstep.specs.declared.input.Input.TheVariants as input
@@ -126,9 +126,9 @@ module _ {S : Type 0} (M : Machine S) (C : Copying S) (some : 0 < C.part_count) 
   wins_lacks : (w new : World S) (n : ℕ) (r : Reply) → Suspects w n r new → AllLack w → AllLack new
   wins_lacks w new n r d all = elim d.after [
     | inl k ↦ subst AllLack (sym k.1) (λ m z at. elim (get_set_cases w.nodes n m (wins d.x) z at) [
-        | inl e ↦ subst Lacks (sym e.1) (λ role. all n d.x d.there (won_lacks d.x d.x.role role))
-        | inr old ↦ all m z old
-      ])
+      | inl e ↦ subst Lacks (sym e.1) (λ role. all n d.x d.there (won_lacks d.x d.x.role role))
+      | inr old ↦ all m z old
+    ])
     | inr k ↦ subst AllLack (sym k.1) all
   ]
 

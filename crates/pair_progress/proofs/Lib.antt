@@ -19,6 +19,7 @@ pub mod Renewing
 pub mod Lacking
 pub mod Going
 pub mod PairExact
+pub mod WholeLog
 pub mod Settling
 pub mod Recovering
 pub mod Reading

@@ -1,5 +1,5 @@
 -- The moves of one node are determined, unless memory ends them: its steps, and what it makes from the entries that it holds.
-use Rattle.std.proofs.Common.{◌≡◌, ◌≢◌, ℕ, zero, suc, ◌<◌, ◌⊎◌, inl, inr, Bool, true, false, cond, Option, Some, None, is_none, List, [], ◌∷◌, length, refl, sym, ap, subst, ◌∙◌, arith, eqb-true}
+use Rattle.std.proofs.Common.{◌≡◌, ◌≢◌, ℕ, zero, suc, ◌<◌, ◌⊎◌, inl, inr, Bool, true, false, Option, Some, None, is_none, List, [], ◌∷◌, length, refl, sym, ap, subst, ◌∙◌, arith, eqb-true}
 use Rattle.std.specs.Prelude.{slice_get, ◌==◌, if◌then◌else◌}
 use Rattle.std.proofs.Math.Dec.{eqb-suc-suc, eqb-zero-suc}
 use Rattle.std.proofs.lemmas.Option.{slice_get_within}
@@ -12,7 +12,7 @@ use Rattle.guest_lockstep.specs.declared.running.StopReason.TheVariants as reaso
 use Rattle.i8080_words.specs.declared.refusal.Fault.TheVariants.{OutOfMemory}
 use Rattle.log_entry.specs.declared.entry.Entry.TheVariants as entry
 use Rattle.pair_protocol.specs.NodeStands.{IsReached}
-use Rattle.pair_protocol.proofs.Words.{Alone, Backup, Do, Draining, Entry, Joining, Lawful, Machine, Mark, Move, Node, Operation, Primary, Role, Spare, bare_of, count_of, input_of, passes_input, passes_mark, passes_read, plainly_steps}
+use Rattle.pair_protocol.proofs.Words.{Alone, Backup, Do, Draining, Entry, Joining, Lawful, Machine, Mark, Node, Operation, Primary, Role, Spare, bare_of, count_of, input_of, passes_input, passes_mark, passes_read, plainly_steps}
 use Rattle.pair_protocol.specs.Effects.{Advances, AtEnd, AwaitsBytes, Ends, Gives, Goes, IsBehind, NoMemory, NoTurns, NoneLeft, OneInput, OneMark, OneRead, OneStep, Replays, Short, Waits, next_read, replay_end, stepped, wanted}
 use Rattle.pair_protocol.proofs.OneNode.{is-at-read}
 use Rattle.pair_protocol.proofs.Traces.Lists.{same_some}

@@ -1,28 +1,26 @@
 -- An event that is carried out has one outcome, unless memory ends it.
-use Rattle.std.proofs.Common.{◌≡◌, ◌≢◌, ℕ, zero, suc, inl, inr, Bool, true, false, Option, Some, None, List, [], ◌∷◌, length, refl, sym, ap, subst, ◌∙◌}
+use Rattle.std.proofs.Common.{◌≡◌, ◌≢◌, ℕ, inl, inr, Bool, true, false, Some, None, List, length, refl, sym, ap, subst, ◌∙◌}
 use Rattle.std.specs.Prelude.{slice_get, ◌⊎◌}
 use Rattle.disk_dcdd.specs.declared.address.SectorAddress.{SectorAddress}
 use Rattle.event_callbacks.specs.declared.operations.OpId.{OpId}
-use Rattle.event_callbacks.specs.declared.operations.Operation.{Operation}
 use Rattle.event_callbacks.specs.declared.operations.Operation.TheVariants.{Byte, Write}
-use Rattle.disk_dcdd.specs.declared.sector.SectorWrite.{SectorWrite}
 use Rattle.guest_lockstep.specs.declared.input.Input.{Input}
 use Rattle.guest_lockstep.specs.declared.input.Input.TheVariants as input
 use Rattle.guest_lockstep.specs.declared.replay_end.ReplayEnd.{ReplayEnd}
-use Rattle.guest_lockstep.specs.declared.replay_end.ReplayEnd.TheVariants.{End, Memory, Turns, Wait}
+use Rattle.guest_lockstep.specs.declared.replay_end.ReplayEnd.TheVariants.{Memory}
 use Rattle.guest_lockstep.specs.declared.running.StopReason.{StopReason}
 use Rattle.guest_lockstep.specs.declared.running.StopReason.TheVariants as reason
 use Rattle.i8080_words.specs.declared.refusal.Fault.{Fault}
-use Rattle.i8080_words.specs.declared.refusal.Fault.TheVariants.{DeviceFault, Lost, OutOfMemory}
+use Rattle.i8080_words.specs.declared.refusal.Fault.TheVariants.{Lost, OutOfMemory}
 use Rattle.pair_events.specs.declared.event.Event.{Event}
 use Rattle.pair_events.specs.declared.event.Event.TheVariants as event
 use Rattle.pair_protocol.proofs.Words.{Acknowledgement, Copying, Entry, ImagePart, IsCopying, Lawful, LogEntry, Machine, Message, Node, Reached, Released, SectorRead, Serving, World, WriteDone, fetches, gathered, gets_part, hears, joins, keys_covered, replay_told, terminal, winner_in, with_message, with_node}
-use Rattle.pair_protocol.specs.Effects.{Again, Comes, Completes, Drained, GotPart, Halted, Heard, Held, IsUnder, Replayed, Stepped, Took, Wants, after_drain, replay_end, took, wanted}
+use Rattle.pair_protocol.specs.Effects.{Again, Comes, Completes, Drained, GotPart, Halted, Heard, Held, Replayed, Stepped, Took, after_drain, replay_end, took, wanted}
 use Rattle.pair_protocol.specs.Effects as effect
-use Rattle.pair_protocol.specs.Refusals.{refusal, serves, step_refusal}
+use Rattle.pair_protocol.specs.Refusals.{refusal, step_refusal}
 use Rattle.pair_protocol.specs.Reply.{Moved, Ran, Refused, Reply}
 use Rattle.pair_protocol.specs.Row.{Accepts, DeviceFails, Leaves, NeedsMemory, Refuses, Row}
-use Rattle.pair_protocol.specs.Rows.{AtNode, Does, OfNode, drain_reply}
+use Rattle.pair_protocol.specs.Rows.{AtNode, Does, drain_reply}
 use Rattle.pair_protocol.specs.Rows as row
 use Rattle.pair_protocol.specs.World.{with_arrival, with_pair, with_put, with_read, with_told, with_winner}
 use Rattle.pair_protocol.specs.NodeStands.{IsReached}

@@ -1,7 +1,10 @@
 -- The laws of any lawful machine, for the Altair.
+use Rattle.altair_copies.specs.Copies.{image_copy}
+use Rattle.guest_board.specs.Guest.{altair}
 use Rattle.pair_progress.specs.Always.{AsksNothing, AsksParts, AsksResponse, AsksSectors}
 use Rattle.pair_progress.specs.CatchingUp.{CatchesUp}
 use Rattle.pair_progress.specs.Completion.{Completes, CompletesSoon}
+use Rattle.pair_progress.specs.Following.{IsFollowed}
 use Rattle.pair_progress.specs.Going.{CaughtUpGoesOn, ServesOn}
 use Rattle.pair_progress.specs.Reading.{SectorsCome}
 use Rattle.pair_progress.specs.Recovery.{Recovers}
@@ -9,8 +12,10 @@ use Rattle.pair_progress.specs.Renewal.{HostsJoin, Renews}
 use Rattle.pair_progress.specs.Settling.{PairsSettle}
 use Rattle.pair_progress.specs.Takeover.{TakesOver}
 use Rattle.pair_progress.proofs.CatchingUp.{pairs_catch_up}
+use Rattle.pair_progress.proofs.Following.{is_followed}
 use Rattle.pair_progress.proofs.Going.{caught_up_goes_on, serves_on}
 use Rattle.pair_progress.proofs.Joining.{hosts_join}
+use Rattle.pair_progress.proofs.Lacking.{joiners_lack}
 use Rattle.pair_progress.proofs.Reading.{sectors_come}
 use Rattle.pair_progress.proofs.Recovering.{recovers}
 use Rattle.pair_progress.proofs.Renewing.{renews}
@@ -72,6 +77,15 @@ returns-clause-join c =
     (λ M C laws copies asks w r n host generation. hosts_join M C laws copies asks.0 n host generation w r)
     c.altairs_are_lawful.ensures c.the_image_copies.ensures
     (λ setup sectors is. ((c.the_image_copies.ensures setup sectors is).1, some_parts setup.drives))
+
+pub returns-clause-lack : goal.returns-clause-lack
+returns-clause-lack c setup sectors is events replies w run =
+    joiners_lack (altair setup sectors) (image_copy setup.drives) (some_parts setup.drives) setup.reads events replies w run
+
+pub returns-clause-followed : goal.returns-clause-followed
+returns-clause-followed c =
+    of_altairs AsksNothing IsFollowed (λ M C laws copies asks. is_followed M C laws copies) c.altairs_are_lawful.ensures
+    c.the_image_copies.ensures (λ setup sectors is. tt)
 
 pub returns-clause-read : goal.returns-clause-read
 returns-clause-read c =
