@@ -102,7 +102,8 @@ any_of p (y ∷ ys) x (inr later) is = ap (λ b. p y || b) (any_of p ys x later 
     or_true true = refl
     or_true false = refl
 
-write_of_name : (o : Operation) (number : ℕ) → id_of o ≡ id.Write number → (v : SectorWrite) × (o ≡ Write v) × (v.number ≡ number)
+write_of_name : (o : Operation) (number : ℕ) → id_of o ≡ id.Write number
+    → (v : SectorWrite) × (o ≡ Write v) × (v.number ≡ number)
 write_of_name (Byte p k byte) number h = absurd (cc)
 write_of_name (Write v) number h = (v, refl, (cc))
 
@@ -124,7 +125,8 @@ taken_write setup sectors laws stands moves g number o reached found =
 -- ---- keys
 
 taken_key : (g : Guest) (port byte : ℕ) → port < 2 → slice_index g.keys port < 2 ^ 62 - 1
-    → (u : Guest) × (cond (nat_lt port 2 && nat_lt (slice_index g.keys port) (2 ^ 62 - 1)) (Some (after_rx g port byte)) None ≡ Some u)
+    → (u : Guest)
+    × (cond (nat_lt port 2 && nat_lt (slice_index g.keys port) (2 ^ 62 - 1)) (Some (after_rx g port byte)) None ≡ Some u)
 taken_key g port byte two room =
     let there : nat_lt port 2 ≡ true = lt-ltb port 2 two in
     let free : nat_lt (slice_index g.keys port) (2 ^ 62 - 1) ≡ true = lt-ltb (slice_index g.keys port) (2 ^ 62 - 1) room in (

@@ -63,7 +63,8 @@ no_refusal M C w new (Fetch n) r d fault is = let k = sym is ∙ d.reply in (cc)
 no_refusal M C w new (Fetched m n) r d fault is = let k = sym is ∙ d.reply in (cc)
 
 pub carried_runs : {S : Type 0} (M : Machine S) (C : Copying S) (w new : World S) (events : List Event) →
-    CarriedOut M C w events new → (replies : List Reply) × Run M C w events replies new × NoneRefuses replies × NoneFails replies
+    CarriedOut M C w events new →
+    (replies : List Reply) × Run M C w events replies new × NoneRefuses replies × NoneFails replies
 carried_runs M C w new events Nothing = ([], Run.Nothing, tt, tt)
 carried_runs M C w new _ (First {mid = v} {e = e} {events = es} r fine p d rest) =
     let k = carried_runs M C v new es rest in

@@ -33,7 +33,8 @@ module _ {S : Type 0} (M : Machine S) (C : Copying S) (laws : Lawful M) (copies 
     abbrev i : Inv M C w
     i = reached M C laws copies w r
 
-    pub log_is : p.x.log ≡ entries (i.each generation).line.reads (steps (i.each generation).line.base) (i.each generation).line.own
+    pub log_is : p.x.log ≡ entries (i.each generation).line.reads (steps (i.each generation).line.base)
+        (i.each generation).line.own
     log_is = subst
         (λ k. p.x.log ≡ entries (i.each k).line.reads (steps (i.each k).line.base) (i.each k).line.own) p.primary_generation
         ((acting_primary M C w i n p.x

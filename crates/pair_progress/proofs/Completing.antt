@@ -296,7 +296,8 @@ module _ {S : Type 0} (M : Machine S) (C : Copying S) (laws : Lawful M) (copies 
         (MessageIs (length w.messages)) (λ f. f) (ok (Release n (id.Byte port k)) refl) may_send sends
         (and_then M C sent Kind 1 (Fewer w.nodes w.winners live.x) come
         (Arrive (length w.messages)) reply arrives_well (ok (Arrive (length w.messages)) tt) may_arrive arrives
-        (tells come come_reached (same_server M w come n refl live) port k (Byte port k byte) due (omega (arith, next)) is_accepted
+        (tells come come_reached (same_server M w come n refl live) port k (Byte port k byte) due (omega (arith, next))
+        is_accepted
         found))
 
   byte : (w : World S) (r : Reached M C w) (live : Server M w n) →
@@ -313,7 +314,8 @@ module _ {S : Type 0} (M : Machine S) (C : Copying S) (laws : Lawful M) (copies 
       elim (leb_tells k (length (accepted w port))) [
         | inl p ↦ at_most M C w Kind 1 (Fewer w.nodes w.winners live.x) 3 (omega arith)
             (tells w r live port k b.0 d.1.1 (omega (arith, next)) p.1 b.1)
-        | inr p ↦ sends_byte w r live port k is.0 d.0 d.1.1 (found_as (M.find s (id.Byte port k)) b.0 (Byte port k is.0) b.1 is.1)
+        | inr p ↦ sends_byte w r live port k is.0 d.0 d.1.1
+            (found_as (M.find s (id.Byte port k)) b.0 (Byte port k is.0) b.1 is.1)
             (let l = p.1 in omega (arith, next, came, l))
       ]
 

@@ -121,6 +121,7 @@ serves_on M C laws copies responds w r n x may =
       few = l.few;
       end = record {
         live = l.end;
-        goes_on = live_goes_on M C laws copies responds l.new (carried_reaches M C w l.new l.events r l.done) n x.generation l.end;
+        goes_on = live_goes_on M C laws copies responds l.new (carried_reaches M C w l.new l.events r l.done) n
+            x.generation l.end;
       };
     }

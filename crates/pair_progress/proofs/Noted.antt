@@ -1,5 +1,5 @@
--- In every world that actions reach: all nodes log their sectors in one way, and each note of a node is of an entry of its log, and
--- waits for no more entries than up to the last read of its log.
+-- In every world that actions reach: all nodes log their sectors in one way, and each note of a node is of an entry of its
+-- log, and waits for no more entries than up to the last read of its log.
 use Rattle.std.proofs.Common.{◌≡◌, ℕ, zero, suc, ◌<◌, ◌≤◌, ◌⊎◌, inl, inr, Bool, true, false, cond, Option, Some, None, List, [], ◌∷◌, ◌++◌, length, length-append, refl, sym, ap, subst, ◌∙◌, arith}
 use Rattle.std.specs.Prelude.{slice_get, slice_set}
 use Rattle.pair_protocol.proofs.Words.{Acts, After, Alone, AtBoot, Backup, Byte, Change, Copying, Draining, Entry, Joining, Machine, Mark, Node, Note, OpId, Operation, Primary, Reached, Reads, Role, Spare, World, Write, begun, entry_of, first_node, id_of, is_read, joiner, note_of, opening, primary_steps, primary_takes, same_name, spare}
@@ -57,7 +57,8 @@ few-noted notes log o c few name note is =
     new : Note
     new = record { name = id_of o; index = length log; after = waits_for o log }
 
-    go : (b : Bool) → cond b (Some (record { name = id_of o; index = length log; after = waits_for o log })) (note_of notes name)
+    go : (b : Bool) → cond b (Some (record { name = id_of o; index = length log; after = waits_for o log }))
+        (note_of notes name)
         ≡ Some note → (note.index < length (log ++ Mark c ∷ [])) × (note.after ≤ reads_in (log ++ Mark c ∷ []))
     go true h =
         let e : record { name = id_of o; index = length log; after = waits_for o log } ≡ note =

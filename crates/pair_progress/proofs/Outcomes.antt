@@ -130,7 +130,8 @@ module _ {S : Type 0} (M : Machine S) (C : Copying S) (laws : Lawful M) (copies 
   sends_once n index a b =
       let x : a.node.x ≡ b.node.x = same_some a.node.x b.node.x (slice_get w.nodes n) a.node.there b.node.there in
       let e : a.e ≡ b.e =
-      same_some a.e b.e (slice_get a.node.x.log index) a.node.said (ap (λ (z : Node S). slice_get z.log index) x ∙ b.node.said) in
+      same_some a.e b.e (slice_get a.node.x.log index) a.node.said
+      (ap (λ (z : Node S). slice_get z.log index) x ∙ b.node.said) in
       a.says.after ∙ ap (λ (z : Node S). with_message w (LogEntry z.generation index a.e)) x
       ∙ ap (λ z. with_message w (LogEntry b.node.x.generation index z)) e ∙ sym b.says.after
 

@@ -1,5 +1,5 @@
--- If all that a primary has logged is held and nothing is outstanding, the terminals have accepted the whole output and the disk is the
--- machine's own: after the last entry the primary has only made quiet steps.
+-- If all that a primary has logged is held and nothing is outstanding, the terminals have accepted the whole output and the
+-- disk is the machine's own: after the last entry the primary has only made quiet steps.
 use Rattle.std.proofs.Common.{◌≡◌, ℕ, zero, suc, ◌+◌, ◌≤◌, Option, None, List, [], ◌∷◌, ◌++◌, length, length-append, length-take-le, append_assoc, refl, sym, ap, subst, ◌∙◌, arith}
 use Rattle.disk_dcdd.specs.declared.address.SectorAddress.{SectorAddress}
 use Rattle.event_callbacks.specs.declared.operations.OpId.TheVariants as id

@@ -1,5 +1,5 @@
--- If nothing is outstanding, the disk's record of a sector has the number of the machine's own last completed write of it; so the answer
--- to a read is not stale, and the sector is taken.
+-- If nothing is outstanding, the disk's record of a sector has the number of the machine's own last completed write of it;
+-- so the answer to a read is not stale, and the sector is taken.
 use Rattle.std.proofs.Common.{◌≡◌, ℕ, ◌≤◌, ◌⊎◌, inl, inr, false, cond, not, Some, None, is_none, [], ◌∷◌, length, refl, sym, ap, subst, ◌∙◌, arith, eq-eqb}
 use Rattle.std.specs.Prelude.{slice_get, ◌==◌, nat_le}
 use Rattle.disk_dcdd.specs.declared.address.SectorAddress.{SectorAddress}

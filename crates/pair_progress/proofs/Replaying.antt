@@ -143,7 +143,8 @@ module _ {S : Type 0} (M : Machine S) where
 
   -- one move more
   further : (x z : Node S) → ((y : Node S) (made : ℕ) → Replays M z made y made → Replays M x (suc made) y (suc made)) →
-      z.role ≡ x.role → z.running ≡ x.running → z.generation ≡ x.generation → z.held ≡ x.held → to_fetch z ≤ to_fetch x → Far M z → Far M x
+      z.role ≡ x.role → z.running ≡ x.running → z.generation ≡ x.generation → z.held ≡ x.held →
+      to_fetch z ≤ to_fetch x → Far M z → Far M x
   further x z one role running generation held fewer f = record {
     made = suc f.made;
     y = f.y;
@@ -343,7 +344,8 @@ module _ {S : Type 0} (M : Machine S) (laws : Lawful M) (reads : Reads) where
                   (ap (λ f. is_none (wanted_of f (next_read M x))) none ∙ ap is_none at_read)
               by_bytes (Some others) some =
                   let same : i ≡ input.Sector d s n others =
-                  subst (λ f. TakesFetched f (entry.Read (M.count x.machine) d s n ∷ drop (suc x.replayed) x.held) (Take i ∷ moves))
+                  subst (λ f. TakesFetched f (entry.Read (M.count x.machine) d s n ∷ drop (suc x.replayed) x.held)
+                  (Take i ∷ moves))
                   some
                   (subst (λ (e : Entry). TakesFetched x.fetched (e ∷ drop (suc x.replayed) x.held) (Take i ∷ moves)) read_is
                   come_here) in
@@ -382,7 +384,8 @@ far {S} M laws x at few t = by_owes t.owes t.stands
           further M x (passes_mark x)
           (λ y k r. OneMark next.e next.got (ap count_of (sym e_is)) (ap bare_of e_is) r)
           refl refl refl refl
-          (passed_other x.fetched (drop x.replayed x.held) (drop (suc x.replayed) x.held) next.e none next.left (ap is_read e_is))
+          (passed_other x.fetched (drop x.replayed x.held) (drop (suc x.replayed) x.held) next.e none
+          next.left (ap is_read e_is))
           (clean M laws t.reads t.moves at.0 (passes_mark x) t.last at.1 next.more s.runs
           (s.later, tail_is next.e (Mark c) after (entries t.reads c t.moves) all)
           (none_come x.fetched (drop (suc x.replayed) x.held) t.moves none)))

@@ -1,5 +1,5 @@
--- A whole pair comes to rest: once the backup has replayed the log and acknowledged it, nothing that is outstanding waits, and it
--- is completed; and then the entries of the completions are sent and acknowledged.
+-- A whole pair comes to rest: once the backup has replayed the log and acknowledged it, nothing that is outstanding waits,
+-- and it is completed; and then the entries of the completions are sent and acknowledged.
 use Rattle.std.proofs.Common.{◌≡◌, ℕ, zero, suc, ◌+◌, ◌-◌, ◌*◌, ◌<◌, ◌≤◌, inl, inr, Bool, true, false, max, not, Option, Some, None, is_none, List, [], ◌∷◌, ◌++◌, drop, length, length-append, refl, sym, ap, ◌∙◌, arith, lt-ltb, le-leb}
 use Rattle.std.specs.Prelude.{slice_get, ◌&&◌, nat_le}
 use Rattle.event_callbacks.proofs.Names.{name_cases}
@@ -73,9 +73,12 @@ module _ {S : Type 0} (M : Machine S) (C : Copying S) (laws : Lawful M) (copies 
     heard_reached : Reached M C heard
     heard_reached = one_reaches M C (catching.told M C laws copies n m generation w r p held) heard
         (DeliverAcknowledgement (length w.messages) n) (HeldIs (max p.x.covered (length p.y.held)))
-        (one_reaches M C w (catching.told M C laws copies n m generation w r p held) (Acknowledge m) (MessageIs (length w.messages)) r
-        (catching.may_tell M C laws copies n m generation w r p held) (catching.tells M C laws copies n m generation w r p held))
-        (catching.may_hear M C laws copies n m generation w r p held) (catching.hearing M C laws copies n m generation w r p held)
+        (one_reaches M C w (catching.told M C laws copies n m generation w r p held) (Acknowledge m)
+        (MessageIs (length w.messages)) r
+        (catching.may_tell M C laws copies n m generation w r p held)
+        (catching.tells M C laws copies n m generation w r p held))
+        (catching.may_hear M C laws copies n m generation w r p held)
+        (catching.hearing M C laws copies n m generation w r p held)
 
     acknowledges : (most : ℕ) (End : World S → Type 0) → Leads M C heard (IsPairing n m) most End →
         Leads M C w (IsPairing n m) (suc (suc most)) End
@@ -85,7 +88,8 @@ module _ {S : Type 0} (M : Machine S) (C : Copying S) (laws : Lawful M) (copies 
         (catching.tells M C laws copies n m generation w r p held)
         (and_then M C (catching.told M C laws copies n m generation w r p held) (IsPairing n m) most End heard
         (DeliverAcknowledgement (length w.messages) n) (HeldIs (max p.x.covered (length p.y.held))) (λ f. f) refl
-        (catching.may_hear M C laws copies n m generation w r p held) (catching.hearing M C laws copies n m generation w r p held)
+        (catching.may_hear M C laws copies n m generation w r p held)
+        (catching.hearing M C laws copies n m generation w r p held)
         rest)
 
   module _ (w : World S) (r : Reached M C w) (p : IsPair w n m generation) (held : p.y.held ≡ p.x.log)
@@ -270,7 +274,8 @@ module _ {S : Type 0} (M : Machine S) (C : Copying S) (laws : Lawful M) (copies 
           (g : Fewer M C laws copies responds n (IsPairing n m) completion_is w.nodes w.winners a.q.x new) →
           count_out (λ name. M.find g.t name) names ≤ k
       falls new g =
-          let l = count-falls (λ name. M.find a.q.x.machine name) (λ name. M.find g.t name) g.gone g.o g.was g.now g.others names
+          let l = count-falls (λ name. M.find a.q.x.machine name) (λ name. M.find g.t name)
+          g.gone g.o g.was g.now g.others names
           (cover g.gone g.o g.was) in omega (arith, l, few)
 
       go : (c : ℕ) → count_out (λ name. M.find a.q.x.machine name) names ≡ c →
@@ -346,11 +351,13 @@ module _ {S : Type 0} (M : Machine S) (C : Copying S) (laws : Lawful M) (copies 
       (log.sends_all M C laws copies n m generation (lacks p.x p.y) w r p (omega arith)) held_then)
     where
       held_then : (new : World S) → Reached M C new → AllHeld p.x p.y.replayed p.y.fetched new →
-          Leads M C new (IsPairing n m) ((1 + 3 * reads_left p.x p.y) + suc (suc (3 * length names + (2 * length names + 2)))) AtRest
+          Leads M C new (IsPairing n m) ((1 + 3 * reads_left p.x p.y) + suc (suc (3 * length names + (2 * length names + 2))))
+          AtRest
       held_then new reached_new h =
           joined M C new (IsPairing n m) (1 + 3 * reads_left p.x p.y) (AllReplayed h.q.x h.q.y.held)
           (suc (suc (3 * length names + (2 * length names + 2)))) AtRest reached_new
-          (log.replays_all M C laws copies n m generation (reads_left p.x p.y) new reached_new h.q (omega (arith, fetches_left)))
+          (log.replays_all M C laws copies n m generation (reads_left p.x p.y)
+          new reached_new h.q (omega (arith, fetches_left)))
           (λ later reached_later e. empties names size later reached_later h.q.x h.q.y.held e h.held room cover_here)
         where
           fetches_left : to_fetch h.q.y ≡ reads_left p.x p.y

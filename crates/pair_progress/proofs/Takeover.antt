@@ -153,7 +153,8 @@ module _ {S : Type 0} (M : Machine S) (C : Copying S) (laws : Lawful M) (copies 
             at_most M C w (IsItsOwn n) (suc (suc (suc (1 + 3 * k)))) (λ new. IsLive new n x.generation) (1 + 3 * suc k)
             (omega arith)
             (go_on w n x there up role f r a (1 + 3 * k)
-            (subst (λ g. Leads M C (then w n x there up role f r a) (IsItsOwn n) (1 + 3 * k) (λ new. IsLive new n g)) f.generation
+            (subst (λ g. Leads M C (then w n x there up role f r a) (IsItsOwn n) (1 + 3 * k) (λ new. IsLive new n g))
+            f.generation
             (drains k (then w n x there up role f r a) (is_reached w n x there up role f r a) n z
             (is_there_then w n x there up role f r a) (f.running ∙ up) (f.role ∙ role) fewer))))
       ]

@@ -42,7 +42,8 @@ module _ {S : Type 0} (M : Machine S) (C : Copying S) (laws : Lawful M) (copies 
       is_there M C w (IsPairing n m) (2 * zero) (AllHeld p.x p.y.replayed p.y.fetched) (record {
         q = p;
         x_is = refl;
-        held = catching.whole_prefix p.y.held p.x.log (catching.front M C laws copies n m generation w r p) (omega (arith, few));
+        held = catching.whole_prefix p.y.held p.x.log (catching.front M C laws copies n m generation w r p)
+            (omega (arith, few));
         replayed_is = refl;
         fetched_is = refl;
       })
@@ -53,7 +54,8 @@ module _ {S : Type 0} (M : Machine S) (C : Copying S) (laws : Lawful M) (copies 
         (and_then M C w (IsPairing n m) (suc (2 * k)) (AllHeld p.x p.y.replayed p.y.fetched)
         (catching.sent M C laws copies n m generation w r p g.0 g.2) (Send n (length p.y.held)) (MessageIs (length w.messages))
         (λ f. f) refl
-        (catching.may_send M C laws copies n m generation w r p g.0 g.2) (catching.sends M C laws copies n m generation w r p g.0 g.2)
+        (catching.may_send M C laws copies n m generation w r p g.0 g.2)
+        (catching.sends M C laws copies n m generation w r p g.0 g.2)
         (and_then M C (catching.sent M C laws copies n m generation w r p g.0 g.2) (IsPairing n m) (2 * k)
         (AllHeld p.x p.y.replayed p.y.fetched) (catching.then M C laws copies n m generation w r p g.0 g.2)
         (DeliverLog (length w.messages) m) New (λ f. f) refl (catching.may_hold M C laws copies n m generation w r p g.0 g.2)
@@ -145,7 +147,8 @@ module _ {S : Type 0} (M : Machine S) (C : Copying S) (laws : Lawful M) (copies 
         ap (winner_in w.winners) (f.generation ∙ p.backup_generation) ∙ p.undecided in
         record {
           there = next_pair.backup;
-          highest_is = undecided_top M C next i m f.y next_pair.backup (λ k. (let e = sym next_pair.backup_role ∙ k in (cc))) none
+          highest_is = undecided_top M C next i m f.y next_pair.backup
+              (λ k. (let e = sym next_pair.backup_role ∙ k in (cc))) none
               ∙ sym (highest_is M C next i);
           who = inl (next_pair.backup_role, none);
         }

@@ -1,5 +1,5 @@
--- Following a list: an event has one outcome, unless memory or the disk fails. So whoever makes the events of a list that are all
--- carried out, and is never told of a failure, is where the list leads.
+-- Following a list: an event has one outcome, unless memory or the disk fails. So whoever makes the events of a list that are
+-- all carried out, and is never told of a failure, is where the list leads.
 use Rattle.std.specs.Prelude.{◌≡◌, List, length}
 use Rattle.guest_lockstep.specs.Machine.{Machine}
 use Rattle.pair_events.specs.declared.event.Event.{Event}

@@ -12,8 +12,8 @@ use Rattle.pair_progress.specs.Leads.{CarriedOut, Leads}
 use Rattle.pair_progress.specs.CatchingUp.{IsCaughtUp}
 use Rattle.pair_progress.specs.Takeover.{IsItsOwn, IsLive, MayServe, takeover_events}
 
--- a node with this machine refuses a step only if its guest does, which is spent or idles; and it takes the next key of a port, if
--- one is typed and a number is left for it
+-- a node with this machine refuses a step only if its guest does, which is spent or idles; and it takes the next key of a
+-- port, if one is typed and a number is left for it
 pub record MayGoOn {S : Type 0} (M : Machine S) (C : Copying S) (w : World S) (n : ℕ) (x : Node S) : Type 0 where
   pub steps : (turns : ℕ) → refusal M C w (Step n (suc turns)) ≡ step_refusal M x.machine
   pub keys : (port byte : ℕ) → port < 2 → M.keys x.machine port < top →
