@@ -117,10 +117,19 @@ reached : (count : ℕ) (next : Option Entry) (read : ℕ × ℕ × ℕ) → rea
 reached count next read is = read-there None count next (ap is_none is)
 
 -- with an entry left not all are replayed
+none-past : {A : Type 0} (xs : List A) → slice_get xs (length xs) ≡ None
+none-past [] = refl
+none-past (x ∷ xs) = none-past xs
+
 not-all : {A : Type 0} (xs : List A) (k : ℕ) (e : A) → slice_get xs k ≡ Some e → (k == length xs) ≡ false
-not-all [] k e there = absurd (cc)
-not-all (x ∷ xs) zero e there = refl
-not-all (x ∷ xs) (suc k) e there = not-all xs k e there
+not-all xs k e there = go (k == length xs) refl
+  where
+    go : (all : Bool) → (k == length xs) ≡ all → (k == length xs) ≡ false
+    go true is =
+        let past = none-past xs in
+        let same = ap (slice_get xs) (eqb-true k (length xs) is) in
+        absurd (cc)
+    go false is = is
 
 -- ---- what a drain leaves
 
