@@ -1,6 +1,6 @@
 -- A node of the law that lags. It does what the host's does, and makes the steps that the host's machine has made already
 -- in front of the first move by an entry, or once it is alone.
-use Rattle.std.proofs.Common.{◌+◌, ◌<◌, ◌≤◌, ◌∙◌, ◌≡◌, ◌⊎◌, Bool, List, None, Option, Some, [], ◌∷◌, ap, arith, cond, false, inl, inr, length, not, refl, subst, suc, sym, true, zero, ℕ}
+use Rattle.std.proofs.Common.{◌≤◌, ◌∙◌, ◌≡◌, ◌⊎◌, Bool, List, None, Option, Some, [], ◌∷◌, ap, arith, cond, false, inl, inr, length, not, refl, subst, suc, sym, true, zero, ℕ}
 use Rattle.std.proofs.lemmas.Bool.{eqb-true}
 use Rattle.std.specs.Prelude.{is_none, slice_get, ◌&&◌, ◌==◌, ◌||◌}
 use Rattle.event_callbacks.specs.Operations.{id_of}
