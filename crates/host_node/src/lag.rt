@@ -4,8 +4,8 @@ ghost use Rattle.host_node.specs.Lagging.{is_too_far};
 
 use ft_node::Lead;
 
-/// How many steps a backup may be behind: about those of a twentieth of a second. If it is further behind, its primary's guest
-/// makes no step (VMware FT, section 3.2.2).
+// How many steps a backup may be behind: about those of a twentieth of a second. If it is further behind, its primary's guest
+// makes no step (VMware FT, section 3.2.2).
 const MOST_BEHIND: u64 = 10_000_000;
 
 // After how many steps a host says again how far it is.

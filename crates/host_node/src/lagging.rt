@@ -11,10 +11,8 @@ use pair_events::Role;
 impl<B: Copies<H> + Drop, H: Drop> Serving<B, H> {
     // Whether a primary's guest waits for the backup. None waits for one that is not whole yet.
     pub(crate) fn is_held_back(&self) -> bool {
-        match self.host.role() {
-            Some(Role::Primary) if !self.pace.is_copying => self.pace.lag.is_far_behind(self.host.count()),
-            _ => false,
-        }
+        let has_backup = matches!(self.host.role(), Some(Role::Primary)) && !self.pace.is_copying;
+        has_backup && self.pace.lag.is_far_behind(self.host.count())
     }
 
     // Says how far the host is, if that is due.
