@@ -1,16 +1,15 @@
 -- How a host goes on: with no call, with one call of its node, and from one state over another to a third.
-use Rattle.std.proofs.Common.{ℕ, ◌≡◌, List, [], ◌∷◌, ◌++◌, append-nil, append_assoc, refl, sym, ap, ◌∙◌, subst, inl, inr}
-use Rattle.clone_state.specs.Copies.{CopiesAs}
+use Rattle.std.proofs.Common.{ℕ, ◌≡◌, List, [], ◌∷◌, ◌++◌, append-nil, refl, sym, ap, ◌∙◌, subst, inl, inr}
 use Rattle.guest_lockstep.specs.Machine.{Machine}
 use Rattle.guest_parts.specs.Guest.{Guest}
 use Rattle.host_frames.specs.Frames.{IsBodyOf, Said}
-use Rattle.host_law.specs.Frame.{Act, Came, Frame, sent, taken}
+use Rattle.host_law.specs.Frame.{Act, Came, Frame}
 use Rattle.host_law.specs.Host as host
 use Rattle.host_law.specs.Host.{HostStep}
 use Rattle.host_law.specs.Ran.{HostRan}
 use Rattle.host_node.specs.Goes as goes
 use Rattle.host_node.specs.Goes.{Goes, Moves, Ran, Says}
-use Rattle.host_node.specs.Hosts.{HasJoined, IsHosted, SameHost}
+use Rattle.host_node.specs.Hosts.{HasJoined, SameHost}
 use Rattle.host_node.specs.Mail.{HasSaid, IsFrom}
 use Rattle.host_node.specs.declared.host.HostNode.{HostNode}
 use Rattle.pair_protocol.specs.Copying.{Copying}
