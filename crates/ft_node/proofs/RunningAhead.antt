@@ -1,23 +1,11 @@
--- How far a primary is, and how far a backup may run ahead, by the log and by the end of the channel.
-use Rattle.std.proofs.Common.{◌≡◌, ℕ, ◌-◌, ◌≤◌, true, Option, None, List, [], ◌∷◌, length, drop, Ok, refl, sym, ap, subst, ◌∙◌, arith, length-drop}
+-- How far a backup may run ahead, by its end of the channel, and what it is then.
+use Rattle.std.proofs.Common.{◌≡◌, ℕ, ◌-◌, true, Option, None, List, [], ◌∷◌, length, Ok, refl, sym, ap, subst, ◌∙◌, arith, length-drop}
 use Rattle.std.proofs.lemmas.Bool.{eq-eqb}
 use Rattle.std.specs.Prelude.{min, nat_le, ◌==◌, ◌&&◌}
-use Rattle.ft_node.proofs.Words.{Backup, IsFollower, Log, Machine, Node, Reads, Receiving, RunsOn, Stopped, log, next_of, role_refusal}
+use Rattle.ft_node.proofs.Words.{Backup, IsFollower, Machine, Node, Reads, Receiving, RunsOn, Stopped, role_refusal}
 use Rattle.ft_node.specs.Ahead.{RanAhead, RunsAhead, may_run_ahead, steps_ahead}
 use Rattle.ft_node.specs.Calls as calls
 use Rattle.ft_node.specs.declared.ran.Lead.{Lead}
-
--- ---- a primary
-
--- the next entry of its log has the index that is the number of all that it has logged
-pub logged_so_far : {S : Type 0} (x : Node S) (l : Log) → l ≡ log x.covered (drop x.covered x.log) → x.covered ≤ length x.log
-    → length x.log ≡ next_of l
-logged_so_far x l kept within =
-    let left : length l.entries ≡ length x.log - x.covered = ap (λ l. length l.entries) kept ∙ length-drop x.covered x.log in
-    let first : l.first ≡ x.covered = ap (λ l. l.first) kept in
-    omega arith
-
--- ---- a backup
 
 module _ {S : Type 0} (M : Machine S) (reads : Reads) (x : Node S) (s : S) (fetched : Option (List ℕ)) (r : Receiving)
     (f : IsFollower Backup reads s fetched r x) where

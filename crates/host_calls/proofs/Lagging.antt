@@ -100,8 +100,8 @@ sends x b fault h = (acts x (Primary ∷ []) (by-or (acts_as x (Primary ∷ []))
 -- ---- entries
 
 -- a read that a node has reached is of its next entry, at its count
-read-there : (come : Option (List ℕ)) (count : ℕ) (next : Option Entry) → is_none (wanted_of come (read_at count next)) ≡ false →
-    (e : Entry) × (next ≡ Some e) × (count ≡ count_of e)
+read-there : (come : Option (List ℕ)) (count : ℕ) (next : Option Entry) →
+    is_none (wanted_of come (read_at count next)) ≡ false → (e : Entry) × (next ≡ Some e) × (count ≡ count_of e)
 read-there (Some bytes) count next h = absurd (cc)
 read-there None count None h = absurd (cc)
 read-there None count (Some e) h = by-count (count == count_of e) refl h
@@ -267,8 +267,8 @@ module _ {S : Type 0} (M : Machine S) (C : Copying S) (me : ℕ) where
       HostRan M C me (plainly_steps (goes_live x) s) [] [] (plainly_steps (goes_live x) t)
   steps-alone x s t up follows.Rests = ran-nothing M C me (plainly_steps (goes_live x) s)
   steps-alone x s _ up (follows.Steps {t = t} {u = u} gives a allowed step counted) =
-      ran-more M C me (plainly_steps (goes_live x) s) [] [] (plainly_steps (goes_live x) t) (plainly_steps (goes_live x) u) quiet
-      (steps-alone x s t up a) (one-alone x t u gives up allowed step)
+      ran-more M C me (plainly_steps (goes_live x) s) [] [] (plainly_steps (goes_live x) t)
+      (plainly_steps (goes_live x) u) quiet (steps-alone x s t up a) (one-alone x t u gives up allowed step)
 
   -- ---- each step
 
@@ -313,8 +313,8 @@ module _ {S : Type 0} (M : Machine S) (C : Copying S) (me : ℕ) where
       goes all = subst (λ b. HostRan M C me x [] [] (live_if b x)) all
           (drains x x p (record { turns = 0; made = 0; moves = effect.NoTurns; some = inr refl }))
 
-      by-all : (all : Bool) → (x.replayed == length x.held) ≡ all → z ≡ live_if (x.replayed == length x.held) (plainly_steps x s) →
-          StepsToo M C me x quiet z
+      by-all : (all : Bool) → (x.replayed == length x.held) ≡ all →
+          z ≡ live_if (x.replayed == length x.held) (plainly_steps x s) → StepsToo M C me x quiet z
       by-all true all e =
           level x (plainly_steps (goes_live x) s) z
           (ran-both M C me x (goes_live x) (plainly_steps (goes_live x) s) [] [] [] [] (goes all)
@@ -378,11 +378,14 @@ module _ {S : Type 0} (M : Machine S) (C : Copying S) (me : ℕ) where
   steps-lag x z s act repeats ahead (host.Stops u p q) =
       lags-on x (halts x) z s quiet repeats ahead (host.Stops (halts x) p refl) q
   steps-lag x z s act repeats ahead (host.TakesKey port index byte u p q) =
-      absurd (none-serves (plainly_steps x s) _ repeats (part-passed (plainly_steps x s) (refusals.take_key_refusal M port index) p))
+      absurd (none-serves (plainly_steps x s) _ repeats
+      (part-passed (plainly_steps x s) (refusals.take_key_refusal M port index) p))
   steps-lag x z s act repeats ahead (host.TakesAcceptance port number count u p a b q) =
-      absurd (none-serves (plainly_steps x s) _ repeats (part-passed (plainly_steps x s) (refusals.tell_sent_refusal M port number) p))
+      absurd (none-serves (plainly_steps x s) _ repeats
+      (part-passed (plainly_steps x s) (refusals.tell_sent_refusal M port number) p))
   steps-lag x z s act repeats ahead (host.TakesDone number u p q) =
-      absurd (none-serves (plainly_steps x s) _ repeats (part-passed (plainly_steps x s) (refusals.put_reply_refusal M number) p))
+      absurd (none-serves (plainly_steps x s) _ repeats
+      (part-passed (plainly_steps x s) (refusals.put_reply_refusal M number) p))
   steps-lag x z s act repeats ahead (host.TakesSector address number bytes u p q) =
       absurd (none-serves (plainly_steps x s) _ repeats
       (part-passed (plainly_steps x s) (refusals.get_reply_refusal M address number bytes) p))

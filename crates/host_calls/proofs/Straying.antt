@@ -121,7 +121,8 @@ module _ {S : Type 0} (M : Machine S) where
     | inl has ↦ record { list = x.list; taken = has; follows = Same }
     | inr stray ↦ any-list x x alone stray
   ]
-  has-list x y (IsAhead u lags) alone = absurd (no-alone (subst Repeats (sym (ap (λ (n : Node S). n.role) lags.is) ∙ alone) lags.role))
+  has-list x y (IsAhead u lags) alone =
+      absurd (no-alone (subst Repeats (sym (ap (λ (n : Node S). n.role) lags.is) ∙ alone) lags.role))
   has-list x y (IsStray u strays stray) alone = any-list x y strays stray
 
 -- ---- no node of the code that is alone says what its list is

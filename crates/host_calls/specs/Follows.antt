@@ -58,8 +58,8 @@ StepsFollow S =
     StepsToo M C me x act z
 
 -- and a backup's node may run ahead: the law's lags, and makes no step
-abbrev pub RunsAheadAlone : (S : Type 0) → Type 0
-RunsAheadAlone S =
+abbrev pub AheadFollows : (S : Type 0) → Type 0
+AheadFollows S =
     (M : Machine S) → Counts M → (x y z : Node S) (turns : ℕ) (stopped : Stopped) → Follows M x y →
     role_refusal (Backup ∷ []) y ≡ None → RanAhead M turns stopped y z → Follows M x z
 

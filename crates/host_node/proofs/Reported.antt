@@ -41,8 +41,8 @@ told_port : {S : Type 0} (M : Machine S) (C : Copying S) (me : ℕ) (x y : Node 
     → (keys ≢ 0 → HostStep M C me y (law.sending (law.TellsKeys port keys)) y) → Told M C me x y port keys
 told_port M C me x y port keys follows step = by_count (eqb keys 0) refl
   where
-    said : (none : Bool) → eqb keys 0 ≡ none → (z : Node _) → HostRan M C me x [] (cond none [] (law.TellsKeys port keys ∷ [])) z
-        → HostRan M C me x [] (covered_at port keys) z
+    said : (none : Bool) → eqb keys 0 ≡ none → (z : Node _)
+        → HostRan M C me x [] (cond none [] (law.TellsKeys port keys ∷ [])) z → HostRan M C me x [] (covered_at port keys) z
     said none e z r = subst (λ b. HostRan M C me x [] (cond b [] (law.TellsKeys port keys ∷ [])) z) (sym e) r
 
     by_count : (none : Bool) → eqb keys 0 ≡ none → Told M C me x y port keys

@@ -74,8 +74,8 @@ module _ {B S : Type 0} {H : Type 0} (state : B → S) (M : Machine S) (copied :
       stays state M copied old new (is ∙ ap (λ n. hosted.Node n) same ∙ sym was) number mail
 
   -- no call of the law's node is behind this: that makes those steps later
-  pub runs_ahead : (old new : HostNode B H) (n m : code.Node B H) (lead : Lead) (turns : ℕ) (r : Result Stopped Fault) → Counts M
-      → old.node ≡ hosted.Node n → new.node ≡ hosted.Node m → SameHost old new → new.mail ≡ old.mail → OnErr r (m ≡ n)
+  pub runs_ahead : (old new : HostNode B H) (n m : code.Node B H) (lead : Lead) (turns : ℕ) (r : Result Stopped Fault)
+      → Counts M → old.node ≡ hosted.Node n → new.node ≡ hosted.Node m → SameHost old new → new.mail ≡ old.mail → OnErr r (m ≡ n)
       → ((C : Copying S) (drives : ℕ) (x : Node S) → IsNode state M C drives n x
       → RunsAhead M lead turns x r (IsNode state M C drives m)) → Goes state M copied old new
   runs_ahead old new n m lead turns (Ok stopped) counts was is number mail same call = once state M copied old new (record {

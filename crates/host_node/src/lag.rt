@@ -37,8 +37,8 @@ impl Lag {
         self.heard
     }
 
-    /// Whether the peer is so far behind a guest of this count that the guest may not go on. A peer that has said nothing yet has
-    /// only begun.
+    /// Whether the peer is so far behind a guest of this count that the guest may not go on. A peer that has said nothing yet
+    /// has only begun.
     pub fn is_far_behind(&self, count: u64) -> bool {
         match self.heard {
             Some(lead) => is_too_far(lead.count, count),

@@ -1,5 +1,5 @@
-//! How the hosts of a pair keep together: a backup follows its primary where that logs nothing, and a primary waits for a backup
-//! that is far behind.
+//! How the hosts of a pair keep together: a backup follows its primary where that logs nothing, and a primary waits for a
+//! backup that is far behind.
 ghost use Rattle.host_node.specs.Goes.{Goes};
 
 use crate::serving::Serving;

@@ -1,3 +1,4 @@
+-- Steps that no entry shows, with no frame.
 use Rattle.std.proofs.Common.{refl}
 use Rattle.host_node.proofs.Stepping.{runs_ahead}
 use Rattle.host_node.proofs.host.HostNode.run_ahead.Goals as goal
