@@ -44,7 +44,9 @@ impl<B: Copies<H> + Drop, H: Drop> Serving<B, H> {
         if self.pace.is_copying {
             return self.send_parts();
         }
-        self.send_log()
+        let has_sent = self.send_log()?;
+        let has_said = self.say_progress()?;
+        Ok(has_sent | has_said)
     }
 
     // A node that is alone runs its guest, and copies pages early for the next backup.
@@ -116,11 +118,14 @@ impl<B: Copies<H> + Drop, H: Drop> Serving<B, H> {
         Ok(has_taken)
     }
 
-    // Makes steps.
+    // Makes steps, unless the backup is far behind.
     #[tactic(auto, using(crate::proofs::Going::stays, crate::proofs::Going::and_then))]
     fn step(&mut self) -> R<bool>
         ensures { Goes B.state B.machine B.copied self.old.host self.new.host }
     {
+        if self.is_held_back() {
+            return Ok(false);
+        }
         match self.host.step(self.settings.steps) {
             Ok(ran) => {
                 self.pace.is_idle = matches!(ran.why, StopReason::Refused(Fault::Idle));
@@ -291,22 +296,25 @@ impl<B: Copies<H> + Drop, H: Drop> Serving<B, H> {
         Ok(has_sent)
     }
 
-    // A backup acknowledges what it holds, and repeats it.
+    // A backup acknowledges what it holds, and repeats it; then it follows its primary.
     #[tactic(auto, using(crate::proofs::Going::stays, crate::proofs::Going::and_then))]
     pub(crate) fn follow(&mut self) -> R<bool>
         ensures { Goes B.state B.machine B.copied self.old.host self.new.host }
     {
         self.answer_peer()?;
-        self.replay()
+        let has_moved = self.replay()?;
+        let has_run = self.run_ahead()?;
+        Ok(has_moved | has_run)
     }
 
-    // Says what has come of the image and of the log.
+    // Says what has come of the image and of the log, and how far the guest is.
     #[tactic(auto, using(crate::proofs::Going::stays, crate::proofs::Going::and_then))]
     fn answer_peer(&mut self) -> R<bool>
         ensures { Goes B.state B.machine B.copied self.old.host self.new.host }
     {
         self.acknowledge()?;
-        self.tell_parts()
+        self.tell_parts()?;
+        self.say_progress()
     }
 
     // Makes moves from the entries that are held.

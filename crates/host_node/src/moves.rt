@@ -3,7 +3,8 @@ ghost use Rattle.host_node.specs.Goes.{Goes};
 
 use crate::host::{HostNode, Hosted};
 use clone_state::Copies;
-use ft_node::{Drained, Ran};
+use ft_node::{Drained, Lead, Ran};
+use guest_lockstep::Stopped;
 use i8080_words::{Fault, R};
 use replayer::Replayed;
 
@@ -28,6 +29,17 @@ impl<B: Copies<H> + Drop, H: Drop> HostNode<B, H> {
             return Err(Fault::WrongRole);
         };
         node.replay(turns)
+    }
+
+    /// Makes at most `turns` steps of a backup past the last entry that it holds, as the node's `run_ahead`.
+    #[tactic(auto, using(crate::proofs::Stepping::runs_ahead, crate::proofs::Going::stays))]
+    pub fn run_ahead(&mut self, lead: Lead, turns: u64) -> R<Stopped>
+        ensures { Goes B.state B.machine B.copied self.old self.new }
+    {
+        let Hosted::Node(node) = &mut self.node else {
+            return Err(Fault::WrongRole);
+        };
+        node.run_ahead(lead, turns)
     }
 
     /// Makes at most `turns` moves of a node that won, as the node's `drain`.

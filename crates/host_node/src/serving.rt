@@ -208,6 +208,7 @@ impl<B: Copies<H> + Drop, H: Drop> Serving<B, H> {
             return Ok(());
         }
         self.pace.beat_at = self.pace.now;
+        self.pace.lag.say_again();
         match self.host.role() {
             Some(Role::Primary) | Some(Role::Joining) => {
                 self.host.beat()?;
