@@ -6,6 +6,7 @@ use clone_state::Copies;
 use ft_node::{Drained, Lead, Ran};
 use guest_lockstep::Stopped;
 use i8080_words::{Fault, R};
+use key_room::KeyRoom;
 use replayer::Replayed;
 
 impl<B: Copies<H> + Drop, H: Drop> HostNode<B, H> {
@@ -89,6 +90,19 @@ impl<B: Copies<H> + Drop, H: Drop> HostNode<B, H> {
                 Ok(false)
             }
             Err(_) => Ok(false),
+        }
+    }
+}
+
+impl<B: Copies<H> + KeyRoom + Drop, H: Drop> HostNode<B, H> {
+    /// Whether a key that came to this port now would be kept by the guest of its node; false if it has none.
+    pub fn keeps_key(&self, port: u8) -> bool {
+        match &self.node {
+            Hosted::Node(node) if usize::from(port) < event_callbacks::PORTS => match node.guest() {
+                Some(guest) => guest.keeps_key(port),
+                None => false,
+            },
+            _ => false,
         }
     }
 }
