@@ -120,6 +120,8 @@ fn obey<
             plain_completions::written,
         ),
         Request::Help(text) => print_help(&text, &mut streams.writer),
+        // A process of a pair runs over other streams.
+        Request::Host(_) | Request::Hosts(_) => Ok(()),
     };
     (streams, ended)
 }
