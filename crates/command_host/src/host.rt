@@ -1,16 +1,20 @@
 //! One host in a process: what it boots with and then frames come on one stream, and frames go on another.
+ghost use Rattle.std.specs.Prelude.{IfOk};
+ghost use Rattle.command_host.specs.Serving.{HasServed};
 ghost use Rattle.event_callbacks.specs.Keeping.{Keeps};
 ghost use Rattle.event_callbacks.specs.declared.devices.TheConstants.{SECTOR, SENT, WRITTEN};
 
-use crate::booting::boot;
+use crate::booting::{Booted, board_of, host_of};
 use crate::frames::{Writing, read_from, write_to};
 use crate::opening::read_opening;
+use clone_state::Copies;
 use command_ending::Failure;
 use command_input::{Language, read_input};
-use command_line::HostOrder;
+use command_line::{HostOrder, HostRole};
 use event_callbacks::{Callbacks, Completes, plain_completions};
 use guest_board::Setup;
 use host_node::{End, Mail, Settings, serve};
+use i8080_words::R;
 use std::alloc::Global;
 use std::io::{Read, Write};
 use std::sync::{Arc, Wait};
@@ -41,7 +45,7 @@ pub fn run_host<
 ) -> Result<End, Failure> {
     let opening = read_opening(alloc, order.before, &mut reader)?;
     let input = read_input(alloc, Language::Threads, &order.images, &mut opening.as_slice())?;
-    run_setup(
+    Ok(run_setup(
         rt,
         alloc,
         order,
@@ -50,7 +54,7 @@ pub fn run_host<
         plain_completions::sent,
         plain_completions::sector,
         plain_completions::written,
-    )
+    )?)
 }
 
 // Runs a host whose pair has the machine of this setup.
@@ -70,10 +74,36 @@ fn run_setup<
     sent: T,
     sector: S,
     written: W,
-) -> Result<End, Failure>
+) -> R<End>
     requires sent { Keeps (T.may sent) (T.gives sent) SENT }
     requires sector { Keeps (S.may sector) (S.gives sector) SECTOR }
     requires written { Keeps (W.may written) (W.gives written) WRITTEN }
+{
+    let callbacks = Callbacks::of(sent, sector, written);
+    let booted = match order.role {
+        HostRole::Primary => Booted::Primary(board_of(alloc, setup, callbacks)?),
+        HostRole::Backup => Booted::Backup(board_of(alloc, setup, callbacks)?),
+        HostRole::Spare => Booted::Spare(callbacks),
+    };
+    run_booted(rt, alloc, settings(order), setup.drives, booted, streams)
+}
+
+/// Runs a host that boots with this, over a stream of frames to it and one from it, until there is a reason to end.
+pub fn run_booted<
+    B: Copies<K> + Drop,
+    K: Drop,
+    H: Threads + Wait + Clock + Copy + Drop + Send + Sync + 'static,
+    R: Read + Drop + Send + 'static,
+    W: Write + Drop + Send + 'static,
+>(
+    rt: H,
+    alloc: Global,
+    settings: Settings,
+    drives: u8,
+    booted: Booted<B, K>,
+    streams: (R, W),
+) -> R<End>
+    ensures { IfOk result (λ end. HasServed B.state B.machine B.copied drives booted) }
 {
     let (reader, writer) = streams;
     let mine = Arc::new(alloc, Parker::new())?;
@@ -84,10 +114,12 @@ fn run_setup<
         thread,
     } = write_to(rt, alloc, writer)?;
     let mail = Mail::new(alloc, bodies, frames, wake)?;
-    let callbacks = Callbacks::of(sent, sector, written);
-    let host = boot(alloc, order.role, setup, callbacks, mail)?;
-    let (host, end) = serve(&rt, host, settings(order), &mine);
-    drop(host);
+    let host = host_of(alloc, drives, booted, mail)?;
+    let end = {
+        let (host, end) = serve(&rt, host, settings, &mine);
+        drop(host);
+        end
+    };
     let _ = thread.join(&rt);
     Ok(end)
 }

@@ -11,6 +11,7 @@ mod outside;
 mod places;
 mod screen;
 
+pub use booting::Booted;
 pub use ending::{ending_of_host, ending_of_hosts};
-pub use host::run_host;
+pub use host::{run_booted, run_host};
 pub use outside::run_outside;
