@@ -15,12 +15,10 @@ const FRAMES: usize = 1_024;
 
 /// Starts the thread that reads frames from a stream, and returns the ring through which their bodies come. The thread wakes
 /// whoever waits for them, and drops its end of the ring when the stream has ended.
-pub(crate) fn read_from<H: Threads + Clock + Copy + Drop + Send + Sync + 'static, S: Read + Drop + Send + 'static>(
-    rt: H,
-    alloc: Global,
-    source: S,
-    wake: &Arc<Parker>,
-) -> R<Consumer<Vec<u8>>> {
+pub(crate) fn read_from<
+    H: Threads + Clock + Copy + Drop + Send + Sync + 'static,
+    S: Read + Drop + Send + 'static,
+>(rt: H, alloc: Global, source: S, wake: &Arc<Parker>) -> R<Consumer<Vec<u8>>> {
     let (to_me, from) = RingBuffer::new(alloc, FRAMES)?;
     let wake = Arc::try_clone(wake)?;
     let pending = FrameBuffer::new(alloc)?;
@@ -49,11 +47,10 @@ pub(crate) struct Writing {
 
 /// Starts the thread that writes frames to a stream. It ends when its ring is dropped and all that came through it is written, or
 /// when a write fails; it returns whether all was written.
-pub(crate) fn write_to<H: Threads + Wait + Copy + Drop + Send + Sync + 'static, W: Write + Drop + Send + 'static>(
-    rt: H,
-    alloc: Global,
-    sink: W,
-) -> R<Writing> {
+pub(crate) fn write_to<
+    H: Threads + Wait + Copy + Drop + Send + Sync + 'static,
+    W: Write + Drop + Send + 'static,
+>(rt: H, alloc: Global, sink: W) -> R<Writing> {
     let (frames, from_me) = RingBuffer::new(alloc, FRAMES)?;
     let wake = Arc::new(alloc, Parker::new())?;
     let theirs = Arc::try_clone(&wake)?;

@@ -36,15 +36,14 @@ pub fn run_host<
     H: Threads + Wait + Clock + Copy + Drop + Send + Sync + 'static,
     R: Read + Drop + Send + 'static,
     W: Write + Drop + Send + 'static,
->(
-    rt: H,
-    alloc: Global,
-    order: &HostOrder,
-    mut reader: R,
-    writer: W,
-) -> Result<End, Failure> {
+>(rt: H, alloc: Global, order: &HostOrder, mut reader: R, writer: W) -> Result<End, Failure> {
     let opening = read_opening(alloc, order.before, &mut reader)?;
-    let input = read_input(alloc, Language::Threads, &order.images, &mut opening.as_slice())?;
+    let input = read_input(
+        alloc,
+        Language::Threads,
+        &order.images,
+        &mut opening.as_slice(),
+    )?;
     Ok(run_setup(
         rt,
         alloc,
@@ -60,7 +59,7 @@ pub fn run_host<
 // Runs a host whose pair has the machine of this setup.
 fn run_setup<
     H: Threads + Wait + Clock + Copy + Drop + Send + Sync + 'static,
-    R: Read + Drop + Send + 'static,
+    I: Read + Drop + Send + 'static,
     O: Write + Drop + Send + 'static,
     T: Completes + Drop,
     S: Completes + Drop,
@@ -70,7 +69,7 @@ fn run_setup<
     alloc: Global,
     order: &HostOrder,
     setup: &Setup,
-    streams: (R, O),
+    streams: (I, O),
     sent: T,
     sector: S,
     written: W,
@@ -93,15 +92,15 @@ pub fn run_booted<
     B: Copies<K> + Drop,
     K: Drop,
     H: Threads + Wait + Clock + Copy + Drop + Send + Sync + 'static,
-    R: Read + Drop + Send + 'static,
-    W: Write + Drop + Send + 'static,
+    I: Read + Drop + Send + 'static,
+    O: Write + Drop + Send + 'static,
 >(
     rt: H,
     alloc: Global,
     settings: Settings,
     drives: u8,
     booted: Booted<B, K>,
-    streams: (R, W),
+    streams: (I, O),
 ) -> R<End>
     ensures { IfOk result (λ end. HasServed B.state B.machine B.copied drives booted) }
 {

@@ -41,8 +41,16 @@ impl<S: KeySource> KeyReader<S> {
     fn type_lines<C: Clock>(&mut self, clock: &C, lines: &[Line]) {
         for line in lines {
             match line {
-                Line::Event(Event::TypeByte { port: 0, byte }) => put(clock, &mut self.first, Stroke::Key(*byte)),
-                Line::Event(Event::TypeByte { byte, .. }) => put(clock, &mut self.second, Stroke::Key(*byte)),
+                Line::Event(Event::TypeByte { port: 0, byte }) => put(
+                    clock,
+                    &mut self.first,
+                    Stroke::Key(*byte),
+                ),
+                Line::Event(Event::TypeByte { byte, .. }) => put(
+                    clock,
+                    &mut self.second,
+                    Stroke::Key(*byte),
+                ),
                 _ => {}
             }
         }

@@ -14,4 +14,4 @@ mod screen;
 pub use booting::Booted;
 pub use ending::{ending_of_host, ending_of_hosts};
 pub use host::{run_booted, run_host};
-pub use outside::run_outside;
+pub use outside::{OutsideStreams, run_outside};

@@ -3,15 +3,16 @@
 
 use crate::keys::{KeyReader, read_keys};
 use crate::opening::read_opening;
-use crate::places::{Pipes, add_place};
-use crate::screen::show_all;
+use crate::places::{Pipes, add_places};
+use crate::screen::{ScreenWriter, show_all};
 use command_ending::Failure;
-use command_hosts::{HostsEnd, PortEnd, Session, run_hosts};
+use command_hosts::{HostsEnd, PortEnd, Quit, Session, run_hosts};
 use command_input::{Input, Language, read_input};
 use command_line::HostsOrder;
 use console_terminal::TerminalKeys;
-use pair_lines::{Keyboard, Screen};
-use rtrb::RingBuffer;
+use i8080_words::R;
+use pair_lines::{Keyboard, Screen, Shown, Stroke};
+use rtrb::{Consumer, Producer, RingBuffer};
 use shared_disk::MemoryStore;
 use std::alloc::Global;
 use std::io::{IsTerminal, Read, Write};
@@ -22,8 +23,19 @@ use std::time::Clock;
 // How many keys, and how many bytes that a terminal has accepted, wait at most.
 const BYTES: usize = 4_096;
 
-/// Runs the outside until there is a reason to end, which is returned: then all that was accepted is written. What is told of
-/// hosts goes to the notes.
+/// The streams of an outside.
+#[derive(Drop)]
+pub struct OutsideStreams<R, W, N> {
+    /// What its machine boots with, and then keys.
+    pub reader: R,
+    /// The bytes that terminal 0 has accepted.
+    pub writer: W,
+    /// What becomes of the hosts.
+    pub notes: N,
+}
+
+/// Runs the outside until there is a reason to end, which is returned: then all that terminal 0 has accepted is written. What
+/// terminal 1 accepts is not shown.
 pub fn run_outside<
     H: Threads + Wait + Clock + Copy + Drop + Send + Sync + 'static,
     R: Read + IsTerminal + Drop + Send + 'static,
@@ -34,43 +46,115 @@ pub fn run_outside<
     files: HostRuntime,
     alloc: Global,
     order: &HostsOrder,
-    mut reader: R,
-    writer: W,
-    notes: N,
+    streams: OutsideStreams<R, W, N>,
 ) -> Result<HostsEnd, Failure> {
+    let OutsideStreams {
+        mut reader,
+        writer,
+        notes,
+    } = streams;
     let opening = read_opening(alloc, order.before, &mut reader)?;
-    let input = read_input(alloc, Language::Threads, &order.images, &mut opening.as_slice())?;
+    let input = read_input(
+        alloc,
+        Language::Threads,
+        &order.images,
+        &mut opening.as_slice(),
+    )?;
     let opening = Arc::new(alloc, opening)?;
-    let Input { script, sectors } = input;
-    let store = MemoryStore::at_boot(alloc, script.setup.guest.drives, &sectors)?;
+    let (mut session, ends) = session_of(alloc, &input, notes)?;
     let mine = Arc::new(alloc, Parker::new())?;
-    let (first_to, first_keys) = RingBuffer::new(alloc, BYTES)?;
-    let (second_to, second_keys) = RingBuffer::new(alloc, BYTES)?;
-    let (screen, shown) = RingBuffer::new(alloc, BYTES)?;
-    let (quits_to, quits) = RingBuffer::new(alloc, 1)?;
-    let first = PortEnd::new(Keyboard::of(first_keys), Screen::of(screen));
-    let second = PortEnd::new(Keyboard::of(second_keys), Screen::dark());
-    let mut session = Session::new(alloc, store, first, second, quits, notes)?;
     let pipes = Pipes {
+        files,
         folder: order.folder.as_str(),
         opening: &opening,
     };
-    for place in 0..order.places {
-        add_place(rt, files, alloc, &pipes, place, &mine, &mut session)?;
-    }
+    add_places(rt, alloc, &pipes, order.places, &mine, &mut session)?;
+    run_session(
+        rt,
+        alloc,
+        order.quit,
+        session,
+        ends,
+        input,
+        (reader, writer),
+        mine,
+    )
+}
+
+// The ends of the rings that are not the session's own.
+struct Ends {
+    first: Producer<Stroke>,
+    second: Producer<Stroke>,
+    quits: Producer<Quit>,
+    shown: Consumer<Shown>,
+}
+
+// An outside that has no place for a host yet.
+fn session_of<N: Write + Drop>(
+    alloc: Global,
+    input: &Input,
+    notes: N,
+) -> R<(Session<MemoryStore, N>, Ends)> {
+    let store = MemoryStore::at_boot(alloc, input.script.setup.guest.drives, &input.sectors)?;
+    let (first, first_keys) = RingBuffer::new(alloc, BYTES)?;
+    let (second, second_keys) = RingBuffer::new(alloc, BYTES)?;
+    let (screen, shown) = RingBuffer::new(alloc, BYTES)?;
+    let (quits, quits_from) = RingBuffer::new(alloc, 1)?;
+    let session = Session::new(
+        alloc,
+        store,
+        PortEnd::new(Keyboard::of(first_keys), Screen::of(screen)),
+        PortEnd::new(Keyboard::of(second_keys), Screen::dark()),
+        quits_from,
+        notes,
+    )?;
+    let ends = Ends {
+        first,
+        second,
+        quits,
+        shown,
+    };
+    Ok((session, ends))
+}
+
+// Hears keys, shows what appears, and serves the hosts between them.
+fn run_session<
+    H: Threads + Wait + Clock + Copy + Drop + Send + Sync + 'static,
+    R: Read + IsTerminal + Drop + Send + 'static,
+    W: Write + Drop + Send + 'static,
+    N: Write + Drop,
+>(
+    rt: H,
+    alloc: Global,
+    quit: u8,
+    mut session: Session<MemoryStore, N>,
+    ends: Ends,
+    input: Input,
+    streams: (R, W),
+    mine: Arc<Parker>,
+) -> Result<HostsEnd, Failure> {
+    let (source, sink) = streams;
+    let Ends {
+        first,
+        second,
+        quits,
+        shown,
+    } = ends;
     let mut keys = KeyReader {
-        source: TerminalKeys::new(reader),
-        quit: order.quit,
-        first: first_to,
-        second: second_to,
-        quits: quits_to,
+        source: TerminalKeys::new(source),
+        quit,
+        first,
+        second,
+        quits,
     };
     let wake = Arc::try_clone(&mine)?;
-    let lines = script.lines;
-    if thread::spawn(&rt, move || read_keys(&rt, &mut keys, &lines, &wake)).is_err() {
+    let lines = input.script.lines;
+    let hearing = thread::spawn(&rt, move || read_keys(&rt, &mut keys, &lines, &wake));
+    if hearing.is_err() {
         return Err(Failure::OutOfMemory);
     }
-    let Ok(showing) = thread::spawn(&rt, move || show_all(&rt, writer, shown).is_ok()) else {
+    let writer = ScreenWriter { sink, shown };
+    let Ok(showing) = thread::spawn(&rt, move || show_all(&rt, writer).1.is_ok()) else {
         return Err(Failure::OutOfMemory);
     };
     let end = run_hosts(&rt, alloc, &mut session, &mine);

@@ -4,7 +4,7 @@ use command_hosts::Session;
 use frame_streams::{FrameReader, FrameWriter, read_frames, write_frames};
 use host_frames::FrameBuffer;
 use i8080_words::{Fault, R};
-use rtrb::RingBuffer;
+use rtrb::{Consumer, Producer, RingBuffer};
 use shared_disk::SectorStore;
 use std::alloc::Global;
 use std::fs::{File, OpenOptions};
@@ -16,60 +16,91 @@ use std::time::Clock;
 // How many frames of one host wait at most.
 const FRAMES: usize = 4_096;
 
-/// What each place has: the folder of the pipes, and what a host is given before its first frame.
-#[derive(Clone, Copy)]
+/// The named pipes of all places: their folder, and what each host is given before its first frame.
 pub(crate) struct Pipes<'a> {
+    pub(crate) files: HostRuntime,
     pub(crate) folder: &'a str,
     pub(crate) opening: &'a Arc<Vec<u8>>,
 }
 
-/// One place more, for the host whose streams are the pipes `N.in` and `N.out`. They are opened when it opens them, which need
-/// not be soon.
-pub(crate) fn add_place<
+/// Adds places for hosts, so many, to a session. Whoever reads a host's frames wakes the session's loop.
+pub(crate) fn add_places<
     H: Threads + Wait + Clock + Copy + Drop + Send + Sync + 'static,
     D: SectorStore,
     N: Write + Drop,
 >(
     rt: H,
-    files: HostRuntime,
+    alloc: Global,
+    pipes: &Pipes<'_>,
+    count: u64,
+    mine: &Arc<Parker>,
+    session: &mut Session<D, N>,
+) -> R<()> {
+    for place in 0..count {
+        let from = read_place(rt, alloc, pipes, place, mine)?;
+        let (to, wake) = write_place(rt, alloc, pipes, place)?;
+        session.add(from, to, wake)?;
+    }
+    Ok(())
+}
+
+// Starts the thread that reads the frames of the host at a place. Its pipe is opened when the host opens it, which need not be
+// soon.
+fn read_place<H: Threads + Clock + Copy + Drop + Send + Sync + 'static>(
+    rt: H,
     alloc: Global,
     pipes: &Pipes<'_>,
     place: u64,
     mine: &Arc<Parker>,
-    session: &mut Session<D, N>,
-) -> R<()> {
+) -> R<Consumer<Vec<u8>>> {
     let folder = pipes.folder;
-    let (to_me, from) = RingBuffer::new(alloc, FRAMES)?;
+    let files = pipes.files;
+    let (bodies, from) = RingBuffer::new(alloc, FRAMES)?;
     let path = format!(in alloc; "{folder}/{place}.out")?;
     let wake = Arc::try_clone(mine)?;
     let pending = FrameBuffer::new(alloc)?;
-    let reading = thread::spawn(&rt, move || {
+    let thread = thread::spawn(&rt, move || {
         if let Ok(source) = File::open(&files, path.as_str()) {
-            let bodies = to_me;
-            let (reader, _) = read_frames(&rt, alloc, FrameReader { source, pending, bodies }, &wake);
+            let reader = FrameReader {
+                source,
+                pending,
+                bodies,
+            };
+            let (reader, _) = read_frames(&rt, alloc, reader, &wake);
             drop(reader);
         }
         wake.unpark();
     });
-    if reading.is_err() {
-        return Err(Fault::OutOfMemory);
+    match thread {
+        Ok(_) => Ok(from),
+        Err(_) => Err(Fault::OutOfMemory),
     }
-    drop(reading);
+}
+
+// Starts the thread that gives the host at a place what comes first, and writes frames to it.
+fn write_place<H: Threads + Wait + Copy + Drop + Send + Sync + 'static>(
+    rt: H,
+    alloc: Global,
+    pipes: &Pipes<'_>,
+    place: u64,
+) -> R<(Producer<Vec<u8>>, Arc<Parker>)> {
+    let folder = pipes.folder;
+    let files = pipes.files;
     let (to, frames) = RingBuffer::new(alloc, FRAMES)?;
     let path = format!(in alloc; "{folder}/{place}.in")?;
     let theirs = Arc::new(alloc, Parker::new())?;
     let wake = Arc::try_clone(&theirs)?;
     let opening = Arc::try_clone(pipes.opening)?;
-    let writing = thread::spawn(&rt, move || {
-        if let Ok(mut sink) = OpenOptions::new().write(true).open(&files, path.as_str()) {
-            if sink.write_all(opening.as_slice()).is_ok() {
-                let _ = write_frames(&rt, FrameWriter { sink, frames }, &wake);
-            }
+    let thread = thread::spawn(&rt, move || {
+        let Ok(mut sink) = OpenOptions::new().write(true).open(&files, path.as_str()) else {
+            return;
+        };
+        if sink.write_all(opening.as_slice()).is_ok() {
+            let _ = write_frames(&rt, FrameWriter { sink, frames }, &wake);
         }
     });
-    if writing.is_err() {
-        return Err(Fault::OutOfMemory);
+    match thread {
+        Ok(_) => Ok((to, theirs)),
+        Err(_) => Err(Fault::OutOfMemory),
     }
-    drop(writing);
-    session.add(from, to, theirs)
 }

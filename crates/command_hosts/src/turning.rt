@@ -268,5 +268,7 @@ fn show_on(screen: &mut Screen, port: u8, byte: u8) {
 fn is_deserted(lines: &[HostLine]) -> bool
     ensures { result ≡ have_no_machine lines.now }
 {
-    lines.iter().all(|line| line.is_cut() || line.number().is_none())
+    lines
+        .iter()
+        .all(|line| line.is_cut() || line.number().is_none())
 }

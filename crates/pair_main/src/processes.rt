@@ -1,8 +1,8 @@
 //! One run of the program as a process of a pair: over standard input and standard output as they are.
 
 use command_ending::Failure;
-use command_host::{ending_of_host, ending_of_hosts, run_host, run_outside};
-use command_line::{Request, request_of};
+use command_host::{OutsideStreams, ending_of_host, ending_of_hosts, run_host, run_outside};
+use command_line::{HostOrder, HostsOrder, Request, request_of};
 use std::alloc::Global;
 use std::borrow::CowStr;
 use std::sync::Wait;
@@ -18,25 +18,38 @@ pub fn run_process<H: Threads + Wait + Clock + Copy + Drop + Send + Sync + 'stat
     arguments: &[String],
 ) -> Option<(u8, CowStr<'static>)> {
     let ended = match request_of(alloc, arguments) {
-        Ok(Request::Host(order)) => match run_host(rt, alloc, &order, host.stdin(), host.stdout()) {
-            Ok(end) => Ok(ending_of_host(end)),
-            Err(failure) => Err(failure),
-        },
-        Ok(Request::Hosts(order)) => match run_outside(
-            rt,
-            host,
-            alloc,
-            &order,
-            host.stdin(),
-            host.stdout(),
-            host.stderr(),
-        ) {
-            Ok(end) => Ok(ending_of_hosts(end)),
-            Err(failure) => Err(failure),
-        },
+        Ok(Request::Host(order)) => host_ending(rt, host, alloc, &order),
+        Ok(Request::Hosts(order)) => hosts_ending(rt, host, alloc, &order),
         _ => return None,
     };
     Some(ending(alloc, ended))
+}
+
+// Runs a host.
+fn host_ending<H: Threads + Wait + Clock + Copy + Drop + Send + Sync + 'static>(
+    rt: H,
+    host: HostRuntime,
+    alloc: Global,
+    order: &HostOrder,
+) -> Result<(u8, &'static str), Failure> {
+    let end = run_host(rt, alloc, order, host.stdin(), host.stdout())?;
+    Ok(ending_of_host(end))
+}
+
+// Runs the outside of hosts.
+fn hosts_ending<H: Threads + Wait + Clock + Copy + Drop + Send + Sync + 'static>(
+    rt: H,
+    host: HostRuntime,
+    alloc: Global,
+    order: &HostsOrder,
+) -> Result<(u8, &'static str), Failure> {
+    let streams = OutsideStreams {
+        reader: host.stdin(),
+        writer: host.stdout(),
+        notes: host.stderr(),
+    };
+    let end = run_outside(rt, host, alloc, order, streams)?;
+    Ok(ending_of_hosts(end))
 }
 
 // The status and the text of a process that has ended.
