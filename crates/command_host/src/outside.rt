@@ -82,6 +82,7 @@ pub fn run_outside<
 }
 
 // The ends of the rings that are not the session's own.
+#[derive(Drop)]
 struct Ends {
     first: Producer<Stroke>,
     second: Producer<Stroke>,

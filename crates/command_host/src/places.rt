@@ -17,6 +17,7 @@ use std::time::Clock;
 const FRAMES: usize = 4_096;
 
 /// The named pipes of all places: their folder, and what each host is given before its first frame.
+#[derive(Drop)]
 pub(crate) struct Pipes<'a> {
     pub(crate) files: HostRuntime,
     pub(crate) folder: &'a str,
