@@ -2,6 +2,9 @@
 use Rattle.std.specs.Prelude.{◌≡◌, ℕ, [], List}
 use Rattle.command_host.specs.declared.booting.Booted.{Booted}
 use Rattle.command_host.specs.declared.booting.Booted.TheVariants as booted
+use Rattle.command_hosts.specs.Runs.{Ended}
+use Rattle.command_hosts.specs.declared.session.HostsEnd.{HostsEnd}
+use Rattle.command_hosts.specs.declared.session.Session.{Session}
 use Rattle.ft_node.specs.AnyNode.{IsNode}
 use Rattle.ft_node.specs.Calls.{Begins}
 use Rattle.ft_node.specs.declared.node.Node as code
@@ -39,3 +42,8 @@ pub record HasServed {B S : Type 0} {H : Type 0} (state : B → S) (M : Machine 
   pub none_came : first.mail.came ≡ []
   pub none_gone : first.mail.gone ≡ []
   pub went : Goes state M copied first last
+
+-- an outside went on to its end, for this reason
+pub record HasEnded {D N : Type 0} (end : HostsEnd) (first : Session D N) : Type 0 where
+  pub last : Session D N
+  pub ended : Ended end first last

@@ -1,5 +1,7 @@
 //! The outside in a process: what its machine boots with and then keys come on one stream, what its terminal accepts goes on
 //! another, and its hosts are at the ends of named pipes.
+ghost use Rattle.std.specs.Prelude.{IfOk};
+ghost use Rattle.command_host.specs.Serving.{HasEnded};
 
 use crate::keys::{KeyReader, read_keys};
 use crate::opening::read_opening;
@@ -133,7 +135,9 @@ fn run_session<
     input: Input,
     streams: (R, W),
     mine: Arc<Parker>,
-) -> Result<HostsEnd, Failure> {
+) -> Result<HostsEnd, Failure>
+    ensures { IfOk result (λ end. HasEnded end session) }
+{
     let (source, sink) = streams;
     let Ends {
         first,
