@@ -26,7 +26,7 @@ import threading
 
 sys.path.insert(0, os.path.dirname(os.path.realpath(__file__)))
 import console
-from console import ENDINGS, HELP, LONGEST_WAIT, Keys, begin, raw_terminal, refuse
+from console import ENDINGS, HELP, LONGEST_WAIT, OF_TERMINALS, Keys, begin, raw_terminal
 from options import complain, count_in, drives_in, key_in, numbered
 from output import Output
 
@@ -105,7 +105,8 @@ class Hosts:
             words = ["sh", "-c", 'exec 3< "$1" 4> "$2"; shift 2; exec "$@" <&3 >&4 3<&- 4>&-', "host"]
             words += [self.path(place, "in"), self.path(place, "out"), *self.asked.host_words(self.program, place)]
             with open(self.path(place, "said"), "wb") as said:
-                process = subprocess.Popen(words, stdin=subprocess.DEVNULL, stderr=said, preexec_fn=heed_no_terminal)
+                # In a session of its own a host hears no signal of this command's terminal.
+                process = subprocess.Popen(words, stdin=subprocess.DEVNULL, stderr=said, start_new_session=True)
             self.processes.append(process)
             self.says(f"host {place} is process {process.pid}")
         begin(threading.Thread(target=self.watch, args=(place, process)))
@@ -116,8 +117,9 @@ class Hosts:
         if self.over.wait(MOMENT):
             return
         with open(self.path(place, "said"), encoding="utf-8", errors="replace") as file:
-            said = file.read().strip()
-        self.says(f"host {place} has ended, {f'killed by signal {-status}' if status < 0 else said or f'with status {status}'}")
+            said = file.read().strip().removeprefix("host: ")
+        why = f"killed by signal {-status}" if status < 0 else said or f"status {status}"
+        self.says(f"host {place} has ended: {why}")
         self.start()
 
     def end(self):
@@ -188,15 +190,10 @@ class Run:
         return 128 + number if number else self.outside.returncode
 
 
-def heed_no_terminal():
-    """A host hears no signal of this command's terminal."""
-    for it in console.OF_TERMINALS:
-        signal.signal(it, signal.SIG_IGN)
-
-
 def end_with_this_command():
-    """The outside hears no signal of the terminal either, and is killed if this command is."""
-    heed_no_terminal()
+    """The outside hears no signal of this command's terminal, and is killed if this command is."""
+    for it in OF_TERMINALS:
+        signal.signal(it, signal.SIG_IGN)
     ctypes.CDLL(None).prctl(PR_SET_PDEATHSIG, signal.SIGKILL)
 
 
