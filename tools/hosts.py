@@ -35,7 +35,7 @@ HOSTS, LATER, MOST = 3, 8, 99
 # What the first hosts are when the pair boots; all others are spares.
 ROLES = ("primary", "backup")
 # For how many seconds a host may go on after its stream has ended.
-PATIENCE = 5
+PATIENCE = 2
 # If the outside goes on for so many seconds after a host has ended, it was not the end of all.
 MOMENT = 0.2
 PR_SET_PDEATHSIG = 1
