@@ -1,15 +1,15 @@
 -- What holds of a fleet holds of the processes that are it.
-use Rattle.std.proofs.Common.{ℕ, ◌≡◌, Some, List, refl, sym, ap, ◌∙◌, subst}
+use Rattle.std.proofs.Common.{ℕ, ◌≡◌, ◌⊎◌, Some, List, refl, sym, ap, ◌∙◌, subst, inl, inr}
 use Rattle.std.specs.Prelude.{slice_get}
 use Rattle.altair_copies.specs.Copies.{image_copy}
 use Rattle.clone_state.specs.Copies.{CopiesAs}
-use Rattle.ft_node.specs.AnyNode.{IsNode}
 use Rattle.ft_node.specs.declared.node.Node as code
 use Rattle.ft_node.specs.declared.node.Node.TheVariants as node
 use Rattle.guest_lockstep.specs.Machine.{Machine}
 use Rattle.guest_lockstep.specs.declared.reads.Reads.TheVariants.{Shared}
 use Rattle.guest_parts.specs.Guest.{Guest}
 use Rattle.host_calls.proofs.Straying.{is-the-laws}
+use Rattle.host_calls.specs.Follows.{Lags}
 use Rattle.host_law.proofs.Interleaving.{runs-faithful, runs-kept}
 use Rattle.host_law.specs.Fleet.{Deed, Fleet, booted, with_spares}
 use Rattle.host_law.specs.Kept.{IsKept}
@@ -21,7 +21,7 @@ use Rattle.host_node.specs.declared.host.HostNode.{HostNode}
 use Rattle.host_node.specs.declared.host.Hosted.TheVariants as hosted
 use Rattle.pair_protocol.specs.Copying.{Copying, IsCopying}
 use Rattle.pair_protocol.specs.Lawful.{Lawful}
-use Rattle.pair_protocol.specs.Node.{Node, Alone}
+use Rattle.pair_protocol.specs.Node.{Node, Alone, Backup, Draining}
 use Rattle.pair_protocol.specs.World.{World, opening}
 use Rattle.process_runs.proofs.Running.{are_fleet}
 use Rattle.process_runs.specs.Laws.{AreFleet, AreKept, HasAlone, IsNodeOf}
@@ -34,6 +34,16 @@ shown_last : {S : Type 0} (M : Machine S) (C : Copying S) (f last : Fleet S) (w 
 shown_last M C f last w new deeds (law.Ends shows faithful) = shows
 shown_last M C f last w new deeds (law.Goes {mid = mid} {v = v} {deeds = more} shows faithful step follows grows rest) =
     shown_last M C mid last v new more rest
+
+-- a node that is alone has not run ahead
+alone_too : {S : Type 0} (M : Machine S) (x y : Node S) → (y ≡ x) ⊎ Lags M x y → y.role ≡ Alone → x.role ≡ Alone
+alone_too M x y (inl same) alone = ap (λ (z : Node _). z.role) (sym same) ∙ alone
+alone_too M x y (inr lags) alone =
+    let same : y.role ≡ x.role = ap (λ (z : Node _). z.role) lags.is in
+    elim lags.role [
+      | inl backup ↦ absurd (cc)
+      | inr draining ↦ absurd (cc)
+    ]
 
 module _ {B S : Type 0} {H : Type 0} (state : B → S) (M : Machine S) (C : Copying S) (drives : ℕ) (laws : Lawful M)
     (copying : IsCopying M C) (p : Processes B H) (are : AreFleet state M C drives p) where
@@ -49,16 +59,22 @@ module _ {B S : Type 0} {H : Type 0} (state : B → S) (M : Machine S) (C : Copy
   node_of place h n at has =
       let t = are.hosts place h at in
       let s = (subst (λ k. HasNode state M C drives h.number (are.host_at place) k t.x) has t.is).1 in
-      let same = is-the-laws M C laws copying are.fleet course.new
-      (shown_last M C _ are.fleet _ course.new are.deeds course.course) (are.host_at place) t.x s.y t.there s.follows in
-      record { x = t.x; there = t.there; is = subst (λ z. IsNode state M C drives n z) same s.is }
+      record {
+        x = t.x;
+        y = s.y;
+        there = t.there;
+        is = s.is;
+        same = is-the-laws M C laws copying are.fleet course.new
+            (shown_last M C _ are.fleet _ course.new are.deeds course.course) (are.host_at place) t.x s.y t.there s.follows;
+      }
 
   live : (m n : ℕ) → HasAlone p m → HasAlone p n → m ≡ n
   live m n a b =
       let x = node_of m a.host (node.Alone a.found) a.there a.has in
       let y = node_of n b.host (node.Alone b.found) b.there b.has in
       are.apart m n
-      (kept.kept.one_live (are.host_at m) (are.host_at n) x.x y.x x.there y.there x.is.role y.is.role)
+      (kept.kept.one_live (are.host_at m) (are.host_at n) x.x y.x x.there y.there
+      (alone_too M x.x x.y x.same x.is.role) (alone_too M y.x y.y y.same y.is.role))
 
   all_kept : AreKept state M C drives p
   all_kept = record { are = are; kept = kept; nodes = node_of; one_live = live }

@@ -1,6 +1,6 @@
 -- The laws: whatever the processes of a pair do, they are a fleet of the law of processes; so what holds of every fleet holds of
 -- them.
-use Rattle.std.specs.Prelude.{◌≡◌, ℕ, Some, List, slice_get}
+use Rattle.std.specs.Prelude.{◌≡◌, ◌⊎◌, ℕ, Some, List, slice_get}
 use Rattle.clone_state.specs.Copies.{CopiesAs}
 use Rattle.ft_node.specs.AnyNode.{IsNode}
 use Rattle.ft_node.specs.declared.alone.Alone as alone
@@ -9,6 +9,7 @@ use Rattle.ft_node.specs.declared.node.Node.TheVariants as node
 use Rattle.guest_lockstep.specs.Machine.{Machine}
 use Rattle.guest_lockstep.specs.declared.reads.Reads.TheVariants.{Shared}
 use Rattle.guest_parts.specs.Guest.{Guest}
+use Rattle.host_calls.specs.Follows.{Lags}
 use Rattle.host_law.specs.Fleet.{Deed, Fleet, Happened, booted}
 use Rattle.host_law.specs.Kept.{IsKept}
 use Rattle.host_node.specs.Hosts.{IsHosted}
@@ -52,12 +53,14 @@ ProcessesAreAFleet B H S =
 
 -- ---- so the devices have what one machine gives, and at most one host is alone
 
--- the node of a host is the one of the fleet
+-- the node of a host is the one of the fleet, or a backup's that has run ahead of it
 pub record IsNodeOf {B S : Type 0} {H : Type 0} (state : B → S) (M : Machine S) (C : Copying S) (drives n : ℕ) (f : Fleet S)
     (node : code.Node B H) : Type 0 where
   pub x : Node S
+  pub y : Node S
   pub there : slice_get f.hosts n ≡ Some x
-  pub is : IsNode state M C drives node x
+  pub is : IsNode state M C drives node y
+  pub same : (y ≡ x) ⊎ Lags M x y
 
 -- the host at a place has a node that is alone
 pub record HasAlone {B : Type 0} {H : Type 0} (p : Processes B H) (place : ℕ) : Type 0 where
