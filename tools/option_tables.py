@@ -5,6 +5,8 @@ usage: tools/option_tables.py           writes them
        tools/option_tables.py --check   says whether they are as the program has them
 """
 
+from __future__ import annotations
+
 import pathlib
 import re
 import subprocess
@@ -27,10 +29,11 @@ DEFAULT = re.compile(r" \[default: ([^]]*)\]")
 
 
 class Option(NamedTuple):
-    """An option as it is given to some commands: its name with its value, and what it does."""
+    """An option as it is given to some commands: its name with its value, what it does, and which values it has."""
 
     given: str
     text: str
+    values: str
 
 
 Row = tuple[Option, list[str]]
@@ -47,18 +50,25 @@ def commands() -> list[str]:
     return [line.split()[0] for line in listed.splitlines() if line.split()[0] != "help"]
 
 
-def spelled(text: str) -> str:
-    """What an option does, as a cell of a table has it."""
-    text = FOR.sub("", text)
-    text = VALUES.sub(lambda found: f"; values: {found[1]}", text)
-    text = DEFAULT.sub(r"; default: \1", text)
-    return (text[0].lower() + text[1:]).replace("\\", r"\\").replace("|", r"\|")
+def cell(text: str) -> str:
+    return text.replace("\\", r"\\").replace("|", r"\|")
+
+
+def option_of(line: str) -> Option | None:
+    """The option that a line of a help text is about, if it is about one."""
+    found = OPTION.fullmatch(line)
+    if not found:
+        return None
+    name, value, text = found.groups()
+    values = [it[1] for it in VALUES.finditer(text)] + [f"default {it[1]}" for it in DEFAULT.finditer(text)]
+    text = DEFAULT.sub("", VALUES.sub("", FOR.sub("", text)))
+    return Option(f"{name} {value}" if value else name, cell(text[0].lower() + text[1:]), "; ".join(values))
 
 
 def options_of(command: str) -> dict[str, Option]:
     """The options of a command; one that ./pair reads itself stands for the program's of the same name."""
-    found = filter(None, (OPTION.fullmatch(line) for line in help_of(command).splitlines()))
-    return {it[1]: Option(" ".join(filter(None, (it[1], it[2]))), spelled(it[3])) for it in found}
+    found = filter(None, map(option_of, help_of(command).splitlines()))
+    return {it.given.split()[0]: it for it in found}
 
 
 def rows() -> list[Row]:
@@ -72,8 +82,8 @@ def rows() -> list[Row]:
 
 def table(chosen: list[Row]) -> str:
     """A table of options."""
-    lines = [f"| `{it.given}` | {', '.join(takers)} | {it.text} |" for it, takers in chosen]
-    return "\n".join(["| Option | Commands | What it does |", "|---|---|---|", *lines])
+    lines = [f"| `{it.given}` | {', '.join(takers)} | {it.text} | {it.values} |" for it, takers in chosen]
+    return "\n".join(["| Option | Commands | What it does | Values |", "|---|---|---|---|", *lines])
 
 
 def tables() -> dict[str, str]:
