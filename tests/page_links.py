@@ -151,6 +151,12 @@ def no_storey_is_built_on_one_above_it() -> None:
     expect(upwards, [], "crates that stand on one above them")
 
 
+def each_file_says_what_it_is_about() -> None:
+    """A case: each file of definitions or lemmas begins with a comment, as docs/ARCHITECTURE.md and docs/PROOFS.md say."""
+    files = [it for kind in ("specs", "proofs") for it in TOP.glob(f"crates/*/{kind}/*.antt") if it.name != "Lib.antt"]
+    expect([name_of(it) for it in files if not it.read_text(encoding="utf-8").startswith("-- ")], [], "files that begin without one")
+
+
 CHECKS = {
     "links": links_lead_somewhere,
     "files": files_exist,
@@ -162,6 +168,7 @@ OF_ALL = {
     "crates of ARCHITECTURE": architecture_has_each_crate_once,
     "crates of GATE": the_gate_counts_the_edits_of_each_crate,
     "the house": no_storey_is_built_on_one_above_it,
+    "first lines of files": each_file_says_what_it_is_about,
 }
 
 
