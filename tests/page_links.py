@@ -13,7 +13,7 @@ sys.path.append(str(TOP / "tools"))
 import wrap
 
 # The most words of a cell.
-MOST_WORDS = 25
+MOST_WORDS = 24
 
 # A link, with what it leads to; a code span.
 LINK = re.compile(r"\[[^]]*\]\(([^)\s]+)\)")

@@ -186,6 +186,11 @@ def plays(command: str) -> None:
         prints(b"".join(lines[-int(found[4] or 0) :]), command)
 
 
+def on_no_page(command: str) -> None:
+    """A case: a command that must do something here stands on some page."""
+    raise Differs("no page has it, and tests/page_runs.py does")
+
+
 def answers_of(block: list[str]) -> list[tuple[str, str]]:
     """The commands of a session, each with what is printed; a command may have lines of its own up to END."""
     found: list[tuple[str, str]] = []
@@ -314,6 +319,13 @@ def commands_of_the_console() -> None:
         expect(((room / "work.dsk").stat().st_size, b"</svg>" in (room / "story.svg").read_bytes()), (len(IMAGE), True), "the files")
 
 
+def three_commands() -> None:
+    """A case: README.md has three commands, and docs/COMMANDS.md has them too."""
+    everything = [columns(line)[0] for block in blocks(part("docs/COMMANDS.md", "Commands")) for line in block]
+    found = [columns(line)[0] for line in blocks(part("README.md", "Three commands"))[0]]
+    expect((len(found), [it for it in found if it not in everything]), (3, []), "the commands, and those that only README.md has")
+
+
 def options_are_the_programs() -> None:
     """A case: the tables of docs/COMMANDS.md are those of the help texts."""
     said = run("tools/option_tables.py --check", status=None).decode()
@@ -326,6 +338,7 @@ OTHERS: dict[str, Case] = {
     "SCRIPTS.md: a failover, line by line": failover_line_by_line,
     "SHELL.md: five minutes in the shell": session_of_the_shell,
     "SHELL.md: a guest that polls": guest_that_polls,
+    "README.md: three commands": three_commands,
     "README.md: a console session": functools.partial(session_at_the_console, "README.md", "A failure"),
     "CONSOLE.md: a console session": functools.partial(session_at_the_console, "docs/CONSOLE.md", "A session"),
     "CONSOLE.md: the commands": commands_of_the_console,
@@ -336,5 +349,6 @@ OTHERS: dict[str, Case] = {
 def cases() -> dict[str, Case]:
     """The cases, by their titles."""
     commands = dict.fromkeys(it for page in PAGES for it in commands_of(page))
+    known = {it: functools.partial(on_no_page, it) for it in DOES if it not in commands}
     sessions = {f"{page}: {it[0]}": functools.partial(session_of_commands, it) for page in PAGES for it in sessions_of(page)}
-    return {it: functools.partial(plays, it) for it in {**commands, **DOES}} | sessions | OTHERS
+    return {it: functools.partial(plays, it) for it in commands} | known | sessions | OTHERS

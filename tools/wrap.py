@@ -20,8 +20,8 @@ WIDTH = 100
 UNBROKEN = re.compile(r"(?:`+[^`]+`+|!?\[[^\]]*\]\([^)]*\)|\S)+")
 # An item of a list: its indent, its mark, and its first words.
 ITEM = re.compile(r"( *)([-*+]|\d+\.)( +)(?=\S)")
-# Lines that are no prose: headings, rows of tables, comments, quotations, and lines of dashes.
-VERBATIM = re.compile(r"#+ |\||<|>|-{3,}$")
+# Lines that are no prose, perhaps in an item: headings, rows of tables, comments, quotations, and lines of dashes.
+VERBATIM = re.compile(r" *(?:#+ |\||<|>|-{3,}$)")
 # Words that would begin an item, a heading or a row at the start of a line.
 MARK = re.compile(r"([-*+]|\d+\.|#+)$|[|>]")
 
@@ -73,29 +73,25 @@ class Wrapper:
         self.end_paragraph()
         self.text, self.first, self.later = line[len(first):], first, later
 
-    def indent(self, line: str) -> str:
-        """The blanks with which a paragraph begins: no more than belong to the item that it continues."""
-        return line[: min(len(line) - len(line.lstrip()), len(self.later))]
-
     def take(self, line: str) -> None:
         """Takes the next line of the page."""
-        item = ITEM.match(line)
+        item, blanks = ITEM.match(line), len(line) - len(line.lstrip())
         if line.startswith("```"):
             self.is_fenced = not self.is_fenced
             self.keep(line)
-        elif self.is_fenced or VERBATIM.match(line):
+        elif self.is_fenced or not line:
             self.keep(line)
-        elif not line.strip():
-            self.keep("")
-        elif item and len(item[1]) <= len(self.later):
+        elif VERBATIM.match(line):
+            self.keep(line)
+            self.later = self.later[:blanks]
+        elif item and blanks <= len(self.later):
             self.begin(line, item[0], " " * len(item[0]))
         elif self.text:
             self.text += f" {line.strip()}"
-        elif line.startswith(" " * (len(self.indent(line)) + 4)):
+        elif blanks >= 4 and blanks > len(self.later):
             self.keep(line)
         else:
-            self.later = self.indent(line)
-            self.begin(line, self.later, self.later)
+            self.begin(line, line[:blanks], line[:blanks])
 
 
 def wrapped(page: str) -> str:
