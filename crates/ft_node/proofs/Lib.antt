@@ -13,6 +13,7 @@ pub mod AloneSteps
 pub mod FollowerMoves
 pub mod CheckedMoves
 pub mod FollowerLog
+pub mod RunningAhead
 pub mod FetchedBytes
 pub mod Deliveries
 pub mod LastMoves

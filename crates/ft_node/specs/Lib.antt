@@ -6,5 +6,6 @@ pub mod AnyNode
 pub mod Due
 pub mod Guests
 pub mod Calls
+pub mod Ahead
 pub mod Noting
 pub mod Checked

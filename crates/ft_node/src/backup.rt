@@ -1,16 +1,18 @@
 //! The backup of a generation.
-ghost use Rattle.std.specs.Prelude.{◌≡◌, IfOk, IfSome, OnErr};
+ghost use Rattle.std.specs.Prelude.{◌≡◌, IfOk, IfSome, Ok, OnErr};
 ghost use Rattle.log_channel.specs.Channel.{MayHold};
 ghost use Rattle.log_channel.specs.Packet.{packet_at};
 ghost use Rattle.pair_protocol.specs.Node as protocol;
 ghost use Rattle.log_entry.specs.Standing.{IsOnTrace};
+ghost use Rattle.ft_node.specs.Ahead.{RunsAhead, may_run_ahead, steps_ahead};
 ghost use Rattle.ft_node.specs.Calls as calls;
 ghost use Rattle.replayer.specs.Replaying.{place_of};
 ghost use Rattle.ft_node.specs.Checked as checked;
 ghost use Rattle.ft_node.specs.Roles.{IsFollower};
 
+use crate::ran::Lead;
 use disk_dcdd::SectorAddress;
-use guest_lockstep::{Lockstep, Reads};
+use guest_lockstep::{Lockstep, Reads, Stopped};
 use i8080_words::{Fault, R};
 use log_channel::Receiver;
 use log_entry::Entry;
@@ -86,6 +88,42 @@ impl<B: Lockstep> Backup<B> {
         ensures unchanged { OnErr result (self.new ≡ self.old) }
     {
         self.replayer.replay(&mut self.receiver, turns)
+    }
+
+    /// Makes at most `turns` steps past the last entry that it holds, up to where its primary was.
+    pub(crate) fn run_ahead(&mut self, lead: Lead, turns: u64) -> Stopped
+        ensures { (x : protocol.Node B.State)
+            → IsFollower protocol.Backup self.old.reads (B.state self.old.replayer.board) self.old.replayer.fetched
+            self.old.receiver x
+            → RunsAhead B.machine lead turns x (Ok result)
+            (IsFollower protocol.Backup self.new.reads (B.state self.new.replayer.board) self.new.replayer.fetched
+            self.new.receiver) }
+    {
+        let most = turns.min(self.steps_ahead(lead));
+        self.replayer.run_ahead(most)
+    }
+
+    // How many steps it may make past that entry.
+    fn steps_ahead(&self, lead: Lead) -> u64
+        ensures { (x : protocol.Node B.State)
+            → IsFollower protocol.Backup self.now.reads (B.state self.now.replayer.board) self.now.replayer.fetched
+            self.now.receiver x
+            → steps_ahead B.machine lead x ≡ result }
+    {
+        if !self.may_run_ahead(lead) {
+            return 0;
+        }
+        lead.count.saturating_sub(self.replayer.board().count())
+    }
+
+    // Whether it has replayed all that it holds, and holds all that its primary had.
+    fn may_run_ahead(&self, lead: Lead) -> bool
+        ensures { (x : protocol.Node B.State)
+            → IsFollower protocol.Backup self.now.reads (B.state self.now.replayer.board) self.now.replayer.fetched
+            self.now.receiver x
+            → may_run_ahead lead x ≡ result }
+    {
+        self.receiver.is_empty() && lead.entries <= self.receiver.held()
     }
 
     /// The sector for whose bytes it waits.

@@ -1,6 +1,7 @@
 //! A node of a pair: its role, its machine, and its part of each event.
 #![tactic(auto)]
 
+mod ahead;
 mod alone;
 mod backup;
 mod copying;
@@ -23,5 +24,5 @@ pub use halted::Halted;
 pub use joining::Joining;
 pub use node::Node;
 pub use primary::Primary;
-pub use ran::{Drained, NextGeneration, PartCame, Ran};
+pub use ran::{Drained, Lead, NextGeneration, PartCame, Ran};
 pub use winner::Winner;

@@ -13,13 +13,14 @@ ghost use Rattle.pair_protocol.specs.Copying.{Copying};
 ghost use Rattle.pair_protocol.specs.Effects.{Took};
 ghost use Rattle.pair_protocol.specs.Node.{Node};
 ghost use Rattle.recorder.specs.Recording.{MayTake};
+ghost use Rattle.ft_node.specs.Ahead.{lead_of};
 ghost use Rattle.ft_node.specs.Calls as calls;
 ghost use Rattle.ft_node.specs.Checked as checked;
 ghost use Rattle.ft_node.specs.Noting as noting;
 ghost use Rattle.ft_node.specs.Roles.{HasImage, IsPrimary};
 
 use crate::kept_image::KeptImage;
-use crate::ran::Ran;
+use crate::ran::{Lead, Ran};
 use clone_state::Copies;
 use event_callbacks::{OpId, Operation, PORTS};
 use guest_lockstep::{Input, Lockstep, Reads, StopReason, Stopped};
@@ -70,6 +71,19 @@ impl<B: Lockstep + Drop> Primary<B> {
             sender: Sender::new(generation),
             coverage: Coverage::new(keys),
             image,
+        }
+    }
+
+    /// How many entries it has logged, and how many steps its guest has made.
+    pub(crate) fn lead(&self) -> Lead
+        ensures { (C : Copying B.State) (x : Node B.State)
+            → IsPrimary B.machine (HasImage C self.now.sender.generation self.now.image) self.now.recorder.reads
+            (B.state self.now.recorder.board) self.now.recorder.log self.now.sender self.now.coverage x
+            → lead_of B.machine x ≡ result }
+    {
+        Lead {
+            entries: self.recorder.log().next(),
+            count: self.recorder.board().count(),
         }
     }
 

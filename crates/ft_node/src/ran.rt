@@ -1,4 +1,4 @@
-//! How many moves a node made and why no more, what it may begin, and what a part was to it.
+//! How many moves a node made and why no more, how far it is, what it may begin, and what a part was to it.
 
 use guest_lockstep::{Reads, ReplayEnd, StopReason};
 
@@ -15,6 +15,13 @@ pub struct Ran {
 pub struct Drained {
     pub moves: u64,
     pub why: ReplayEnd,
+}
+
+/// How far a primary is: how many entries it has logged, and how many steps its machine has made.
+#[derive(Clone, Copy)]
+pub struct Lead {
+    pub entries: u64,
+    pub count: u64,
 }
 
 /// The generation that an alone node may begin, how many drives its machine has, and how its log will carry sectors.

@@ -1,2 +1,4 @@
 pub mod Stepping
+pub mod Runs
+pub mod Lagging
 pub mod Straying

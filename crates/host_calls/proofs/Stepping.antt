@@ -31,7 +31,7 @@ use Rattle.host_calls.specs.Calls.{AreSteps}
 use Rattle.host_calls.specs.Made.{Made}
 
 -- a call, or a question, that gave a value
-made : {A S : Type 0} (o : Option Fault) (needs : Node S → Type 0) (does : A → Node S → Node S → Type 0) (x : Node S) (v : A)
+pub made : {A S : Type 0} (o : Option Fault) (needs : Node S → Type 0) (does : A → Node S → Node S → Type 0) (x : Node S) (v : A)
     (Is : Node S → Type 0) → Call o needs does x (Ok v) Is → (o ≡ None) × Makes x (does v) Is
 made None needs does x v Is c = (refl, c)
 made (Some fault) needs does x v Is c = (let k = c.0 in absurd (cc))

@@ -1,6 +1,6 @@
--- A node that strays makes any step and stays, so whatever the host's node does, it does too. And some list has as many
+-- Whatever the host's node does, the law's does too: a node that strays makes any step and stays. And some list has as many
 -- keys at each port as a machine has taken.
-use Rattle.std.proofs.Common.{◌++◌, ◌∙◌, ◌≡◌, ◌⊎◌, List, Some, [], ◌∷◌, ap, arith, inl, inr, length, refl, suc, sym, zero, ℕ}
+use Rattle.std.proofs.Common.{◌++◌, ◌∙◌, ◌≡◌, ◌⊎◌, List, Some, [], ◌∷◌, ap, arith, inl, inr, length, refl, subst, suc, sym, zero, ℕ}
 use Rattle.std.specs.Prelude.{slice_get}
 use Rattle.guest_lockstep.specs.Machine.{Machine}
 use Rattle.guest_lockstep.specs.Reach.{keys}
@@ -22,15 +22,25 @@ use Rattle.host_law.specs.Host.{HasTakenKeys, HostStep}
 use Rattle.host_law.specs.Shows.{Shows}
 use Rattle.host_law.proofs.Keeping.{has-taken-keys}
 use Rattle.host_law.proofs.Running.{ran-more, ran-nothing}
-use Rattle.host_calls.specs.Follows.{Follows, HasList, IsStray, RanTo, Same, StepsToo}
+use Rattle.host_calls.specs.Follows.{Follows, HasList, IsAhead, IsStray, Lags, RanTo, Same, StepsToo}
+use Rattle.host_calls.proofs.Lagging.{Repeats, no-alone, steps-lag}
+use Rattle.host_calls.proofs.Runs.{ran-both}
 
 -- ---- steps and runs
 
+-- the law's node makes one step
+one : {S : Type 0} (M : Machine S) (C : Copying S) (me : ℕ) (x y z : Node S) (act : Act) → HostStep M C me x act y →
+    Follows M y z → StepsToo M C me x act z
+one M C me x y z act step follows =
+    record { next = y; ran = ran-more M C me x [] [] x y act (ran-nothing M C me x) step; follows = follows }
+
 pub steps-follow : {S : Type 0} (M : Machine S) (C : Copying S) (me : ℕ) (x y z : Node S) (act : Act) → Follows M x y →
     HostStep M C me y act z → StepsToo M C me x act z
-steps-follow M C me x y z act Same step = record { next = z; step = step; follows = Same }
+steps-follow M C me x y z act Same step = one M C me x z z act step Same
+steps-follow M C me x y z act (IsAhead u lags) step =
+    steps-lag M C me x z lags.s act lags.role lags.ahead (subst (λ n. HostStep M C me n act z) lags.is step)
 steps-follow M C me x y z act (IsStray u alone stray) step =
-    record { next = x; step = host.Strays act alone stray; follows = IsStray z alone stray }
+    one M C me x x z act (host.Strays act alone stray) (IsStray z alone stray)
 
 pub ran-to-more : {S : Type 0} (M : Machine S) (C : Copying S) (me : ℕ) (x : Node S) (read written : List Frame)
     (y z : Node S) (act : Act) → RanTo M C me x read written y → HostStep M C me y act z →
@@ -38,7 +48,7 @@ pub ran-to-more : {S : Type 0} (M : Machine S) (C : Copying S) (me : ℕ) (x : N
 ran-to-more M C me x read written y z act r step =
     let also = steps-follow M C me r.last y z act r.follows step in record {
       last = also.next;
-      ran = ran-more M C me x read written r.last also.next act r.ran also.step;
+      ran = ran-both M C me x r.last also.next read written act.takes act.sends r.ran also.ran;
       follows = also.follows;
     }
 
@@ -46,8 +56,9 @@ pub ran-to-nothing : {S : Type 0} (M : Machine S) (C : Copying S) (me : ℕ) (x 
 ran-to-nothing M C me x = record { last = x; ran = ran-nothing M C me x; follows = Same }
 
 pub is-the-laws : {S : Type 0} (M : Machine S) (C : Copying S) → Lawful M → IsCopying M C → (f : Fleet S) (w : World S) →
-    Shows M C f w → (n : ℕ) (x y : Node S) → slice_get f.hosts n ≡ Some x → Follows M x y → y ≡ x
-is-the-laws M C laws copies f w h n x y there Same = refl
+    Shows M C f w → (n : ℕ) (x y : Node S) → slice_get f.hosts n ≡ Some x → Follows M x y → (y ≡ x) ⊎ Lags M x y
+is-the-laws M C laws copies f w h n x y there Same = inl refl
+is-the-laws M C laws copies f w h n x y there (IsAhead u lags) = inr lags
 is-the-laws M C laws copies f w h n x y there (IsStray u alone stray) =
     absurd (stray (has-taken-keys M C laws copies f w h n x there alone))
 
@@ -110,6 +121,8 @@ module _ {S : Type 0} (M : Machine S) where
     | inl has ↦ record { list = x.list; taken = has; follows = Same }
     | inr stray ↦ any-list x x alone stray
   ]
+  has-list x y (IsAhead u lags) alone =
+      absurd (no-alone (subst Repeats (sym (ap (λ (n : Node S). n.role) lags.is) ∙ alone) lags.role))
   has-list x y (IsStray u strays stray) alone = any-list x y strays stray
 
 -- ---- no node of the code that is alone says what its list is

@@ -1,6 +1,6 @@
 //! What follows from the promises of a node's calls. Nothing here runs.
 ghost use Rattle.host_calls.specs.Calls.{CallsAreSteps, HostsBegin};
-ghost use Rattle.host_calls.specs.Follows.{AloneNodesHaveLists, IsTheLaws, KeysAreTheSame, ListsAreFree, RunsFollow, StepsFollow};
+ghost use Rattle.host_calls.specs.Follows.{AheadFollows, AloneNodesHaveLists, IsTheLaws, KeysAreTheSame, ListsAreFree, RunsFollow, StepsFollow};
 
 /// Whatever a call of a node that is on a host promises, the host has made a step of its own.
 pub fn calls_are_steps<B, H, S>()
@@ -12,10 +12,12 @@ pub fn hosts_begin<S>()
     ensures begin { HostsBegin S }
 {}
 
-/// Whatever step the node of a host makes, the law has one with the same frames, also where a machine was made of parts
-/// that no pair sent. In a fleet no machine was, and the node is the law's.
+/// Whatever step the node of a host makes, the law has a run with the same frames, also where a machine was made of parts
+/// that no pair sent. In a fleet no machine was, and the node is the law's, or a backup that has run ahead of it: the law's
+/// makes those steps when an entry shows them, or once it has drained.
 pub fn steps_are_followed<S>()
     ensures steps { StepsFollow S }
+    ensures ahead { AheadFollows S }
     ensures runs { RunsFollow S }
     ensures fleets { IsTheLaws S }
 {}

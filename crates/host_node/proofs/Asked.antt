@@ -20,7 +20,7 @@ use Rattle.host_law.specs.Frame as law
 use Rattle.host_law.specs.Host as host
 use Rattle.host_calls.proofs.Straying.{steps-follow}
 use Rattle.host_node.proofs.Calling.{sending_it, taking_mine, told}
-use Rattle.host_node.proofs.Going.{once, ran_one}
+use Rattle.host_node.proofs.Going.{once, ran_as}
 use Rattle.host_node.specs.Goes as goes
 use Rattle.host_node.specs.Goes.{Goes}
 use Rattle.host_node.specs.Hosts.{HasJoined, HasNode, SameHost}
@@ -137,7 +137,7 @@ module _ {B S : Type 0} {H : Type 0} (state : B → S) (M : Machine S) (copied :
         let l = steps-follow M C me x y made.y (law.taking (law.HasLost generation me)) h.1.follows made.step in
         record {
           y = l.next;
-          ran = ran_one M C drives me x l.next frames (law.taking (law.HasLost generation me)) [] l.step
+          ran = ran_as M C drives me x l.next frames (law.taking (law.HasLost generation me)) [] l.ran
               (t (law.HasLost generation me) (meaning.OfLost generation), tt) goes.Nothing;
           is = subst (λ h. HasNode state M C drives new.number me h l.next) (sym is) tt;
         });

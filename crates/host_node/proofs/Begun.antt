@@ -21,7 +21,7 @@ use Rattle.host_frames.specs.declared.frame.Notice.TheVariants as notice
 use Rattle.host_law.specs.Frame as law
 use Rattle.host_law.specs.Host as host
 use Rattle.host_node.proofs.Calling.{told}
-use Rattle.host_node.proofs.Going.{once, ran_one}
+use Rattle.host_node.proofs.Going.{once, ran_as, ran_one}
 use Rattle.host_node.proofs.Roles.{keeps_reads, never_spare}
 use Rattle.host_node.specs.Goes as goes
 use Rattle.host_node.specs.Goes.{Goes}
@@ -91,7 +91,7 @@ module _ {B S : Type 0} {H : Type 0} (state : B → S) (M : Machine S) (copied :
             let step = steps-follow M C me x (record y { list = l.list }) made.y act l.follows made.step in
             record {
               y = step.next;
-              ran = ran_one M C drives me x step.next frames act (went.bytes ∷ []) step.step
+              ran = ran_as M C drives me x step.next frames act (went.bytes ∷ []) step.ran
                   (t (law.MayBegin generation) (meaning.OfBegin generation place), tt)
                   (goes.Then went.bytes (Tells (notice.Join generation place drives count))
                   (law.Recruits generation count Shared l.list ∷ []) went.spells

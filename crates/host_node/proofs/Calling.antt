@@ -13,7 +13,7 @@ use Rattle.host_frames.specs.Meaning as meaning
 use Rattle.host_law.specs.Frame.{Act, Came, Frame, quiet, sending, taking}
 use Rattle.host_law.specs.Host as host
 use Rattle.host_law.specs.Host.{HostStep}
-use Rattle.host_node.proofs.Going.{once, ran_one}
+use Rattle.host_node.proofs.Going.{once, ran_as}
 use Rattle.host_node.proofs.Roles.{keeps_reads, never_spare}
 use Rattle.host_node.specs.Goes as goes
 use Rattle.host_node.specs.Goes.{AllBring, Goes, RunsTo, Says}
@@ -64,7 +64,7 @@ module _ {B S : Type 0} {H : Type 0} (state : B → S) (M : Machine S) (copied :
         let l = steps-follow M C me x h.1.y made.made.y made.act h.1.follows made.made.step in
         record {
           y = l.next;
-          ran = ran_one M C drives me x l.next frames made.act said l.step made.came made.says;
+          ran = ran_as M C drives me x l.next frames made.act said l.ran made.came made.says;
           is = subst (λ h. HasNode state M C drives new.number me h l.next) (sym is) (
             number.number ∙ h.0,
             record {

@@ -1,15 +1,15 @@
 -- How a host goes on: with no call, with one call of its node, and from one state over another to a third.
-use Rattle.std.proofs.Common.{ℕ, ◌≡◌, List, [], ◌∷◌, ◌++◌, append-nil, append_assoc, refl, sym, ap, ◌∙◌, subst, inl, inr}
-use Rattle.clone_state.specs.Copies.{CopiesAs}
+use Rattle.std.proofs.Common.{ℕ, ◌≡◌, List, [], ◌∷◌, ◌++◌, append-nil, refl, sym, ap, ◌∙◌, subst, inl, inr}
 use Rattle.guest_lockstep.specs.Machine.{Machine}
 use Rattle.guest_parts.specs.Guest.{Guest}
 use Rattle.host_frames.specs.Frames.{IsBodyOf, Said}
-use Rattle.host_law.specs.Frame.{Act, Came, Frame, sent, taken}
+use Rattle.host_law.specs.Frame.{Act, Came, Frame}
 use Rattle.host_law.specs.Host as host
-use Rattle.host_law.specs.Host.{HostRun, HostStep}
+use Rattle.host_law.specs.Host.{HostStep}
+use Rattle.host_law.specs.Ran.{HostRan}
 use Rattle.host_node.specs.Goes as goes
 use Rattle.host_node.specs.Goes.{Goes, Moves, Ran, Says}
-use Rattle.host_node.specs.Hosts.{HasJoined, IsHosted, SameHost}
+use Rattle.host_node.specs.Hosts.{HasJoined, SameHost}
 use Rattle.host_node.specs.Mail.{HasSaid, IsFrom}
 use Rattle.host_node.specs.declared.host.HostNode.{HostNode}
 use Rattle.pair_protocol.specs.Copying.{Copying}
@@ -17,24 +17,6 @@ use Rattle.pair_protocol.specs.Lawful.{Among}
 use Rattle.pair_protocol.specs.Node.{Node}
 
 -- ---- lists
-
-pub taken_both : (xs ys : List Act) → taken (xs ++ ys) ≡ taken xs ++ taken ys
-taken_both [] ys = refl
-taken_both (x ∷ xs) ys = ap (λ l. x.takes ++ l) (taken_both xs ys) ∙ sym (append_assoc x.takes (taken xs) (taken ys))
-
-pub sent_both : (xs ys : List Act) → sent (xs ++ ys) ≡ sent xs ++ sent ys
-sent_both [] ys = refl
-sent_both (x ∷ xs) ys = ap (λ l. x.sends ++ l) (sent_both xs ys) ∙ sym (append_assoc x.sends (sent xs) (sent ys))
-
-pub came_both : (xs ys before : List Frame) → Came xs before → Came ys before → Came (xs ++ ys) before
-came_both [] ys before p q = q
-came_both (x ∷ xs) ys before p q = (p.0, came_both xs ys before p.1 q)
-
-pub run_both : {S : Type 0} (M : Machine S) (C : Copying S) (me : ℕ) (x y z : Node S) (a b : List Act) → HostRun M C me x a y
-    → HostRun M C me y b z → HostRun M C me x (a ++ b) z
-run_both M C me x y z a b host.Rests q = q
-run_both M C me x y z a b (host.Goes {mid = mid} {act = act} {acts = acts} step p) q =
-    host.Goes step (run_both M C me mid y z acts b p q)
 
 pub among_before : {A : Type 0} (x : A) (xs ys : List A) → Among x xs → Among x (xs ++ ys)
 among_before x [] ys p = absurd p
@@ -62,6 +44,16 @@ from_last came old body said e says =
 module _ {S : Type 0} (M : Machine S) (C : Copying S) (drives me : ℕ) where
   pub ran_none : (x : Node S) (frames : List Frame) → Ran M C drives me x frames [] x
   ran_none x frames = record { acts = []; run = host.Rests; came = tt; says = goes.Nothing }
+
+  -- what the law's node did with the frames of one call
+  pub ran_as : (x y : Node S) (frames : List Frame) (act : Act) (said : List (List ℕ)) → HostRan M C me x act.takes act.sends y
+      → Came act.takes frames → Says drives me said act.sends → Ran M C drives me x frames said y
+  ran_as x y frames act said r came says = record {
+    acts = r.acts;
+    run = r.run;
+    came = subst (λ l. Came l frames) (sym r.took) came;
+    says = subst (λ l. Says drives me said l) (sym r.gave) says;
+  }
 
   -- one call
   pub ran_one : (x y : Node S) (frames : List Frame) (act : Act) (said : List (List ℕ)) → HostStep M C me x act y

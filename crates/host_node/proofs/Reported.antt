@@ -1,10 +1,11 @@
 -- How a host goes on when it reports: it tells the terminals how many keys are covered.
-use Rattle.std.proofs.Common.{Bool, List, [], ap, append-nil, arith, cond, eqb, false, refl, subst, sym, true, ℕ, ◌++◌, ◌<◌, ◌∙◌, ◌∷◌, ◌≡◌, ◌≢◌}
+use Rattle.std.proofs.Common.{Bool, [], ap, append-nil, arith, cond, eqb, false, refl, subst, sym, true, ℕ, ◌++◌, ◌<◌, ◌∙◌, ◌∷◌, ◌≡◌, ◌≢◌}
 use Rattle.std.specs.Prelude.{slice_index}
 use Rattle.ft_node.specs.AnyNode.{IsNode}
 use Rattle.ft_node.specs.declared.node.Node as code
 use Rattle.guest_lockstep.specs.Machine.{Machine}
 use Rattle.guest_parts.specs.Guest.{Guest}
+use Rattle.host_calls.proofs.Runs.{ran-both}
 use Rattle.host_calls.proofs.Stepping.{are-steps}
 use Rattle.host_calls.proofs.Straying.{steps-follow}
 use Rattle.host_calls.specs.Follows.{Follows}
@@ -14,11 +15,12 @@ use Rattle.host_frames.specs.Meaning.{covered_at}
 use Rattle.host_frames.specs.declared.frame.Notice.TheVariants as notice
 use Rattle.host_frames.specs.declared.frame.Report.{Report}
 use Rattle.host_law.specs.Frame as law
-use Rattle.host_law.specs.Frame.{Act, Came, Frame, sent, taken}
-use Rattle.host_law.specs.Host as host
-use Rattle.host_law.specs.Host.{HostRun, HostStep}
+use Rattle.host_law.specs.Frame.{Came}
+use Rattle.host_law.specs.Host.{HostStep}
+use Rattle.host_law.specs.Ran.{HostRan}
+use Rattle.host_law.proofs.Running.{ran-nothing}
 use Rattle.host_node.proofs.Calling.{saying}
-use Rattle.host_node.proofs.Going.{once, came_both, run_both, sent_both, taken_both}
+use Rattle.host_node.proofs.Going.{once}
 use Rattle.host_node.specs.Goes as goes
 use Rattle.host_node.specs.Goes.{Goes}
 use Rattle.host_node.specs.Hosts.{HasJoined, HasNode, SameHost}
@@ -32,36 +34,23 @@ use Rattle.pair_protocol.specs.Node.{Node, Spare}
 -- what a port is told, if anything
 record Told {S : Type 0} (M : Machine S) (C : Copying S) (me : ℕ) (x y : Node S) (port keys : ℕ) : Type 0 where
   pub z : Node S
-  pub acts : List Act
-  pub run : HostRun M C me x acts z
-  pub takes : taken acts ≡ []
-  pub sends : sent acts ≡ covered_at port keys
+  pub ran : HostRan M C me x [] (covered_at port keys) z
   pub follows : Follows M z y
 
 told_port : {S : Type 0} (M : Machine S) (C : Copying S) (me : ℕ) (x y : Node S) (port keys : ℕ) → Follows M x y
     → (keys ≢ 0 → HostStep M C me y (law.sending (law.TellsKeys port keys)) y) → Told M C me x y port keys
 told_port M C me x y port keys follows step = by_count (eqb keys 0) refl
   where
+    said : (none : Bool) → eqb keys 0 ≡ none → (z : Node _)
+        → HostRan M C me x [] (cond none [] (law.TellsKeys port keys ∷ [])) z → HostRan M C me x [] (covered_at port keys) z
+    said none e z r = subst (λ b. HostRan M C me x [] (cond b [] (law.TellsKeys port keys ∷ [])) z) (sym e) r
+
     by_count : (none : Bool) → eqb keys 0 ≡ none → Told M C me x y port keys
-    by_count true e = record {
-      z = x;
-      acts = [];
-      run = host.Rests;
-      takes = refl;
-      sends = sym (ap (λ b. cond b [] (law.TellsKeys port keys ∷ [])) e);
-      follows = follows;
-    }
+    by_count true e = record { z = x; ran = said true e x (ran-nothing M C me x); follows = follows }
     by_count false e =
         (let s = steps-follow M C me x y y (law.sending (law.TellsKeys port keys)) follows
         (step (λ zero. (let k = ap (λ n. eqb n 0) (sym zero) ∙ e in absurd (cc)))) in
-        record {
-          z = s.next;
-          acts = law.sending (law.TellsKeys port keys) ∷ [];
-          run = host.Goes s.step host.Rests;
-          takes = refl;
-          sends = sym (ap (λ b. cond b [] (law.TellsKeys port keys ∷ [])) e);
-          follows = s.follows;
-        })
+        record { z = s.next; ran = said false e s.next s.ran; follows = s.follows })
 
 module _ {B S : Type 0} {H : Type 0} (state : B → S) (M : Machine S) (copied : B → Guest) where
   told_step : (C : Copying S) (drives me : ℕ) (n : code.Node B H) (y : Node S) (port keys : ℕ) → y.role ≢ Spare → port < 2
@@ -91,18 +80,15 @@ module _ {B S : Type 0} {H : Type 0} (state : B → S) (M : Machine S) (copied :
         (told_step C old.drives me n y 0 k h.1.other (omega arith) h.1.is first) in
         let b = told_port M C me a.z y 1 l a.follows
         (told_step C old.drives me n y 1 l h.1.other (omega arith) h.1.is second) in
+        let both = ran-both M C me x a.z b.z [] (covered_at 0 k) [] (covered_at 1 l) a.ran b.ran in
         record {
           y = b.z;
           ran = record {
-            acts = a.acts ++ b.acts;
-            run = run_both M C me x a.z b.z a.acts b.acts a.run b.run;
-            came = subst (λ t. Came t frames) (sym (taken_both a.acts b.acts))
-                (came_both (taken a.acts) (taken b.acts) frames (subst (λ t. Came t frames) (sym a.takes) tt)
-                (subst (λ t. Came t frames) (sym b.takes) tt));
+            acts = both.acts;
+            run = both.run;
+            came = subst (λ t. Came t frames) (sym both.took) tt;
             says = subst (λ t. goes.Says old.drives me (went.bytes ∷ []) t)
-                (append-nil (covered_at 0 k ++ covered_at 1 l)
-                ∙ sym (ap (λ t. sent a.acts ++ t) b.sends ∙ ap (λ t. t ++ covered_at 1 l) a.sends)
-                ∙ sym (sent_both a.acts b.acts))
+                (append-nil (covered_at 0 k ++ covered_at 1 l) ∙ sym both.gave)
                 (goes.Then went.bytes (Tells (notice.Report report)) (covered_at 0 k ++ covered_at 1 l) went.spells
                 (meaning.OfReport report) goes.Nothing);
           };

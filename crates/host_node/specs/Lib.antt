@@ -4,3 +4,4 @@ pub mod Hosts
 pub mod Goes
 pub mod Roles
 pub mod Reports
+pub mod Lagging

@@ -8,8 +8,9 @@ use disk_dcdd::SECTORS;
 use event_callbacks::OpId;
 use guest_lockstep::{ReplayEnd, StopReason};
 use i8080_words::{Fault, R};
+use key_room::KeyRoom;
 
-// How many steps a guest makes before it takes its next key, unless it idles.
+// How many steps a guest makes before it is offered its next key, unless it idles.
 const BETWEEN_KEYS: u64 = 300;
 
 // How many entries are sent in one turn at most, and how many parts are under way.
@@ -25,7 +26,7 @@ const FRESHEN: u64 = 2_000;
 
 const PAGES: u64 = 8;
 
-impl<B: Copies<H> + Drop, H: Drop> Serving<B, H> {
+impl<B: Copies<H> + KeyRoom + Drop, H: Drop> Serving<B, H> {
     // A primary runs its guest, and sends its log; before its backup is whole, the image.
     #[tactic(auto, using(crate::proofs::Going::stays, crate::proofs::Going::and_then))]
     pub(crate) fn serve_as_primary(&mut self) -> R<bool>
@@ -44,7 +45,9 @@ impl<B: Copies<H> + Drop, H: Drop> Serving<B, H> {
         if self.pace.is_copying {
             return self.send_parts();
         }
-        self.send_log()
+        let has_sent = self.send_log()?;
+        let has_said = self.say_progress()?;
+        Ok(has_sent | has_said)
     }
 
     // A node that is alone runs its guest, and copies pages early for the next backup.
@@ -97,7 +100,7 @@ impl<B: Copies<H> + Drop, H: Drop> Serving<B, H> {
         self.read()
     }
 
-    // Takes a key of each port, if the guest may look for one.
+    // Takes a key of each port, if the guest had time for the one before.
     #[tactic(auto, using(crate::proofs::Going::stays, crate::proofs::Going::and_then))]
     fn take_keys(&mut self) -> R<bool>
         ensures { Goes B.state B.machine B.copied self.old.host self.new.host }
@@ -106,8 +109,8 @@ impl<B: Copies<H> + Drop, H: Drop> Serving<B, H> {
         if !self.pace.is_idle && count.saturating_sub(self.pace.key_at) < BETWEEN_KEYS {
             return Ok(false);
         }
-        let first = self.host.take_key(0)?;
-        let second = self.host.take_key(1)?;
+        let first = self.take_key(0)?;
+        let second = self.take_key(1)?;
         let has_taken = first | second;
         if has_taken {
             self.pace.key_at = count;
@@ -116,11 +119,25 @@ impl<B: Copies<H> + Drop, H: Drop> Serving<B, H> {
         Ok(has_taken)
     }
 
-    // Makes steps.
+    // Takes a key of a port, if the guest has read the one before it, or idles.
+    #[tactic(auto, using(crate::proofs::Going::stays, crate::proofs::Going::and_then))]
+    fn take_key(&mut self, port: u8) -> R<bool>
+        ensures { Goes B.state B.machine B.copied self.old.host self.new.host }
+    {
+        if !self.pace.is_idle && !self.host.keeps_key(port) {
+            return Ok(false);
+        }
+        self.host.take_key(port)
+    }
+
+    // Makes steps, unless the backup is far behind.
     #[tactic(auto, using(crate::proofs::Going::stays, crate::proofs::Going::and_then))]
     fn step(&mut self) -> R<bool>
         ensures { Goes B.state B.machine B.copied self.old.host self.new.host }
     {
+        if self.is_held_back() {
+            return Ok(false);
+        }
         match self.host.step(self.settings.steps) {
             Ok(ran) => {
                 self.pace.is_idle = matches!(ran.why, StopReason::Refused(Fault::Idle));
@@ -291,22 +308,25 @@ impl<B: Copies<H> + Drop, H: Drop> Serving<B, H> {
         Ok(has_sent)
     }
 
-    // A backup acknowledges what it holds, and repeats it.
+    // A backup acknowledges what it holds, and repeats it; then it follows its primary.
     #[tactic(auto, using(crate::proofs::Going::stays, crate::proofs::Going::and_then))]
     pub(crate) fn follow(&mut self) -> R<bool>
         ensures { Goes B.state B.machine B.copied self.old.host self.new.host }
     {
         self.answer_peer()?;
-        self.replay()
+        let has_moved = self.replay()?;
+        let has_run = self.run_ahead()?;
+        Ok(has_moved | has_run)
     }
 
-    // Says what has come of the image and of the log.
+    // Says what has come of the image and of the log, and how far the guest is.
     #[tactic(auto, using(crate::proofs::Going::stays, crate::proofs::Going::and_then))]
     fn answer_peer(&mut self) -> R<bool>
         ensures { Goes B.state B.machine B.copied self.old.host self.new.host }
     {
         self.acknowledge()?;
-        self.tell_parts()
+        self.tell_parts()?;
+        self.say_progress()
     }
 
     // Makes moves from the entries that are held.

@@ -1,6 +1,6 @@
 //! What a host has heard, for whoever decides what it does next.
 
-use ft_node::PartCame;
+use ft_node::{Lead, PartCame};
 
 /// What a frame was to a host.
 #[derive(Clone, Copy)]
@@ -19,8 +19,8 @@ pub enum Heard {
     Part(PartCame),
     /// The peer has so many parts.
     Parts(u64),
-    /// The log of the peer has so many entries, and its machine has made so many steps.
-    Progress { entries: u64, count: u64 },
+    /// The peer says how far it is.
+    Progress(Lead),
     /// A key waits.
     Key,
     /// Bytes of a port were accepted.

@@ -7,6 +7,7 @@ use crate::heard::Heard;
 use crate::host::{HostNode, Hosted};
 use crate::sending::PARTS;
 use clone_state::Copies;
+use ft_node::Lead;
 use host_frames::{Frame, Notice, frame_of};
 use i8080_words::{Fault, R};
 
@@ -138,7 +139,7 @@ impl<B: Copies<H> + Drop, H: Drop> HostNode<B, H> {
                 host,
                 entries,
                 count,
-            } if host == self.peer => Ok(Heard::Progress { entries, count }),
+            } if host == self.peer => Ok(Heard::Progress(Lead { entries, count })),
             Notice::Tick => Ok(Heard::Tick),
             Notice::Stop => Ok(Heard::Stop),
             Notice::Progress { .. } | Notice::Suspect(_) | Notice::Report(_) => {

@@ -7,6 +7,8 @@ mod hearing;
 mod host;
 mod inputs;
 mod joining;
+mod lag;
+mod lagging;
 mod mail;
 mod moves;
 mod pace;

@@ -3,8 +3,10 @@ ghost use Rattle.host_node.specs.Goes.{Goes};
 
 use crate::host::{HostNode, Hosted};
 use clone_state::Copies;
-use ft_node::{Drained, Ran};
+use ft_node::{Drained, Lead, Ran};
+use guest_lockstep::Stopped;
 use i8080_words::{Fault, R};
+use key_room::KeyRoom;
 use replayer::Replayed;
 
 impl<B: Copies<H> + Drop, H: Drop> HostNode<B, H> {
@@ -28,6 +30,17 @@ impl<B: Copies<H> + Drop, H: Drop> HostNode<B, H> {
             return Err(Fault::WrongRole);
         };
         node.replay(turns)
+    }
+
+    /// Makes at most `turns` steps of a backup past the last entry that it holds, as the node's `run_ahead`.
+    #[tactic(auto, using(crate::proofs::Stepping::runs_ahead, crate::proofs::Going::stays))]
+    pub fn run_ahead(&mut self, lead: Lead, turns: u64) -> R<Stopped>
+        ensures { Goes B.state B.machine B.copied self.old self.new }
+    {
+        let Hosted::Node(node) = &mut self.node else {
+            return Err(Fault::WrongRole);
+        };
+        node.run_ahead(lead, turns)
     }
 
     /// Makes at most `turns` moves of a node that won, as the node's `drain`.
@@ -77,6 +90,19 @@ impl<B: Copies<H> + Drop, H: Drop> HostNode<B, H> {
                 Ok(false)
             }
             Err(_) => Ok(false),
+        }
+    }
+}
+
+impl<B: Copies<H> + KeyRoom + Drop, H: Drop> HostNode<B, H> {
+    /// Whether a key that came to this port now would be kept by the guest of its node; false if it has none.
+    pub fn keeps_key(&self, port: u8) -> bool {
+        match &self.node {
+            Hosted::Node(node) if usize::from(port) < event_callbacks::PORTS => match node.guest() {
+                Some(guest) => guest.keeps_key(port),
+                None => false,
+            },
+            _ => false,
         }
     }
 }

@@ -1,6 +1,7 @@
 //! What a host's loop knows of times and of what was sent, so that it knows what is due. None of it is in what is promised.
 
 use crate::heard::Heard;
+use crate::lag::Lag;
 use event_callbacks::PORTS;
 use ft_node::PartCame;
 use guest_lockstep::ReplayEnd;
@@ -82,6 +83,8 @@ pub struct Pace {
     pub freshened_at: u64,
     pub beat_at: u64,
     pub told: Option<Report>,
+    // How far the peer is.
+    pub lag: Lag,
 }
 
 impl Pace {
@@ -113,6 +116,7 @@ impl Pace {
             freshened_at: 0,
             beat_at: 0,
             told: None,
+            lag: Lag::new(),
         }
     }
 
@@ -164,7 +168,8 @@ impl Pace {
             Heard::Joined => self.join(),
             Heard::Tick => self.silent = self.silent.saturating_add(1),
             Heard::Stop => self.end = Some(End::Stopped),
-            Heard::Nothing | Heard::Malformed | Heard::Progress { .. } => {}
+            Heard::Progress(lead) => self.lag.hear(lead),
+            Heard::Nothing | Heard::Malformed => {}
         }
     }
 
@@ -235,6 +240,7 @@ impl Pace {
         self.next_part = 0;
         self.parts = 0;
         self.parts_at = self.now;
+        self.lag = Lag::new();
     }
 
     // The host is given an image.
@@ -243,5 +249,6 @@ impl Pace {
         self.is_gone = false;
         self.parts_here = 0;
         self.owes_parts = false;
+        self.lag = Lag::new();
     }
 }

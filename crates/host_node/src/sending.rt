@@ -8,6 +8,7 @@ use crate::joining::may_ask;
 use clone_state::Copies;
 use disk_dcdd::{DRIVES, SECTOR_BYTES, SECTORS, SectorAddress};
 use event_callbacks::{OpId, Operation, PORTS};
+use ft_node::Lead;
 use host_frames::{Frame, Notice, Transfer};
 use i8080_words::{Fault, R};
 
@@ -211,6 +212,37 @@ impl<B: Copies<H> + Drop, H: Drop> HostNode<B, H> {
             bytes: &[],
         })?;
         Ok(true)
+    }
+
+    /// Tells the peer how far a primary is, or only how many steps a backup has made. Returns false if there is no room.
+    #[tactic(auto, using(crate::proofs::Calling::saying, crate::proofs::Going::stays, crate::proofs::Going::looked))]
+    pub fn say_progress(&mut self) -> R<bool>
+        ensures { Goes B.state B.machine B.copied self.old self.new }
+    {
+        let lead = self.lead()?;
+        if !self.mail.has_room() {
+            return Ok(false);
+        }
+        self.mail.say(&Frame::Notice(Notice::Progress {
+            host: self.peer,
+            entries: lead.entries,
+            count: lead.count,
+        }))?;
+        Ok(true)
+    }
+
+    // How far the node is. The entries of a backup say nothing: a primary looks at its steps alone.
+    fn lead(&self) -> R<Lead> {
+        let Hosted::Node(node) = &self.node else {
+            return Err(Fault::WrongRole);
+        };
+        match node.lead() {
+            Ok(lead) => Ok(lead),
+            Err(_) => Ok(Lead {
+                entries: 0,
+                count: node.count(),
+            }),
+        }
     }
 
     /// Tells the peer how many parts of an image have come. Returns false if there is no room.

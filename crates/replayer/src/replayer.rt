@@ -3,6 +3,7 @@ ghost use Rattle.std.specs.Prelude.{◌≡◌, ◌<◌, ◌≤◌, IfSome, None,
 ghost use Rattle.disk_dcdd.specs.Completion.{answered};
 ghost use Rattle.disk_dcdd.specs.declared.controller.TheConstants.{DRIVES};
 ghost use Rattle.disk_dcdd.specs.declared.sector.TheConstants.{SECTORS};
+ghost use Rattle.guest_lockstep.specs.Running.{RunsOn};
 ghost use Rattle.log_entry.specs.Entries.{last_count};
 ghost use Rattle.log_entry.specs.Standing.{IsOnTrace};
 ghost use Rattle.replayer.specs.Checking as checking;
@@ -12,7 +13,7 @@ ghost use Rattle.replayer.specs.Standing.{StaysOnEach};
 use crate::reads::{is_at, wanted};
 use crate::replay::run;
 use disk_dcdd::SECTOR_BYTES;
-use guest_lockstep::{Lockstep, ReplayEnd};
+use guest_lockstep::{Lockstep, ReplayEnd, Stopped};
 use i8080_words::{Fault, R};
 use log_channel::Receiver;
 use shared_disk::SectorRead;
@@ -79,6 +80,15 @@ impl<B: Lockstep> Replayer<B> {
         ensures unchanged { OnErr result ((self.new ≡ self.old) × (receiver.new ≡ receiver.old)) }
     {
         run(&mut self.board, &mut self.fetched, receiver, turns)
+    }
+
+    /// Executes at most `turns` steps that no entry shows, and stops after the first that gives an operation.
+    pub fn run_ahead(&mut self, turns: u64) -> Stopped
+        ensures runs { RunsOn B.machine (B.state self.old.board) turns result (B.state self.new.board) }
+        ensures fetched { self.new.fetched ≡ self.old.fetched }
+        ensures unchanged { result.steps ≡ 0 → self.new ≡ self.old }
+    {
+        guest_lockstep::run(&mut self.board, turns)
     }
 
     /// The drive, the sector and the number of the read that it waits for: the next entry, at its count, whose bytes have

@@ -1,0 +1,73 @@
+//! How far the hosts of a pair are, and how far a backup may be behind.
+ghost use Rattle.std.specs.Prelude.{◌≡◌};
+ghost use Rattle.host_node.specs.Lagging.{is_too_far};
+
+use ft_node::Lead;
+
+// How many steps a backup may be behind: about those of a twentieth of a second. If it is further behind, its primary's guest
+// makes no step (VMware FT, section 3.2.2).
+const MOST_BEHIND: u64 = 10_000_000;
+
+// After how many steps a host says again how far it is.
+const STEPS: u64 = 500_000;
+
+/// How far the peer said last that it is, and how far this host said last that it is itself.
+#[derive(Clone, Copy)]
+pub struct Lag {
+    heard: Option<Lead>,
+    said: Option<u64>,
+}
+
+impl Lag {
+    /// Nothing was said.
+    pub fn new() -> Lag {
+        Lag {
+            heard: None,
+            said: None,
+        }
+    }
+
+    /// The peer says how far it is.
+    pub fn hear(&mut self, lead: Lead) {
+        self.heard = Some(lead);
+    }
+
+    /// How far the peer is.
+    pub fn heard(&self) -> Option<Lead> {
+        self.heard
+    }
+
+    /// Whether the peer is so far behind a guest of this count that the guest may not go on. A peer that has said nothing yet
+    /// has only begun.
+    pub fn is_far_behind(&self, count: u64) -> bool {
+        match self.heard {
+            Some(lead) => is_too_far(lead.count, count),
+            None => false,
+        }
+    }
+
+    /// Whether it is time to say that this host has come to a count.
+    pub fn is_due(&self, count: u64) -> bool {
+        match self.said {
+            Some(said) => count.saturating_sub(said) >= STEPS,
+            None => true,
+        }
+    }
+
+    /// It was said.
+    pub fn say(&mut self, count: u64) {
+        self.said = Some(count);
+    }
+
+    /// It is to be said again, since what was said may be lost.
+    pub fn say_again(&mut self) {
+        self.said = None;
+    }
+}
+
+// Whether a guest that has made so many steps has more to make up to a count than it may be behind.
+fn is_too_far(steps: u64, count: u64) -> bool
+    ensures { result ≡ is_too_far steps count }
+{
+    count.saturating_sub(steps) > MOST_BEHIND
+}

@@ -1,0 +1,51 @@
+//! How the hosts of a pair keep together: a backup follows its primary where that logs nothing, and a primary waits for a
+//! backup that is far behind.
+ghost use Rattle.host_node.specs.Goes.{Goes};
+
+use crate::serving::Serving;
+use clone_state::Copies;
+use guest_lockstep::StopReason;
+use i8080_words::{Fault, R};
+use key_room::KeyRoom;
+use pair_events::Role;
+
+impl<B: Copies<H> + KeyRoom + Drop, H: Drop> Serving<B, H> {
+    // Whether a primary's guest waits for the backup. None waits for one that is not whole yet.
+    pub(crate) fn is_held_back(&self) -> bool {
+        let has_backup = matches!(self.host.role(), Some(Role::Primary)) && !self.pace.is_copying;
+        has_backup && self.pace.lag.is_far_behind(self.host.count())
+    }
+
+    // Says how far the host is, if that is due.
+    #[tactic(auto, using(crate::proofs::Going::stays, crate::proofs::Going::and_then))]
+    pub(crate) fn say_progress(&mut self) -> R<bool>
+        ensures { Goes B.state B.machine B.copied self.old.host self.new.host }
+    {
+        let count = self.host.count();
+        if !self.pace.lag.is_due(count) {
+            return Ok(false);
+        }
+        let has_said = self.host.say_progress()?;
+        if has_said {
+            self.pace.lag.say(count);
+        }
+        Ok(has_said)
+    }
+
+    // A backup makes steps up to where its primary said that it is.
+    #[tactic(auto, using(crate::proofs::Going::stays, crate::proofs::Going::and_then))]
+    pub(crate) fn run_ahead(&mut self) -> R<bool>
+        ensures { Goes B.state B.machine B.copied self.old.host self.new.host }
+    {
+        let Some(lead) = self.pace.lag.heard() else {
+            return Ok(false);
+        };
+        let stopped = self.host.run_ahead(lead, self.settings.steps)?;
+        match stopped.reason {
+            StopReason::Refused(Fault::OutOfMemory) if stopped.steps == 0 => {
+                Err(Fault::OutOfMemory)
+            }
+            _ => Ok(stopped.steps > 0),
+        }
+    }
+}
