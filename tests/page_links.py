@@ -131,6 +131,8 @@ def the_gate_counts_the_edits_of_each_crate() -> None:
     wanted = {it: edits_in(it) for it in crates() if not it.endswith("_tests")}
     differing = sorted(it for it in {*found, *wanted} if found.get(it) != wanted.get(it))
     expect([(it, found.get(it), wanted.get(it)) for it in differing], [], "rows, and the edits that there are")
+    sums = re.findall(r"^\| all \| (\d+) \| (\d+) \| (\d+) \|", (TOP / "docs/GATE.md").read_text(), re.MULTILINE)
+    expect(sums, [tuple(str(sum(map(int, it))) for it in zip(*wanted.values()))], "the last row")
 
 
 def storeys() -> dict[str, int]:
