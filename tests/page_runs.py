@@ -158,6 +158,7 @@ def ported(text: bytes) -> bytes:
 # What a command must do that is not one of PLAYED.
 DOES: dict[str, Callable[[str], None]] = {
     "./pair console": lambda it: has((b"MONITOR\r\n*D 0000\r\n0000 ",), it, b"D 0000\r"),
+    "./pair hosts": lambda it: has((b"MONITOR\r\n*D 0000\r\n0000 ",), it, b"D 0000\r"),
     "./pair lint < FILE": lambda it: prints(b"line 2: stopp begins no line of a script\n", it, status=3),
     "./pair shell": lambda it: has((b"primary 1 count 0\n", b"\nstop N "), it, b"node 0\nhelp\n"),
     "./pair shell --disk 0=FILE.dsk": lambda it: has((b"|" + TEXT[:16] + b"|",), it, b"sector 0 0 0\n"),

@@ -33,7 +33,7 @@ sys.path.insert(0, os.path.dirname(os.path.realpath(__file__)))
 import disks
 import last_row
 from files import hex_lines, image_in, place_in, read, save
-from options import complain, drives_in, key_lines, memory_line, numbered, sense_line, spelled, taken
+from options import complain, drives_in, key_in, key_lines, memory_line, numbered, sense_line, spelled, taken
 from output import Output
 from screen import Screen
 from story import Story
@@ -56,10 +56,7 @@ OF_TERMINALS = (signal.SIGINT, signal.SIGQUIT, signal.SIGHUP)
 
 def escape_in(word):
     """The byte that the escape key sends, as the program's option names it."""
-    named = re.fullmatch(r"\^([?-_a-z])", word)
-    if not named and not re.fullmatch(r"[0-9A-Fa-f]{2}", word):
-        complain(f"--escape {word}: expected a key, as ^E, or a byte in two hexadecimal digits")
-    return str(ord(named[1].upper()) ^ 0x40 if named else int(word, 16))
+    return key_in("--escape", word)
 
 
 def where_in(word):
@@ -76,19 +73,21 @@ HANDED_ON = {"--spares": str, "--link": str, "--escape": escape_in, "--reads": s
 class Asked:
     """What the words of a command line ask for: words for the program, what comes before the keys, and disks to be saved."""
 
+    command, handed_on = "console", HANDED_ON
+
     def __init__(self, words):
         self.own, self.images, self.saves = [], {}, {}
         self.setup, self.memory, self.keys, self.lines = b"", None, [], None
-        for option, value in taken("console", words, HANDED_ON):
+        for option, value in taken(self.command, words, self.handed_on):
             if value is None:
-                complain(f"`pair console` has no option {option}; `./pair help console` lists its options")
+                complain(f"`pair {self.command}` has no option {option}; `./pair help {self.command}` lists its options")
             self.take(option, value)
         if self.memory is None:
             self.memory = hex_lines(MONITOR)
 
     def take(self, option, value):
-        if option in HANDED_ON:
-            self.own += [option, HANDED_ON[option](value)]
+        if option in self.handed_on:
+            self.own += [option, self.handed_on[option](value)]
         elif option == "--sense":
             self.setup += spelled([sense_line(value)])
         elif option == "--type":

@@ -1,4 +1,8 @@
-"""Edits of a crate: the texts that one makes, the functions that it is in, and a check of a copy of the crate with those texts."""
+"""Edits of a crate: the texts that one makes, the functions that it is in, and a check of a copy of the crate with those texts.
+
+An edit may name a file of a crate that its own is built on, as ../pair_protocol/specs/Refusals.antt: then that crate is proved with the
+edit first, which shows that its own laws do not refuse it.
+"""
 
 import glob
 import os
@@ -7,7 +11,7 @@ import shutil
 import subprocess
 import tempfile
 
-from crates import PARTS, toolchain
+from crates import PARTS, crate_of, toolchain
 
 # What the prover says if it cannot read the edited text: then the edit shows nothing of a contract.
 UNREAD = re.compile(r"error\[[\w-]+\]|error: (`[^`]*`: )?.*(is not in scope|has no field|is no name|expected the end|cannot continue)")
@@ -170,17 +174,43 @@ def write_texts(texts, folder):
             file.write(text)
 
 
+def copy_parts(crate, room):
+    """Copies what a crate is proved from."""
+    for part in PARTS:
+        if os.path.isdir(f"{crate.folder}/{part}"):
+            shutil.copytree(f"{crate.folder}/{part}", f"{room}/{part}")
+
+
+def over_copy(words, crate, below, room):
+    """The words for a check of a crate over the copy of a crate below it, which is proved first."""
+    if below not in crate.needs or any(below in it.below for it in crate.needs):
+        raise ValueError(f"{crate.name} is not built on {below.name} alone")
+    rlib = f"{room}/out/{below.name}.rlib"
+    os.makedirs(os.path.dirname(rlib))
+    build = [f"{toolchain()}/bin/rattle", "build", *below.words(1), "--statements", "-o", rlib]
+    ran = subprocess.run(build, cwd=room, stdin=subprocess.DEVNULL, stdout=subprocess.PIPE, stderr=subprocess.STDOUT)
+    if ran.returncode:
+        raise ValueError(f"{below.name} is not proved with it")
+    old = os.path.dirname(below.rlib)
+    return [it.replace(below.rlib, rlib).replace(f"dependency={old}", f"dependency={os.path.dirname(rlib)}") for it in words]
+
+
 def check(crate, texts, kept, *flags, without=()):
     """Checks a copy of a crate with these texts in place of its own, and without some of its files, over what kept holds; the status, and
     what was said."""
-    with tempfile.TemporaryDirectory(prefix="edit-") as room:
-        for part in PARTS:
-            if os.path.isdir(f"{crate.folder}/{part}"):
-                shutil.copytree(f"{crate.folder}/{part}", f"{room}/{part}")
+    with tempfile.TemporaryDirectory(prefix="edit-") as top:
+        room = f"{top}/{crate.name}"
+        copy_parts(crate, room)
+        names = sorted({path.split("/")[1] for path in texts if path.startswith("../")})
+        for name in names:
+            copy_parts(crate_of(name), f"{top}/{name}")
         write_texts(texts, room)
         for path in without:
             os.unlink(f"{room}/{path}")
-        words = [f"{toolchain()}/bin/rattle", "check", *crate.words(1), "--incremental", kept, *flags]
+        words = crate.words(1)
+        for name in names:
+            words = over_copy(words, crate, crate_of(name), f"{top}/{name}")
+        words = [f"{toolchain()}/bin/rattle", "check", *words, "--incremental", kept, *flags]
         how = {"stdin": subprocess.DEVNULL, "stdout": subprocess.PIPE, "stderr": subprocess.STDOUT, "text": True}
         ran = subprocess.run(words, cwd=room, errors="replace", **how)
         return ran.returncode, ran.stdout.rstrip("\n").split("\n")

@@ -1,5 +1,5 @@
 -- What a run of the outside comes to, and why it ends.
-use Rattle.std.specs.Prelude.{◌≡◌, ◌≤◌, Bool, is_none, false, true, List, [], ◌∷◌, ◌++◌, None}
+use Rattle.std.specs.Prelude.{◌≡◌, ◌≤◌, Bool, ◌||◌, is_none, false, true, List, [], ◌∷◌, ◌++◌, None}
 use Rattle.std.specs.List.{list_all}
 use Rattle.rtrb.specs.Ring.{received}
 use Rattle.outside_switch.specs.Goes.{Goes}
@@ -21,15 +21,15 @@ pub record IsOver (port : PortEnd) : Type 0 where
   pub none : port.waiting ≡ None
   pub all : port.typed ≤ port.taken
 
--- every host is cut off
-abbrev pub are_cut : List HostLine → Bool
-are_cut lines = list_all (λ (line : HostLine). is_none line.to) lines
+-- every host that has a number is cut off; one without has no machine, and nobody is left to give it one
+abbrev pub have_no_machine : List HostLine → Bool
+have_no_machine lines = list_all (λ (line : HostLine). is_none line.to || is_none line.number) lines
 
--- the user has asked for it; no keys are left at either port; or every host is cut off
+-- the user has asked for it; no keys are left at either port; or no host is left that has the machine
 abbrev pub IsWhy : {D N : Type 0} → HostsEnd → Session D N → Type 0
 IsWhy UserQuit s = (before : List Quit) × (quit : Quit) × (received s.quits ≡ before ++ quit ∷ [])
 IsWhy Settled s = IsOver s.first × IsOver s.second
-IsWhy NoHosts s = are_cut s.switch.lines.items ≡ true
+IsWhy NoHosts s = have_no_machine s.switch.lines.items ≡ true
 
 -- it went on until there was a reason to end, and after that
 pub record Ended {D N : Type 0} (end : HostsEnd) (old new : Session D N) : Type 0 where

@@ -24,7 +24,7 @@ pub enum HostsEnd {
     UserQuit,
     /// No more keys can come, all that came were taken, and for a second the pair has written and shown nothing more.
     Settled,
-    /// No host is left.
+    /// No host is left that has the machine.
     NoHosts,
 }
 

@@ -2,7 +2,7 @@
 ghost use Rattle.std.specs.Prelude.{IfSome, ◌≡◌, None, true};
 ghost use Rattle.outside_switch.specs.Meets.{seen};
 ghost use Rattle.outside_switch.specs.Goes.{Goes};
-ghost use Rattle.command_hosts.specs.Runs.{IsWhy, Went, are_cut};
+ghost use Rattle.command_hosts.specs.Runs.{IsWhy, Went, have_no_machine};
 ghost use Rattle.command_hosts.specs.declared.session.HostsEnd.TheVariants as ending;
 
 use crate::live::{Live, live_of, spare_for};
@@ -264,9 +264,11 @@ fn show_on(screen: &mut Screen, port: u8, byte: u8) {
     }
 }
 
-// Whether every host is cut off.
+// Whether no host that is left has the machine, or is given it: those that have a number.
 fn is_deserted(lines: &[HostLine]) -> bool
-    ensures { result ≡ are_cut lines.now }
+    ensures { result ≡ have_no_machine lines.now }
 {
-    lines.iter().all(|line| line.is_cut())
+    lines
+        .iter()
+        .all(|line| line.is_cut() || line.number().is_none())
 }

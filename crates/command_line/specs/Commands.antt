@@ -56,6 +56,23 @@ abbrev pub console_options : List Rule
 console_options = console_numbers ++ (link_and_disks
     ++ (by_default (codes "logged") (text_option (codes "reads")) ∷ text_option (codes "mark") ∷ flag_option (codes "apart") ∷ []))
 
+-- the options of `host`
+abbrev pub host_options : List Rule
+host_options = by_default (codes "spare") (text_option (codes "role"))
+    ∷ by_default (codes "1000") (number_option (codes "patience") 100 3600000)
+    ∷ by_default (codes "0") (number_option (codes "before") 0 1099511627776)
+    ∷ text_option (codes "images")
+    ∷ []
+
+-- the options of `hosts`
+abbrev pub hosts_options : List Rule
+hosts_options = by_default (codes ".") (text_option (codes "folder"))
+    ∷ by_default (codes "3") (number_option (codes "places") 2 99)
+    ∷ by_default (codes "5") (number_option (codes "quit") 0 255)
+    ∷ by_default (codes "0") (number_option (codes "before") 0 1099511627776)
+    ∷ text_option (codes "images")
+    ∷ []
+
 -- a command with these options
 abbrev pub command : Text → List Rule → Shape
 command name options = record (new_shape name) { rules = options }
@@ -75,6 +92,8 @@ pair_app = record {
       ∷ command (codes "shell") []
       ∷ command (codes "live") live_options
       ∷ command (codes "console") console_options
+      ∷ command (codes "host") host_options
+      ∷ command (codes "hosts") hosts_options
       ∷ [];
 }
 

@@ -13,7 +13,7 @@ pieces_of text = slice_split (λ byte. byte == 44) text
 abbrev pub pieces_in : List Row → Text → List Text
 pieces_in rows option = option_map_or pieces_of (first_of option rows) []
 
--- the fates of a packet, who asks, what the log has of a sector, and the drives, by their names
+-- the fates of a packet, who asks, what the log has of a sector, what a host is at boot, and the drives, by their names
 abbrev pub fates : List Text
 fates = codes "pass" ∷ codes "drop" ∷ codes "twice" ∷ []
 
@@ -22,6 +22,9 @@ askers = codes "nobody" ∷ codes "primary" ∷ codes "backup" ∷ []
 
 abbrev pub readings : List Text
 readings = codes "logged" ∷ codes "shared" ∷ []
+
+abbrev pub roles : List Text
+roles = codes "primary" ∷ codes "backup" ∷ codes "spare" ∷ []
 
 abbrev pub drives : List Text
 drives = codes "0" ∷ codes "1" ∷ codes "2" ∷ codes "3" ∷ []
@@ -45,4 +48,5 @@ lists_hold rows = are_among fates (pieces_in rows (codes "link"))
     && (are_among drives (pieces_in rows (codes "saved"))
     && (are_among askers (pieces_in rows (codes "next"))
     && (are_turns (pieces_in rows (codes "next-at"))
-    && is_among readings rows (codes "reads")))))
+    && (is_among readings rows (codes "reads")
+    && is_among roles rows (codes "role"))))))

@@ -10,6 +10,10 @@ use Rattle.command_ending.specs.declared.failure.Failure.TheVariants as failure
 use Rattle.command_line.specs.Commands.{pair_app}
 use Rattle.command_line.specs.Lists.{lists_hold, pieces_in}
 use Rattle.command_line.specs.declared.console_order.ConsoleOrder.{ConsoleOrder}
+use Rattle.command_line.specs.declared.hosts_order.HostOrder.{HostOrder}
+use Rattle.command_line.specs.declared.hosts_order.HostRole.{HostRole}
+use Rattle.command_line.specs.declared.hosts_order.HostRole.TheVariants as role
+use Rattle.command_line.specs.declared.hosts_order.HostsOrder.{HostsOrder}
 use Rattle.command_line.specs.declared.live_order.Asker.{Asker}
 use Rattle.command_line.specs.declared.live_order.Asker.TheVariants.{Nobody, Primary, Backup}
 use Rattle.command_line.specs.declared.live_order.LiveOrder.{LiveOrder}
@@ -100,6 +104,28 @@ pub record IsConsoleOrdered (rows : List Row) (images : List ℕ) (order : Conso
   pub mark : string_bytes order.mark ≡ text_given rows (codes "mark")
   pub apart : IsFlag (one_of (codes "apart") rows) order.apart
 
+-- what a host is at boot, by its name; `spare` is the third
+abbrev pub role_of : List ℕ → HostRole
+role_of word =
+    if bytes_eq word (codes "primary") then role.Primary else
+    (if bytes_eq word (codes "backup") then role.Backup else role.Spare)
+
+-- each option of `host` sets what it says: what it is at boot, its patience, and how much comes before the first frame; the
+-- drives with images are given
+pub record IsHostOrdered (rows : List Row) (images : List ℕ) (order : HostOrder) : Type 0 where
+  pub role : order.role ≡ role_of (text_given rows (codes "role"))
+  pub patience : IsGivenOr 64 1000 (one_of (codes "patience") rows) order.patience
+  pub before : IsGivenOr 64 0 (one_of (codes "before") rows) order.before
+  pub images_are : order.images.items ≡ images
+
+-- the same of `hosts`: its folder, how many places there are, the key that ends all, and how much comes before the first key
+pub record IsHostsOrdered (rows : List Row) (images : List ℕ) (order : HostsOrder) : Type 0 where
+  pub folder : string_bytes order.folder ≡ text_given rows (codes "folder")
+  pub places : IsGivenOr 64 3 (one_of (codes "places") rows) order.places
+  pub quit : IsGivenOr 8 5 (one_of (codes "quit") rows) order.quit
+  pub before : IsGivenOr 64 0 (one_of (codes "before") rows) order.before
+  pub images_are : order.images.items ≡ images
+
 -- the word that names the command: the one after the program's name; [] if there is none
 abbrev pub command_word : List Text → Text
 command_word (program ∷ (word ∷ words)) = word
@@ -117,6 +143,8 @@ pub record IsOfScript (name : Text) : Type 0 where
   pub shell : name ≢ codes "shell"
   pub live : name ≢ codes "live"
   pub console : name ≢ codes "console"
+  pub host : name ≢ codes "host"
+  pub hosts : name ≢ codes "hosts"
 
 -- the command of this name is asked for, with the options that clap has found after it
 abbrev pub Asks : Text → List Row → Request → Type 0
@@ -126,6 +154,8 @@ Asks name rows (request.Picture images) = (name ≡ codes "picture") × HasImage
 Asks name rows request.Lint = name ≡ codes "lint"
 Asks name rows (request.Live order) = (name ≡ codes "live") × IsOrdered rows (drives_in rows (codes "images")) order
 Asks name rows (request.Console order) = (name ≡ codes "console") × IsConsoleOrdered rows (drives_in rows (codes "images")) order
+Asks name rows (request.Host order) = (name ≡ codes "host") × IsHostOrdered rows (drives_in rows (codes "images")) order
+Asks name rows (request.Hosts order) = (name ≡ codes "hosts") × IsHostsOrdered rows (drives_in rows (codes "images")) order
 Asks name rows request.Shell = name ≡ codes "shell"
 Asks name rows (request.Help text) = ⊥
 

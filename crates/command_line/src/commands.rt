@@ -1,6 +1,6 @@
 //! The program's commands and their options, as clap takes them.
 ghost use Rattle.std.specs.Prelude.{◌≡◌, [], IfOk, codes};
-ghost use Rattle.command_line.specs.Commands.{Adds, AddsScriptCommands, IsCommand, IsOption, alone, by_default, command, console_numbers, console_options, flag_option, link_and_disks, live_options, number_option, pair_app, program_shape, script_options, text_option, turn_options};
+ghost use Rattle.command_line.specs.Commands.{Adds, AddsScriptCommands, IsCommand, IsOption, alone, by_default, command, console_numbers, console_options, flag_option, host_options, hosts_options, link_and_disks, live_options, number_option, pair_app, program_shape, script_options, text_option, turn_options};
 
 use clap::builder::ValueParser;
 use clap::{Arg, ArgAction, Command};
@@ -38,6 +38,9 @@ pub(crate) static READS: &[&str] = &["logged", "shared"];
 
 pub(crate) static DRIVES: &[&str] = &["0", "1", "2", "3"];
 
+// What a host is when its pair boots.
+pub(crate) static ROLES: &[&str] = &["primary", "backup", "spare"];
+
 const IMAGES: &str =
     "The drives whose disks come before the script, each as an image of 337568 bytes; ./pair sends them for --disk";
 
@@ -60,7 +63,7 @@ const ESCAPE_HELP: &str =
     "The key that opens a command line, as the number of its byte; 5 is Ctrl-E";
 
 const BEFORE_HELP: &str =
-    "How many bytes come before the first key: images, then setup and `type` lines";
+    "How many bytes come before the first key or frame: images, then setup and `type` lines";
 
 // How many bytes come before the first key at most.
 const MOST_BEFORE: u64 = 1_099_511_627_776;
@@ -73,6 +76,23 @@ const MARK: &str =
 
 const APART: &str =
     "Hands each line about the pair over between marks, apart from what else is said; ./pair shows it";
+
+const ROLE_HELP: &str =
+    "What the host is when its pair boots; a spare is given a copy of the guest when a host has failed";
+
+const PATIENCE_HELP: &str =
+    "For how many milliseconds a host may hear nothing of its peer until it suspects it; the time does not count while the outside is stopped";
+
+// The longest patience: an hour.
+const MOST_PATIENCE: u64 = 3_600_000;
+
+const FOLDER_HELP: &str =
+    "The folder of the named pipes N.in and N.out, for the host at place N; ./pair makes them";
+
+const PLACES_HELP: &str =
+    "How many places for hosts there are: the primary has place 0, the backup place 1, spares may come later";
+
+const QUIT_HELP: &str = "The key that ends all, as the number of its byte; 5 is Ctrl-E";
 
 // The commands that run a script: what they do, and how they are called.
 const SCRIPT: (&str, &str) = (
@@ -111,6 +131,16 @@ const CONSOLE: (&str, &str) = (
     "pair console [OPTIONS] (keys come from standard input, after what --before says)",
 );
 
+const HOST: (&str, &str) = (
+    "Runs one host of a pair: frames from standard input, frames to standard output",
+    "pair host [OPTIONS] (frames come from standard input, after what --before says)",
+);
+
+const HOSTS: (&str, &str) = (
+    "Runs the outside of a pair whose hosts are processes: its terminals, its disk and its arbiter",
+    "pair hosts [OPTIONS] (keys come from standard input, after what --before says)",
+);
+
 /// How clap takes the list of an option. Its contract says what it finds in words only if it leaves lists whole; what it tells of a
 /// refused list is of the piece that is wrong only if it has cut them.
 #[derive(Clone, Copy)]
@@ -127,7 +157,9 @@ pub(crate) fn pair_command<'a>(alloc: Global, lists: Lists) -> Result<Command<'a
     let pair = pair.subcommand(plain_command(alloc, "lint", LINT))?;
     let pair = pair.subcommand(plain_command(alloc, "shell", SHELL))?;
     let pair = pair.subcommand(live_command(alloc, lists)?)?;
-    pair.subcommand(console_command(alloc, lists)?)
+    let pair = pair.subcommand(console_command(alloc, lists)?)?;
+    let pair = pair.subcommand(host_command(alloc, lists)?)?;
+    pair.subcommand(hosts_command(alloc, lists)?)
 }
 
 // The program without its commands.
@@ -200,6 +232,28 @@ fn console_command<'a>(alloc: Global, lists: Lists) -> Result<Command<'a>, Alloc
         .arg(apart(alloc))
 }
 
+// The command that runs one host.
+fn host_command<'a>(alloc: Global, lists: Lists) -> Result<Command<'a>, AllocError>
+    ensures { IfOk result (λ c. lists ≡ Lists.Whole → IsCommand (alone (command (codes "host") host_options)) c) }
+{
+    let host = plain_command(alloc, "host", HOST).arg(role(alloc, lists))?;
+    host.arg(patience(alloc))?
+        .arg(before(alloc))?
+        .arg(images(alloc, lists))
+}
+
+// The command that runs the outside of hosts.
+fn hosts_command<'a>(alloc: Global, lists: Lists) -> Result<Command<'a>, AllocError>
+    ensures { IfOk result (λ c. lists ≡ Lists.Whole → IsCommand (alone (command (codes "hosts") hosts_options)) c) }
+{
+    let hosts = plain_command(alloc, "hosts", HOSTS).arg(folder(alloc))?;
+    hosts
+        .arg(places(alloc))?
+        .arg(quit(alloc))?
+        .arg(before(alloc))?
+        .arg(images(alloc, lists))
+}
+
 // The command with its options that say for how many turns, and when somebody asks.
 fn with_turns<'a>(alloc: Global, live: Command<'a>) -> Result<Command<'a>, AllocError>
     ensures { IfOk result (Adds turn_options live.entry) }
@@ -256,6 +310,58 @@ fn reads<'a>(alloc: Global, lists: Lists) -> Arg<'a>
         Lists::Whole => reads,
         Lists::Cut => reads.value_parser(ValueParser::Names(READS)),
     }
+}
+
+fn role<'a>(alloc: Global, lists: Lists) -> Arg<'a>
+    ensures { lists ≡ Lists.Whole → IsOption (by_default (codes "spare") (text_option (codes "role"))) result }
+{
+    let role = text(alloc, "role", "ROLE")
+        .default_value("spare")
+        .help(ROLE_HELP);
+    match lists {
+        Lists::Whole => role,
+        Lists::Cut => role.value_parser(ValueParser::Names(ROLES)),
+    }
+}
+
+fn patience<'a>(alloc: Global) -> Arg<'a>
+    ensures { IsOption (by_default (codes "1000") (number_option (codes "patience") 100 3600000)) result }
+{
+    number(alloc, "patience", 100, MOST_PATIENCE)
+        .default_value("1000")
+        .help(PATIENCE_HELP)
+}
+
+fn before<'a>(alloc: Global) -> Arg<'a>
+    ensures { IsOption (by_default (codes "0") (number_option (codes "before") 0 1099511627776)) result }
+{
+    number(alloc, "before", 0, MOST_BEFORE)
+        .default_value("0")
+        .help(BEFORE_HELP)
+}
+
+fn folder<'a>(alloc: Global) -> Arg<'a>
+    ensures { IsOption (by_default (codes ".") (text_option (codes "folder"))) result }
+{
+    text(alloc, "folder", "FOLDER")
+        .default_value(".")
+        .help(FOLDER_HELP)
+}
+
+fn places<'a>(alloc: Global) -> Arg<'a>
+    ensures { IsOption (by_default (codes "3") (number_option (codes "places") 2 99)) result }
+{
+    number(alloc, "places", 2, 99)
+        .default_value("3")
+        .help(PLACES_HELP)
+}
+
+fn quit<'a>(alloc: Global) -> Arg<'a>
+    ensures { IsOption (by_default (codes "5") (number_option (codes "quit") 0 255)) result }
+{
+    number(alloc, "quit", 0, 255)
+        .default_value("5")
+        .help(QUIT_HELP)
 }
 
 fn mark<'a>(alloc: Global) -> Arg<'a>

@@ -3,9 +3,9 @@ ghost use Rattle.std.specs.Prelude.{◌≡◌, IfOk, bytes_eq, codes, map, optio
 ghost use Rattle.std.specs.List.{list_any};
 ghost use Rattle.clap.specs.ValueTests.{is_unsigned_in};
 ghost use Rattle.clap.specs.Words.{first_of, found_of, rows_of};
-ghost use Rattle.command_line.specs.Lists.{are_among, are_turns, is_among, lists_hold, pieces_in, pieces_of, readings};
+ghost use Rattle.command_line.specs.Lists.{are_among, are_turns, is_among, lists_hold, pieces_in, pieces_of, readings, roles};
 
-use crate::commands::{ASKERS, DRIVES, FATES, MOST_TURNS, READS};
+use crate::commands::{ASKERS, DRIVES, FATES, MOST_TURNS, READS, ROLES};
 use clap::ArgMatches;
 use std::alloc::{AllocError, Global};
 
@@ -18,7 +18,7 @@ pub(crate) fn lists_hold(alloc: Global, found: &ArgMatches<'_>) -> Result<bool, 
     let saved = are_among(pieces_in(alloc, found, "saved")?.as_slice(), DRIVES);
     let next = are_among(pieces_in(alloc, found, "next")?.as_slice(), ASKERS);
     let next_at = are_turns(pieces_in(alloc, found, "next-at")?.as_slice());
-    Ok(link && images && saved && next && next_at && reads_hold(found))
+    Ok(link && images && saved && next && next_at && reads_hold(found) && role_holds(found))
 }
 
 /// The pieces of the list that an option was given; none if it was not.
@@ -103,6 +103,16 @@ fn reads_hold(found: &ArgMatches<'_>) -> bool
 {
     match given_in(found, "reads") {
         Some(reads) => READS.contains(&reads),
+        None => true,
+    }
+}
+
+// Whether what a host is at boot is one of the three names, if it is said.
+fn role_holds(found: &ArgMatches<'_>) -> bool
+    ensures { result ≡ is_among roles (rows_of (found_of found.now)) (codes "role") }
+{
+    match given_in(found, "role") {
+        Some(role) => ROLES.contains(&role),
         None => true,
     }
 }

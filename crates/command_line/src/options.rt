@@ -4,10 +4,11 @@ ghost use Rattle.clap.specs.Words.{HasKind, fault_of, found_of, kind_of, one_of,
 ghost use Rattle.command_ending.specs.Statuses.{is_of_command_line};
 ghost use Rattle.command_line.specs.Commands.{pair_app};
 ghost use Rattle.command_line.specs.Lists.{pieces_in};
-ghost use Rattle.command_line.specs.Orders.{AreTurns, Asks, AsksHelp, HasFound, IsAsked, IsConsoleOrdered, IsFlag, IsGiven, IsGivenOr, IsOrdered, IsRefused, command_word, asker_of, drive_of, drives_in, fate_of, reads_of, text_given};
+ghost use Rattle.command_line.specs.Orders.{AreTurns, Asks, AsksHelp, HasFound, IsAsked, IsConsoleOrdered, IsFlag, IsGiven, IsGivenOr, IsHostOrdered, IsHostsOrdered, IsOrdered, IsRefused, command_word, asker_of, drive_of, drives_in, fate_of, reads_of, role_of, text_given};
 
 use crate::commands::{Lists, pair_command};
 use crate::console_order::ConsoleOrder;
+use crate::hosts_order::{HostOrder, HostRole, HostsOrder};
 use crate::lists::{given_in, lists_hold, pieces_in};
 use crate::live_order::{Asker, LiveOrder};
 use clap::error::ErrorKind;
@@ -32,6 +33,10 @@ pub enum Request {
     Live(LiveOrder),
     /// To run a pair that one sits at.
     Console(ConsoleOrder),
+    /// To run one host of a pair, over standard input and standard output.
+    Host(HostOrder),
+    /// To run the outside of a pair whose hosts are processes.
+    Hosts(HostsOrder),
     /// To answer lines as they come.
     Shell,
     /// To print this text, which says what there is to ask for; it ends with a line end.
@@ -49,6 +54,15 @@ const SPARES: u64 = 2;
 
 // The key that opens a command line if it does not say: Ctrl-E.
 const ESCAPE: u8 = 5;
+
+// For how many milliseconds a host is patient if the command line does not say.
+const PATIENCE: u64 = 1_000;
+
+// How many places for hosts there are if it does not say.
+const PLACES: u64 = 3;
+
+// The key that ends all hosts if it does not say: Ctrl-E.
+const QUIT: u8 = 5;
 
 /// What the words of a command line ask for; the first word is the program's name.
 #[tactic(auto, using(crate::proofs::Orders::asked_if_found, crate::proofs::Orders::asked_if_help))]
@@ -153,6 +167,8 @@ fn request_named(
         "shell" => Ok(Request::Shell),
         "live" => Ok(Request::Live(live_order(alloc, found, images)?)),
         "console" => Ok(Request::Console(console_order(alloc, found, images)?)),
+        "host" => Ok(Request::Host(host_order(found, images))),
+        "hosts" => Ok(Request::Hosts(hosts_order(alloc, found, images)?)),
         _ => Ok(Request::Script(images)),
     }
 }
@@ -234,6 +250,55 @@ fn console_order(
         saved,
         mark,
         apart,
+    })
+}
+
+// What the words after `host` say.
+#[tactic(auto, using(crate::proofs::Orders::given_or))]
+fn host_order(matches: &ArgMatches<'_>, images: Vec<u8>) -> HostOrder
+    ensures { IsHostOrdered (rows_of (found_of matches.now)) images.items result }
+{
+    let role = role_of(given_in(matches, "role").unwrap_or(""));
+    let patience = number(matches, "patience").unwrap_or(PATIENCE);
+    let before = number(matches, "before").unwrap_or(0);
+    HostOrder {
+        role,
+        patience,
+        before,
+        images,
+    }
+}
+
+// What a host is at boot, by its name.
+fn role_of(word: &str) -> HostRole
+    ensures { result ≡ role_of word.now }
+{
+    match word {
+        "primary" => HostRole::Primary,
+        "backup" => HostRole::Backup,
+        _ => HostRole::Spare,
+    }
+}
+
+// What the words after `hosts` say.
+#[tactic(auto, using(crate::proofs::Orders::given_or))]
+fn hosts_order(
+    alloc: Global,
+    matches: &ArgMatches<'_>,
+    images: Vec<u8>,
+) -> Result<HostsOrder, AllocError>
+    ensures { IfOk result (λ order. IsHostsOrdered (rows_of (found_of matches.now)) images.items order) }
+{
+    let folder = text(alloc, matches, "folder")?;
+    let places = number(matches, "places").unwrap_or(PLACES);
+    let quit = byte(matches, "quit").unwrap_or(QUIT);
+    let before = number(matches, "before").unwrap_or(0);
+    Ok(HostsOrder {
+        folder,
+        places,
+        quit,
+        before,
+        images,
     })
 }
 

@@ -285,15 +285,12 @@ impl<B: Copies<H> + KeyRoom + Drop, H: Drop> Serving<B, H> {
         Ok(has_sent)
     }
 
-    // Sends parts of the image, at most so many past those that have come; from the first again, if none came for a while.
+    // Sends parts of the image, at most so many past those that have come; once all of these are sent, from the first again if
+    // none came for a while.
     #[tactic(auto, using(crate::proofs::Going::stays, crate::proofs::Going::and_then))]
     fn send_parts(&mut self) -> R<bool>
         ensures { Goes B.state B.machine B.copied self.old.host self.new.host }
     {
-        if self.pace.is_past(self.pace.parts_at, AGAIN * 5) {
-            self.pace.next_part = 0;
-            self.pace.parts_at = self.pace.now;
-        }
         let mut has_sent = false;
         for _ in 0..PARTS {
             if self.pace.next_part >= self.pace.parts.saturating_add(PARTS) {
@@ -304,6 +301,10 @@ impl<B: Copies<H> + KeyRoom + Drop, H: Drop> Serving<B, H> {
             }
             self.pace.next_part = self.pace.next_part.saturating_add(1);
             has_sent = true;
+        }
+        if !has_sent && self.pace.is_past(self.pace.parts_at, AGAIN * 5) {
+            self.pace.next_part = 0;
+            self.pace.parts_at = self.pace.now;
         }
         Ok(has_sent)
     }

@@ -18,6 +18,8 @@ use Rattle.command_input.specs.declared.input.Language.{Language}
 use Rattle.command_input.specs.declared.input.Language.TheVariants.{Any, Threads}
 use Rattle.command_line.specs.Orders.{IsAsked, IsRefused}
 use Rattle.command_line.specs.declared.console_order.ConsoleOrder.{ConsoleOrder}
+use Rattle.command_line.specs.declared.hosts_order.HostOrder.{HostOrder}
+use Rattle.command_line.specs.declared.hosts_order.HostsOrder.{HostsOrder}
 use Rattle.command_line.specs.declared.live_order.LiveOrder.{LiveOrder}
 use Rattle.command_line.specs.declared.options.Request.{Request}
 use Rattle.command_line.specs.declared.options.Request.TheVariants as request
@@ -240,3 +242,14 @@ module _ {R W : Type 0} (remaining : R → Option (List ℕ)) (contents : W → 
       → Writes (string_bytes text) result (contents writer) (contents writer')
       → IsObeyed remaining contents reader reader' writer writer' asked result
   obeys_help asked text result is h = named (request.Help text) asked result is (by_help text result h)
+
+  -- a process of a pair runs over other streams
+  pub obeys_host : (asked : Request) (how : HostOrder) → asked ≡ request.Host how
+      → IsObeyed remaining contents reader reader writer writer asked (Ok tt)
+  obeys_host asked how is =
+      subst (λ r. IsObeyed remaining contents reader reader writer writer r (Ok tt)) (sym is) (refl, refl)
+
+  pub obeys_hosts : (asked : Request) (how : HostsOrder) → asked ≡ request.Hosts how
+      → IsObeyed remaining contents reader reader writer writer asked (Ok tt)
+  obeys_hosts asked how is =
+      subst (λ r. IsObeyed remaining contents reader reader writer writer r (Ok tt)) (sym is) (refl, refl)

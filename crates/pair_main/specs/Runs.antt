@@ -48,7 +48,7 @@ SitsAt how remaining after result old new =
 
 -- what a command prints: the lines of a script are answered, or the pair at their end is compared, or what happens is drawn, or
 -- bad lines are named; a pair runs on threads, or at a console, lines are answered as they come, or it is said what there is to ask
--- for
+-- for; a process of a pair runs over other streams, and nothing is read or printed here
 abbrev pub Obeys : Request → Option (List ℕ) → Option (List ℕ) → Result (Unit {0}) Failure → Option (List ℕ) → Option (List ℕ) →
     Type 0
 Obeys (request.Script images) remaining after result old new = IsOfReader script_of images.items remaining (λ input.
@@ -64,6 +64,8 @@ Obeys (request.Live how) remaining after result old new = IsOfReader live_script
     how result old new)
 Obeys request.Shell remaining after result old new = Hears remaining result old new
 Obeys (request.Console how) remaining after result old new = SitsAt how remaining after result old new
+Obeys (request.Host how) remaining after result old new = (after ≡ remaining) × (new ≡ old)
+Obeys (request.Hosts how) remaining after result old new = (after ≡ remaining) × (new ≡ old)
 Obeys (request.Help text) remaining after result old new = Writes (string_bytes text) result old new
 
 -- the request of an order

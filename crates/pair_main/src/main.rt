@@ -1,9 +1,11 @@
 //! The program `pair`: its words, standard input and standard output, and the status and the text that it ends with.
 #![tactic(auto)]
 
+mod processes;
 mod program;
 
 use command_console::Streams;
+use processes::run_process;
 use program::run_program;
 use std::env;
 use std::io::{self, ErrorKind};
@@ -19,12 +21,17 @@ fn main(rt: HostRuntime) -> ExitCode {
     let Ok(arguments) = arguments.collect::<Vec<String>>(alloc) else {
         return ExitCode::from(4);
     };
-    let streams = Streams {
-        reader: rt.reader(),
-        writer: io::writer(&rt),
-        notes: rt.stderr(),
+    let (status, text) = match run_process(rt, rt, alloc, &arguments) {
+        Some(ended) => ended,
+        None => {
+            let streams = Streams {
+                reader: rt.reader(),
+                writer: io::writer(&rt),
+                notes: rt.stderr(),
+            };
+            run_program(&rt, alloc, &arguments, streams).1
+        }
     };
-    let (_, (status, text)) = run_program(&rt, alloc, &arguments, streams);
     if !text.is_empty() {
         let _ = eprintln!(rt; "{text}");
     }

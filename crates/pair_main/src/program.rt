@@ -64,7 +64,7 @@ fn run<
 }
 
 // Does what is asked for.
-#[tactic(auto, using(crate::proofs::Runs::obeys_console, crate::proofs::Runs::obeys_script, crate::proofs::Runs::obeys_check, crate::proofs::Runs::obeys_picture, crate::proofs::Runs::obeys_lint, crate::proofs::Runs::obeys_live, crate::proofs::Runs::obeys_shell, crate::proofs::Runs::obeys_help))]
+#[tactic(auto, using(crate::proofs::Runs::obeys_console, crate::proofs::Runs::obeys_script, crate::proofs::Runs::obeys_check, crate::proofs::Runs::obeys_picture, crate::proofs::Runs::obeys_lint, crate::proofs::Runs::obeys_live, crate::proofs::Runs::obeys_shell, crate::proofs::Runs::obeys_host, crate::proofs::Runs::obeys_hosts, crate::proofs::Runs::obeys_help))]
 fn obey<
     H: Threads + Clock + Sync,
     R: Read + IsTerminal + Drop + Send,
@@ -120,6 +120,8 @@ fn obey<
             plain_completions::written,
         ),
         Request::Help(text) => print_help(&text, &mut streams.writer),
+        // A process of a pair runs over other streams.
+        Request::Host(_) | Request::Hosts(_) => Ok(()),
     };
     (streams, ended)
 }

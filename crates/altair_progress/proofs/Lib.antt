@@ -1,0 +1,3 @@
+pub mod Responding
+pub mod Images
+pub mod Always

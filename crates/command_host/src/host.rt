@@ -1,0 +1,134 @@
+//! One host in a process: what it boots with and then frames come on one stream, and frames go on another.
+ghost use Rattle.std.specs.Prelude.{IfOk};
+ghost use Rattle.command_host.specs.Serving.{HasServed};
+ghost use Rattle.event_callbacks.specs.Keeping.{Keeps};
+ghost use Rattle.event_callbacks.specs.declared.devices.TheConstants.{SECTOR, SENT, WRITTEN};
+
+use crate::booting::{Booted, board_of, host_of};
+use crate::frames::{Writing, read_from, write_to};
+use crate::opening::read_opening;
+use clone_state::Copies;
+use command_ending::Failure;
+use command_input::{Language, read_input};
+use command_line::{HostOrder, HostRole};
+use event_callbacks::{Callbacks, Completes, plain_completions};
+use guest_board::Setup;
+use host_node::{End, Mail, Settings, serve};
+use i8080_words::R;
+use key_room::KeyRoom;
+use std::alloc::Global;
+use std::io::{Read, Write};
+use std::sync::{Arc, Wait};
+use std::thread::{Parker, Threads};
+use std::time::Clock;
+
+// How many moves its node makes in one turn at most.
+const STEPS: u64 = 10_000;
+
+// How often it says that it is there, in microseconds.
+const BEAT: u64 = 100_000;
+
+// How many milliseconds pass between two ticks of the outside.
+const TICK: u64 = 50;
+
+/// Runs a host until there is a reason to end, which is returned: its stream of frames ends, for one. What it wrote is then
+/// whole frames, unless the stream failed.
+pub fn run_host<
+    H: Threads + Wait + Clock + Copy + Drop + Send + Sync + 'static,
+    R: Read + Drop + Send + 'static,
+    W: Write + Drop + Send + 'static,
+>(rt: H, alloc: Global, order: &HostOrder, mut reader: R, writer: W) -> Result<End, Failure> {
+    let opening = read_opening(alloc, order.before, &mut reader)?;
+    let input = read_input(
+        alloc,
+        Language::Threads,
+        &order.images,
+        &mut opening.as_slice(),
+    )?;
+    Ok(run_setup(
+        rt,
+        alloc,
+        order,
+        &input.script.setup.guest,
+        (reader, writer),
+        plain_completions::sent,
+        plain_completions::sector,
+        plain_completions::written,
+    )?)
+}
+
+// Runs a host whose pair has the machine of this setup.
+fn run_setup<
+    H: Threads + Wait + Clock + Copy + Drop + Send + Sync + 'static,
+    I: Read + Drop + Send + 'static,
+    O: Write + Drop + Send + 'static,
+    T: Completes + Drop,
+    S: Completes + Drop,
+    W: Completes + Drop,
+>(
+    rt: H,
+    alloc: Global,
+    order: &HostOrder,
+    setup: &Setup,
+    streams: (I, O),
+    sent: T,
+    sector: S,
+    written: W,
+) -> R<End>
+    requires sent { Keeps (T.may sent) (T.gives sent) SENT }
+    requires sector { Keeps (S.may sector) (S.gives sector) SECTOR }
+    requires written { Keeps (W.may written) (W.gives written) WRITTEN }
+{
+    let callbacks = Callbacks::of(sent, sector, written);
+    let booted = match order.role {
+        HostRole::Primary => Booted::Primary(board_of(alloc, setup, callbacks)?),
+        HostRole::Backup => Booted::Backup(board_of(alloc, setup, callbacks)?),
+        HostRole::Spare => Booted::Spare(callbacks),
+    };
+    run_booted(rt, alloc, settings(order), setup.drives, booted, streams)
+}
+
+/// Runs a host that boots with this, over a stream of frames to it and one from it, until there is a reason to end.
+pub fn run_booted<
+    B: Copies<K> + KeyRoom + Drop,
+    K: Drop,
+    H: Threads + Wait + Clock + Copy + Drop + Send + Sync + 'static,
+    I: Read + Drop + Send + 'static,
+    O: Write + Drop + Send + 'static,
+>(
+    rt: H,
+    alloc: Global,
+    settings: Settings,
+    drives: u8,
+    booted: Booted<B, K>,
+    streams: (I, O),
+) -> R<End>
+    ensures { IfOk result (λ end. HasServed B.state B.machine B.copied drives booted) }
+{
+    let (reader, writer) = streams;
+    let mine = Arc::new(alloc, Parker::new())?;
+    let bodies = read_from(rt, alloc, reader, &mine)?;
+    let Writing {
+        frames,
+        wake,
+        thread,
+    } = write_to(rt, alloc, writer)?;
+    let mail = Mail::new(alloc, bodies, frames, wake)?;
+    let host = host_of(alloc, drives, booted, mail)?;
+    let end = {
+        let (host, end) = serve(&rt, host, settings, &mine);
+        drop(host);
+        end
+    };
+    let _ = thread.join(&rt);
+    Ok(end)
+}
+
+// How its loop goes. The outside ticks only while it runs itself, so that nobody is suspected because it was stopped.
+fn settings(order: &HostOrder) -> Settings {
+    Settings {
+        steps: STEPS,
+        patience: u32::try_from(order.patience / TICK).unwrap_or(u32::MAX),
+        beat: BEAT,
+    }
+}

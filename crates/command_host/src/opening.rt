@@ -1,0 +1,19 @@
+//! What comes before the frames of a host, and before the keys of a user.
+
+use command_ending::Failure;
+use std::alloc::Global;
+use std::io::Read;
+
+/// The first bytes of a stream, so many: images, and then a script.
+pub(crate) fn read_opening<R: Read + Drop>(
+    alloc: Global,
+    before: u64,
+    reader: &mut R,
+) -> Result<Vec<u8>, Failure> {
+    let Ok(count) = usize::try_from(before) else {
+        return Err(Failure::OutOfMemory);
+    };
+    let mut bytes = vec![in alloc; 0u8; count]?;
+    reader.read_exact(&mut bytes)?;
+    Ok(bytes)
+}

@@ -1,0 +1,171 @@
+//! The outside in a process: what its machine boots with and then keys come on one stream, what its terminal accepts goes on
+//! another, and its hosts are at the ends of named pipes.
+ghost use Rattle.std.specs.Prelude.{IfOk};
+ghost use Rattle.command_host.specs.Serving.{HasEnded};
+
+use crate::keys::{KeyReader, read_keys};
+use crate::opening::read_opening;
+use crate::places::{Pipes, add_places};
+use crate::screen::{ScreenWriter, show_all};
+use command_ending::Failure;
+use command_hosts::{HostsEnd, PortEnd, Quit, Session, run_hosts};
+use command_input::{Input, Language, read_input};
+use command_line::HostsOrder;
+use console_terminal::TerminalKeys;
+use i8080_words::R;
+use pair_lines::{Keyboard, Screen, Shown, Stroke};
+use rtrb::{Consumer, Producer, RingBuffer};
+use shared_disk::MemoryStore;
+use std::alloc::Global;
+use std::io::{IsTerminal, Read, Write};
+use std::sync::{Arc, Wait};
+use std::thread::{self, Parker, Threads};
+use std::time::Clock;
+
+// How many keys, and how many bytes that a terminal has accepted, wait at most.
+const BYTES: usize = 4_096;
+
+/// The streams of an outside.
+#[derive(Drop)]
+pub struct OutsideStreams<R, W, N> {
+    /// What its machine boots with, and then keys.
+    pub reader: R,
+    /// The bytes that terminal 0 has accepted.
+    pub writer: W,
+    /// What becomes of the hosts.
+    pub notes: N,
+}
+
+/// Runs the outside until there is a reason to end, which is returned: then all that terminal 0 has accepted is written. What
+/// terminal 1 accepts is not shown.
+pub fn run_outside<
+    H: Threads + Wait + Clock + Copy + Drop + Send + Sync + 'static,
+    R: Read + IsTerminal + Drop + Send + 'static,
+    W: Write + Drop + Send + 'static,
+    N: Write + Drop,
+>(
+    rt: H,
+    files: HostRuntime,
+    alloc: Global,
+    order: &HostsOrder,
+    streams: OutsideStreams<R, W, N>,
+) -> Result<HostsEnd, Failure> {
+    let OutsideStreams {
+        mut reader,
+        writer,
+        notes,
+    } = streams;
+    let opening = read_opening(alloc, order.before, &mut reader)?;
+    let input = read_input(
+        alloc,
+        Language::Threads,
+        &order.images,
+        &mut opening.as_slice(),
+    )?;
+    let opening = Arc::new(alloc, opening)?;
+    let (mut session, ends) = session_of(alloc, &input, notes)?;
+    let mine = Arc::new(alloc, Parker::new())?;
+    let pipes = Pipes {
+        files,
+        folder: order.folder.as_str(),
+        opening: &opening,
+    };
+    add_places(rt, alloc, &pipes, order.places, &mine, &mut session)?;
+    run_session(
+        rt,
+        alloc,
+        order.quit,
+        session,
+        ends,
+        input,
+        (reader, writer),
+        mine,
+    )
+}
+
+// The ends of the rings that are not the session's own.
+#[derive(Drop)]
+struct Ends {
+    first: Producer<Stroke>,
+    second: Producer<Stroke>,
+    quits: Producer<Quit>,
+    shown: Consumer<Shown>,
+}
+
+// An outside that has no place for a host yet.
+fn session_of<N: Write + Drop>(
+    alloc: Global,
+    input: &Input,
+    notes: N,
+) -> R<(Session<MemoryStore, N>, Ends)> {
+    let store = MemoryStore::at_boot(alloc, input.script.setup.guest.drives, &input.sectors)?;
+    let (first, first_keys) = RingBuffer::new(alloc, BYTES)?;
+    let (second, second_keys) = RingBuffer::new(alloc, BYTES)?;
+    let (screen, shown) = RingBuffer::new(alloc, BYTES)?;
+    let (quits, quits_from) = RingBuffer::new(alloc, 1)?;
+    let session = Session::new(
+        alloc,
+        store,
+        PortEnd::new(Keyboard::of(first_keys), Screen::of(screen)),
+        PortEnd::new(Keyboard::of(second_keys), Screen::dark()),
+        quits_from,
+        notes,
+    )?;
+    let ends = Ends {
+        first,
+        second,
+        quits,
+        shown,
+    };
+    Ok((session, ends))
+}
+
+// Hears keys, shows what appears, and serves the hosts between them.
+fn run_session<
+    H: Threads + Wait + Clock + Copy + Drop + Send + Sync + 'static,
+    R: Read + IsTerminal + Drop + Send + 'static,
+    W: Write + Drop + Send + 'static,
+    N: Write + Drop,
+>(
+    rt: H,
+    alloc: Global,
+    quit: u8,
+    mut session: Session<MemoryStore, N>,
+    ends: Ends,
+    input: Input,
+    streams: (R, W),
+    mine: Arc<Parker>,
+) -> Result<HostsEnd, Failure>
+    ensures { IfOk result (λ end. HasEnded end session) }
+{
+    let (source, sink) = streams;
+    let Ends {
+        first,
+        second,
+        quits,
+        shown,
+    } = ends;
+    let mut keys = KeyReader {
+        source: TerminalKeys::new(source),
+        quit,
+        first,
+        second,
+        quits,
+    };
+    let wake = Arc::try_clone(&mine)?;
+    let lines = input.script.lines;
+    let hearing = thread::spawn(&rt, move || read_keys(&rt, &mut keys, &lines, &wake));
+    if hearing.is_err() {
+        return Err(Failure::OutOfMemory);
+    }
+    let writer = ScreenWriter { sink, shown };
+    let Ok(showing) = thread::spawn(&rt, move || show_all(&rt, writer).1.is_ok()) else {
+        return Err(Failure::OutOfMemory);
+    };
+    let end = run_hosts(&rt, alloc, &mut session, &mine);
+    drop(session);
+    if !showing.join(&rt) {
+        return Err(Failure::InputOrOutput);
+    }
+    Ok(end)
+}

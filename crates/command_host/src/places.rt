@@ -1,0 +1,107 @@
+//! The places of hosts at the outside: two named pipes for each, opened by the threads that read and write them.
+
+use command_hosts::Session;
+use frame_streams::{FrameReader, FrameWriter, read_frames, write_frames};
+use host_frames::FrameBuffer;
+use i8080_words::{Fault, R};
+use rtrb::{Consumer, Producer, RingBuffer};
+use shared_disk::SectorStore;
+use std::alloc::Global;
+use std::fs::{File, OpenOptions};
+use std::io::Write;
+use std::sync::{Arc, Wait};
+use std::thread::{self, Parker, Threads};
+use std::time::Clock;
+
+// How many frames of one host wait at most.
+const FRAMES: usize = 4_096;
+
+/// The named pipes of all places: their folder, and what each host is given before its first frame.
+#[derive(Drop)]
+pub(crate) struct Pipes<'a> {
+    pub(crate) files: HostRuntime,
+    pub(crate) folder: &'a str,
+    pub(crate) opening: &'a Arc<Vec<u8>>,
+}
+
+/// Adds places for hosts, so many, to a session. Whoever reads a host's frames wakes the session's loop.
+pub(crate) fn add_places<
+    H: Threads + Wait + Clock + Copy + Drop + Send + Sync + 'static,
+    D: SectorStore,
+    N: Write + Drop,
+>(
+    rt: H,
+    alloc: Global,
+    pipes: &Pipes<'_>,
+    count: u64,
+    mine: &Arc<Parker>,
+    session: &mut Session<D, N>,
+) -> R<()> {
+    for place in 0..count {
+        let from = read_place(rt, alloc, pipes, place, mine)?;
+        let (to, wake) = write_place(rt, alloc, pipes, place)?;
+        session.add(from, to, wake)?;
+    }
+    Ok(())
+}
+
+// Starts the thread that reads the frames of the host at a place. Its pipe is opened when the host opens it, which need not be
+// soon.
+fn read_place<H: Threads + Clock + Copy + Drop + Send + Sync + 'static>(
+    rt: H,
+    alloc: Global,
+    pipes: &Pipes<'_>,
+    place: u64,
+    mine: &Arc<Parker>,
+) -> R<Consumer<Vec<u8>>> {
+    let folder = pipes.folder;
+    let files = pipes.files;
+    let (bodies, from) = RingBuffer::new(alloc, FRAMES)?;
+    let path = format!(in alloc; "{folder}/{place}.out")?;
+    let wake = Arc::try_clone(mine)?;
+    let pending = FrameBuffer::new(alloc)?;
+    let thread = thread::spawn(&rt, move || {
+        if let Ok(source) = File::open(&files, path.as_str()) {
+            let reader = FrameReader {
+                source,
+                pending,
+                bodies,
+            };
+            let (reader, _) = read_frames(&rt, alloc, reader, &wake);
+            drop(reader);
+        }
+        wake.unpark();
+    });
+    match thread {
+        Ok(_) => Ok(from),
+        Err(_) => Err(Fault::OutOfMemory),
+    }
+}
+
+// Starts the thread that gives the host at a place what comes first, and writes frames to it.
+fn write_place<H: Threads + Wait + Copy + Drop + Send + Sync + 'static>(
+    rt: H,
+    alloc: Global,
+    pipes: &Pipes<'_>,
+    place: u64,
+) -> R<(Producer<Vec<u8>>, Arc<Parker>)> {
+    let folder = pipes.folder;
+    let files = pipes.files;
+    let (to, frames) = RingBuffer::new(alloc, FRAMES)?;
+    let path = format!(in alloc; "{folder}/{place}.in")?;
+    let theirs = Arc::new(alloc, Parker::new())?;
+    let wake = Arc::try_clone(&theirs)?;
+    let opening = Arc::try_clone(pipes.opening)?;
+    let thread = thread::spawn(&rt, move || {
+        let Ok(mut sink) = OpenOptions::new().write(true).open(&files, path.as_str()) else {
+            return;
+        };
+        if sink.write_all(opening.as_slice()).is_ok() {
+            let _ = write_frames(&rt, FrameWriter { sink, frames }, &wake);
+        }
+    });
+    match thread {
+        Ok(_) => Ok((to, theirs)),
+        Err(_) => Err(Fault::OutOfMemory),
+    }
+}
