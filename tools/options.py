@@ -6,9 +6,9 @@ usage: tools/options.py [COMMAND]     prints those of a command; without one, al
   --load FILE           for all commands but `host`: a program in Intel HEX, in memory at boot, as lines `mem` before the input
   --disk D=FILE         for all commands but `lint` and `host`: the image of a disk in drive D, before the input
   --save-disk D=FILE    for `live`, `shell` and `console`: at the end the disk of drive D is written to a file
-  --type P=TEXT         for `live` and `console`: keys typed at port P, as lines `type` after the script; \\r, \\n, \\t, \\\\ and \\xHH are one key each
-  --stop HOST@TURN      for `live`: a host fails at this turn of its generation, so that the other one goes on; one for each generation
-  --spares K            for `live`: how many spare hosts there are to copy the guest to; as many as --stop is given, if it is not said
+  --type P=TEXT         for `live` and `console`: keys typed at port P, after those of the script; \\r is Enter, and \\xHH any byte
+  --stop HOST@TURN      for `live`: a host fails at this turn of its generation, and the other one continues; one for each generation
+  --spares K            for `live`: how many spare hosts there are to copy the guest to; without it as many as there are --stop
   --generations N       for `live`: how many generations there are at most
   --setup FILE          for `console` and `hosts`: lines of a setup, as a script has them, before those of --load
   --memory AAAA=HH..    for `console` and `hosts`: bytes from this address on, in hexadecimal digits, in memory at boot
