@@ -1,5 +1,5 @@
 -- What holds of a fleet holds of the processes that are it.
-use Rattle.std.proofs.Common.{ℕ, ◌≡◌, Some, List, refl, sym, ap, ◌∙◌, subst}
+use Rattle.std.proofs.Common.{ℕ, ◌≡◌, Some, List, refl, subst}
 use Rattle.std.specs.Prelude.{slice_get}
 use Rattle.altair_copies.specs.Copies.{image_copy}
 use Rattle.clone_state.specs.Copies.{CopiesAs}
@@ -21,7 +21,6 @@ use Rattle.host_node.specs.declared.host.HostNode.{HostNode}
 use Rattle.host_node.specs.declared.host.Hosted.TheVariants as hosted
 use Rattle.pair_protocol.specs.Copying.{Copying, IsCopying}
 use Rattle.pair_protocol.specs.Lawful.{Lawful}
-use Rattle.pair_protocol.specs.Node.{Node, Alone}
 use Rattle.pair_protocol.specs.World.{World, opening}
 use Rattle.process_runs.proofs.Running.{are_fleet}
 use Rattle.process_runs.specs.Laws.{AreFleet, AreKept, HasAlone, IsNodeOf}
