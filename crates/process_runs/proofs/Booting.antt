@@ -1,5 +1,5 @@
 -- Processes that have booted are a fleet that has.
-use Rattle.std.proofs.Common.{ℕ, zero, suc, ◌≡◌, ◌≢◌, ◌+◌, ◌<◌, ◌≤◌, Option, Some, None, List, [], ◌∷◌, ◌++◌, length, arith, refl, sym, ap, ◌∙◌, subst, inl, inr}
+use Rattle.std.proofs.Common.{ℕ, zero, suc, ◌≡◌, ◌≢◌, ◌+◌, ◌<◌, ◌≤◌, Some, List, [], ◌∷◌, length, arith, refl, sym, ◌∙◌, subst, inl, inr}
 use Rattle.std.specs.Prelude.{slice_get}
 use Rattle.std.proofs.lemmas.List.{length-append}
 use Rattle.std.proofs.lemmas.Option.{slice_get_within}
@@ -7,15 +7,15 @@ use Rattle.guest_lockstep.specs.Machine.{Machine}
 use Rattle.guest_lockstep.specs.declared.reads.Reads.TheVariants.{Shared}
 use Rattle.guest_parts.specs.Guest.{Guest}
 use Rattle.host_calls.specs.Follows as follows
-use Rattle.host_law.specs.Fleet.{Fleet, booted, with_spares}
+use Rattle.host_law.specs.Fleet.{booted, with_spares}
 use Rattle.host_law.specs.Frame as law
 use Rattle.host_law.specs.Outside.{at_first}
-use Rattle.host_node.specs.Hosts.{HasJoined, HasNode, IsHosted, IsNumber}
+use Rattle.host_node.specs.Hosts.{HasJoined, HasNode}
 use Rattle.host_node.specs.declared.host.HostNode.{HostNode}
 use Rattle.host_node.specs.declared.host.Hosted.TheVariants as hosted
 use Rattle.outside_devices.specs.Shown.{Shows}
 use Rattle.outside_switch.proofs.Running.{begins}
-use Rattle.outside_switch.specs.Lines.{Pushed, number_at}
+use Rattle.outside_switch.specs.Lines.{number_at}
 use Rattle.pair_protocol.proofs.Traces.Lists.{get-at, get-longer, le-cases}
 use Rattle.pair_protocol.specs.Copying.{Copying}
 use Rattle.pair_protocol.specs.Lawful.{Among}

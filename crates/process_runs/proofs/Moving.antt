@@ -1,5 +1,5 @@
 -- A move of the outside is what the fleet's outside does.
-use Rattle.std.proofs.Common.{ℕ, ◌≡◌, ◌≤◌, Option, Some, None, List, [], ◌∷◌, ◌++◌, refl, sym, ap, ◌∙◌, subst, inl, inr}
+use Rattle.std.proofs.Common.{ℕ, ◌≤◌, Some, None, List, ◌++◌, refl, sym, ◌∙◌, subst, inl, inr}
 use Rattle.guest_lockstep.specs.Machine.{Machine}
 use Rattle.guest_parts.specs.Guest.{Guest}
 use Rattle.host_frames.specs.Frames.{framed}
@@ -11,7 +11,7 @@ use Rattle.outside_switch.proofs.Running.{move_runs}
 use Rattle.outside_switch.specs.Goes as goes
 use Rattle.outside_switch.specs.Goes.{Moves}
 use Rattle.outside_switch.specs.Lines.{LinesGo, Pushed}
-use Rattle.outside_switch.specs.Meets.{Meets, Seen}
+use Rattle.outside_switch.specs.Meets.{Seen}
 use Rattle.outside_switch.specs.Runs.{MoveBrings, MoveRan, pushed_by, read_by, written_by}
 use Rattle.pair_protocol.proofs.Traces.Lists.{among-split}
 use Rattle.pair_protocol.specs.Copying.{Copying}

@@ -1,5 +1,5 @@
 -- No two parts of images are written in one way.
-use Rattle.std.proofs.Common.{ℕ, ◌≡◌, List, ◌∷◌, ◌++◌, Some, refl, sym, ap, ◌∙◌, subst}
+use Rattle.std.proofs.Common.{ℕ, ◌≡◌, List, ◌++◌, sym, ap, ◌∙◌}
 use Rattle.byteorder.specs.Endian.{big_bytes}
 use Rattle.clone_state.specs.Parts.{PartMessage, message_bytes}
 use Rattle.clone_state.proofs.Values.{word_again}

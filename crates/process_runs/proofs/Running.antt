@@ -1,5 +1,5 @@
 -- Whatever the processes do is what a fleet does.
-use Rattle.std.proofs.Common.{ℕ, ◌≡◌, ◌+◌, ◌≤◌, Some, List, length, arith, refl, sym, ap, ◌∙◌, subst, inl, inr}
+use Rattle.std.proofs.Common.{ℕ, ◌≡◌, ◌+◌, ◌≤◌, Some, length, arith, sym, ap, ◌∙◌, subst, inl, inr}
 use Rattle.std.specs.Prelude.{slice_get, slice_set}
 use Rattle.clone_state.specs.Copies.{CopiesAs}
 use Rattle.guest_lockstep.specs.Machine.{Machine}
@@ -10,7 +10,6 @@ use Rattle.host_node.specs.Goes as host
 use Rattle.host_node.specs.declared.host.HostNode.{HostNode}
 use Rattle.outside_switch.proofs.Running.{moved_more}
 use Rattle.outside_switch.specs.Goes as outside
-use Rattle.outside_switch.specs.Lines.{number_at}
 use Rattle.pair_protocol.proofs.Traces.Lists.{get_set, get_set_other, same_or_not, same_some}
 use Rattle.pair_protocol.specs.Copying.{Copying}
 use Rattle.pair_protocol.specs.World.{opening}

@@ -1,6 +1,6 @@
 -- From what one process says to what another one is told: a frame that a host sent brings what it means, wherever the outside
 -- passes it on, and an answer brings what the devices sent.
-use Rattle.std.proofs.Common.{ℕ, zero, suc, ◌≡◌, ◌<◌, ◌⊎◌, Bool, true, false, cond, eqb, List, [], ◌∷◌, ◌++◌, length, Some, None, refl, sym, ap, ◌∙◌, subst, inl, inr, arith}
+use Rattle.std.proofs.Common.{ℕ, zero, suc, ◌≡◌, ◌<◌, ◌⊎◌, Bool, true, false, cond, List, [], ◌∷◌, ◌++◌, length, Some, None, refl, sym, ap, ◌∙◌, subst, inl, inr, arith}
 use Rattle.std.specs.Prelude.{◌==◌, ◌&&◌, slice_get, slice_index, Option}
 use Rattle.std.proofs.lemmas.Bool.{and_parts, eqb-true}
 use Rattle.std.proofs.lemmas.Option.{same_Some}
@@ -8,10 +8,10 @@ use Rattle.clone_state.specs.Parts.{PartMessage, message_bytes}
 use Rattle.guest_lockstep.specs.declared.reads.Reads.TheVariants.{Shared}
 use Rattle.host_frames.specs.Frames.{Said, Packet, Transfers, Tells, are_numbers, is_frame, is_number, is_standing}
 use Rattle.host_frames.specs.Meaning as meaning
-use Rattle.host_frames.specs.Meaning.{IsPart, IsTold, Means, Speaks, covered_at, is_report}
-use Rattle.host_frames.specs.declared.frame.Notice.TheVariants.{Begin, Gone, Join, Lost, Progress, Report, Stop, Suspect, Tick, Won}
+use Rattle.host_frames.specs.Meaning.{IsTold, Means, Speaks, covered_at, is_report}
+use Rattle.host_frames.specs.declared.frame.Notice.TheVariants.{Gone, Join, Progress, Report, Stop, Tick}
 use Rattle.host_frames.specs.declared.frame.Report as host
-use Rattle.host_frames.specs.declared.frame.Transfer.TheVariants.{Accepted, Byte, Failed, Get, Key, Sector, Write, Written}
+use Rattle.host_frames.specs.declared.frame.Transfer.TheVariants.{Failed}
 use Rattle.host_law.specs.Frame as law
 use Rattle.host_law.specs.Frame.{Act, Came}
 use Rattle.outside_devices.specs.Held.{Held}
@@ -24,7 +24,7 @@ use Rattle.outside_switch.proofs.Meanings.{IsCarried, Only, carried, only}
 use Rattle.outside_switch.specs.Calls as calls
 use Rattle.outside_switch.specs.Calls.{Call, Called}
 use Rattle.outside_switch.specs.Says as says
-use Rattle.outside_switch.specs.Says.{IsHost, IsPassed}
+use Rattle.outside_switch.specs.Says.{IsPassed}
 use Rattle.pair_protocol.proofs.Traces.Lists.{among-left, among-right, among-split}
 use Rattle.pair_protocol.specs.Lawful.{Among}
 use Rattle.pair_protocol.specs.World as message

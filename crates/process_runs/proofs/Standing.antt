@@ -1,23 +1,21 @@
 -- What holds while the processes run: the fleet that they are so far, with a host of it at each place; what a host has said was
 -- sent, and what was pushed to a host brings what was sent.
-use Rattle.std.proofs.Common.{ℕ, ◌≡◌, ◌≤◌, ◌⊎◌, Bool, true, false, cond, Option, Some, None, List, [], ◌∷◌, ◌++◌, append_assoc, refl, sym, ap, ◌∙◌, subst, inl, inr, eqb-true}
+use Rattle.std.proofs.Common.{ℕ, ◌≡◌, Bool, true, false, cond, Option, Some, None, List, [], ◌∷◌, ◌++◌, append_assoc, refl, sym, ap, ◌∙◌, subst, inl, inr, eqb-true}
 use Rattle.std.specs.Prelude.{◌==◌, slice_get, slice_set}
-use Rattle.std.specs.Global.{Vec}
 use Rattle.std.specs.List.{AllByRecursion}
 use Rattle.clone_state.specs.Copies.{CopiesAs}
 use Rattle.frame_streams.specs.Reading.{contents_of}
 use Rattle.guest_lockstep.specs.Machine.{Machine}
-use Rattle.guest_lockstep.specs.declared.reads.Reads.TheVariants.{Shared}
 use Rattle.guest_parts.specs.Guest.{Guest}
 use Rattle.host_frames.proofs.BodyLaws.{one_body}
 use Rattle.host_frames.specs.Frames.{IsBodyOf, IsSpelling, Said, Tells, body_of, framed}
 use Rattle.host_frames.specs.Meaning.{IsTold, Means, Speaks}
 use Rattle.host_frames.specs.declared.frame.Notice.TheVariants.{Join}
-use Rattle.host_law.specs.Fleet.{Deed, Fleet, Happened, booted}
-use Rattle.host_law.specs.Frame.{Act, Came, Frame, sent, taken}
+use Rattle.host_law.specs.Fleet.{Deed, Fleet, Happened}
+use Rattle.host_law.specs.Frame.{Act, Came, Frame, sent}
 use Rattle.host_node.specs.Goes as host
 use Rattle.host_node.specs.Goes.{AllBring, RunsTo, Says}
-use Rattle.host_node.specs.Hosts.{HasJoined, IsHosted, IsNumber}
+use Rattle.host_node.specs.Hosts.{IsHosted, IsNumber}
 use Rattle.host_node.specs.declared.host.HostNode.{HostNode}
 use Rattle.outside_devices.specs.Held.{Held}
 use Rattle.outside_devices.specs.Shown.{Shows}
@@ -31,7 +29,7 @@ use Rattle.pair_protocol.specs.Copying.{Copying}
 use Rattle.pair_protocol.specs.Lawful.{Among}
 use Rattle.pair_protocol.specs.Node.{Node}
 use Rattle.process_runs.proofs.Fleets.{after_host, came_first, came_later, came_rest, host_deeds, host_happened, then_happened}
-use Rattle.process_runs.proofs.Speaking.{answer_told, never_join, passed_told, speaks_told, told_later}
+use Rattle.process_runs.proofs.Speaking.{answer_told, never_join, passed_told, told_later}
 use Rattle.process_runs.specs.Processes.{Delivered, Processes}
 
 -- ---- one spelling

@@ -1,20 +1,15 @@
 -- Bodies that are read from the first bytes of some frames are those of the first of these frames.
-use Rattle.std.proofs.Common.{ℕ, ◌≡◌, List, [], ◌∷◌, ◌++◌, map, append_assoc, refl, sym, ap, ◌∙◌, subst, inl, inr, Option}
-use Rattle.std.specs.Prelude.{flat_map}
+use Rattle.std.proofs.Common.{ℕ, ◌≡◌, List, [], ◌∷◌, ◌++◌, map, append_assoc, refl, sym, ap, ◌∙◌, inl, inr}
 use Rattle.std.specs.Global.{Vec}
 use Rattle.std.specs.List.{AllByRecursion}
-use Rattle.frame_streams.specs.Reading.{Reads, contents_of}
-use Rattle.frame_streams.specs.Writing.{Wrote, bytes_of}
-use Rattle.frame_streams.specs.declared.reader.FrameReader.{FrameReader}
-use Rattle.frame_streams.specs.declared.reader.StreamEnd.{StreamEnd}
-use Rattle.frame_streams.specs.declared.writer.FrameWriter.{FrameWriter}
+use Rattle.frame_streams.specs.Reading.{contents_of}
+use Rattle.frame_streams.specs.Writing.{bytes_of}
 use Rattle.host_frames.proofs.StreamLaws.{framed_front}
 use Rattle.host_frames.specs.Frames.{body_of, framed}
 use Rattle.host_frames.specs.Stream.{stream_of}
 use Rattle.pair_protocol.proofs.Traces.Lists.{among-prefix}
 use Rattle.pair_protocol.specs.Faithful.{IsPrefix}
 use Rattle.pair_protocol.specs.Lawful.{Among}
-use Rattle.process_runs.specs.Processes.{Delivered}
 use Rattle.process_runs.specs.Streams.{IsFrame, StreamsDeliver}
 
 first_frames : (bodies : List (List ℕ)) (frames : List (Vec ℕ)) (rest : List ℕ) → AllByRecursion IsFrame frames →

@@ -1,6 +1,6 @@
 -- Why a stream delivers only what was written to it: the thread that writes it and the thread that reads it alter nothing, if the
 -- bytes that one took are the first ones that the other has written.
-use Rattle.std.specs.Prelude.{◌≡◌, ℕ, List, [], ◌++◌, map, Option}
+use Rattle.std.specs.Prelude.{◌≡◌, ℕ, List, [], map, Option}
 use Rattle.std.specs.Global.{Vec}
 use Rattle.std.specs.List.{AllByRecursion}
 use Rattle.frame_streams.specs.Reading.{Reads, contents_of}
