@@ -4,6 +4,7 @@ use Rattle.std.specs.Prelude.{◌==◌, slice_get, slice_set}
 use Rattle.std.proofs.lemmas.List.{length-set}
 use Rattle.std.proofs.lemmas.Option.{slice_get_past}
 use Rattle.guest_lockstep.specs.Machine.{Machine}
+use Rattle.host_calls.proofs.Runs.{run_both}
 use Rattle.host_law.proofs.Interleaving.{other-acts, own-acts}
 use Rattle.host_law.specs.Fleet.{Causal, Deed, Fleet, Happened, OfHost, OfOutside, act_of, acts_of, outside_acts, sent_by}
 use Rattle.host_law.specs.Frame.{Act, Came, Frame, sent, taken}
@@ -11,7 +12,6 @@ use Rattle.host_law.specs.Host as host
 use Rattle.host_law.specs.Host.{HostRun}
 use Rattle.host_law.specs.Outside as outside
 use Rattle.host_law.specs.Outside.{Outside, OutsideRun}
-use Rattle.host_node.proofs.Going.{run_both}
 use Rattle.pair_protocol.proofs.Traces.Lists.{among-left, get_set, get_set_other, same_or_not, same_some}
 use Rattle.pair_protocol.specs.Copying.{Copying}
 use Rattle.pair_protocol.specs.Node.{Node}
