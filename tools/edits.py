@@ -189,7 +189,7 @@ def over_copy(words, crate, below, room):
     os.makedirs(os.path.dirname(rlib))
     build = [f"{toolchain()}/bin/rattle", "build", *below.words(1), "--statements", "-o", rlib]
     ran = subprocess.run(build, cwd=room, stdin=subprocess.DEVNULL, stdout=subprocess.PIPE, stderr=subprocess.STDOUT)
-    if ran.returncode:
+    if ran.returncode or not os.path.exists(rlib):
         raise ValueError(f"{below.name} is not proved with it")
     old = os.path.dirname(below.rlib)
     return [it.replace(below.rlib, rlib).replace(f"dependency={old}", f"dependency={os.path.dirname(rlib)}") for it in words]

@@ -15,6 +15,7 @@ use console_terminal::TerminalKeys;
 use i8080_words::R;
 use pair_lines::{Keyboard, Screen, Shown, Stroke};
 use rtrb::{Consumer, Producer, RingBuffer};
+use script_language::{Line, Script};
 use shared_disk::MemoryStore;
 use std::alloc::Global;
 use std::io::{IsTerminal, Read, Write};
@@ -64,6 +65,8 @@ pub fn run_outside<
     )?;
     let opening = Arc::new(alloc, opening)?;
     let (mut session, ends) = session_of(alloc, &input, notes)?;
+    let Input { script, .. } = input;
+    let Script { lines, .. } = script;
     let mine = Arc::new(alloc, Parker::new())?;
     let pipes = Pipes {
         files,
@@ -77,7 +80,7 @@ pub fn run_outside<
         order.quit,
         session,
         ends,
-        input,
+        lines,
         (reader, writer),
         mine,
     )
@@ -132,7 +135,7 @@ fn run_session<
     quit: u8,
     mut session: Session<MemoryStore, N>,
     ends: Ends,
-    input: Input,
+    lines: Vec<Line>,
     streams: (R, W),
     mine: Arc<Parker>,
 ) -> Result<HostsEnd, Failure>
@@ -153,7 +156,6 @@ fn run_session<
         quits,
     };
     let wake = Arc::try_clone(&mine)?;
-    let lines = input.script.lines;
     let hearing = thread::spawn(&rt, move || read_keys(&rt, &mut keys, &lines, &wake));
     if hearing.is_err() {
         return Err(Failure::OutOfMemory);

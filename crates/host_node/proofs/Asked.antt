@@ -101,6 +101,7 @@ module _ {B S : Type 0} {H : Type 0} (state : B → S) (M : Machine S) (copied :
     came = ap (λ p. p.came) mail ∙ sym (append-nil old.mail.came);
     gone = ap (λ p. p.gone) mail ∙ sym (append-nil old.mail.gone);
     stays = λ joined. (subst (λ h. HasJoined h) (sym is) tt, number.number);
+    joins = λ joined. inl (subst (λ h. HasJoined h) (sym was) tt);
     drives = number.drives;
     runs = λ C me copies numbered x hosted frames brought.
         (let drives = old.drives in
@@ -124,6 +125,7 @@ module _ {B S : Type 0} {H : Type 0} (state : B → S) (M : Machine S) (copied :
     came = ap (λ p. p.came) mail ∙ sym (append-nil old.mail.came);
     gone = ap (λ p. p.gone) mail ∙ sym (append-nil old.mail.gone);
     stays = λ joined. (subst (λ h. HasJoined h) (sym is) tt, number.number);
+    joins = λ joined. inl (subst (λ h. HasJoined h) (sym was) tt);
     drives = number.drives;
     runs = λ C me copies numbered x hosted frames brought.
         (let drives = old.drives in

@@ -1,5 +1,5 @@
 -- How a host goes on when its node begins a generation, and when it joins one.
-use Rattle.std.proofs.Common.{ℕ, ◌≡◌, ◌≢◌, suc, List, [], ◌∷◌, append-nil, refl, sym, ap, ◌∙◌, subst}
+use Rattle.std.proofs.Common.{ℕ, ◌≡◌, ◌≢◌, suc, List, [], ◌∷◌, append-nil, refl, sym, ap, ◌∙◌, subst, inl, inr}
 use Rattle.std.specs.Prelude.{Ok}
 use Rattle.clone_state.specs.Copies.{CopiesAs}
 use Rattle.clone_state.specs.Parts.{part_count}
@@ -75,6 +75,7 @@ module _ {B S : Type 0} {H : Type 0} (state : B → S) (M : Machine S) (copied :
         came = came ∙ sym (append-nil old.mail.came);
         gone = went.gone;
         stays = λ joined. (subst (λ h. HasJoined h) (sym is) tt, same.number);
+        joins = λ joined. inl (subst (λ h. HasJoined h) (sym was) tt);
         drives = same.drives;
         runs = λ C me copies numbered x hosted frames brought.
             (let drives = old.drives in
@@ -122,6 +123,13 @@ module _ {B S : Type 0} {H : Type 0} (state : B → S) (M : Machine S) (copied :
     came = ap (λ p. p.came) mail ∙ sym (append-nil old.mail.came);
     gone = ap (λ p. p.gone) mail ∙ sym (append-nil old.mail.gone);
     stays = λ joined. absurd (subst (λ h. HasJoined h) was joined);
+    joins = λ joined. inr (record {
+      place = place;
+      drives = old.drives;
+      count = count;
+      from = subst (λ k. IsFrom new.mail.came (Tells (notice.Join k place old.drives count))) (sym number)
+          (subst (λ c. IsFrom c (Tells (notice.Join generation place old.drives count))) (sym (ap (λ p. p.came) mail)) from);
+    });
     drives = drives;
     runs = λ C me copies numbered x hosted frames brought.
         (let spare = subst (λ h. HasNode state M C old.drives old.number me h x) was hosted in

@@ -1,5 +1,5 @@
 -- One call of a host's node, with the frame that goes with it, is how the host goes on.
-use Rattle.std.proofs.Common.{ℕ, ◌≡◌, ◌≢◌, List, [], ◌∷◌, ◌++◌, append-nil, sym, ◌∙◌, subst}
+use Rattle.std.proofs.Common.{ℕ, ◌≡◌, ◌≢◌, List, [], ◌∷◌, ◌++◌, append-nil, sym, ◌∙◌, subst, inl}
 use Rattle.clone_state.specs.Copies.{CopiesAs}
 use Rattle.ft_node.specs.AnyNode.{IsNode}
 use Rattle.ft_node.specs.declared.node.Node as code
@@ -56,6 +56,7 @@ module _ {B S : Type 0} {H : Type 0} (state : B → S) (M : Machine S) (copied :
     came = came;
     gone = gone;
     stays = λ joined. (subst (λ h. HasJoined h) (sym is) tt, number.number);
+    joins = λ joined. inl (subst (λ h. HasJoined h) (sym was) tt);
     drives = number.drives;
     runs = λ C me copies numbered x hosted frames brought.
         (let drives = old.drives in
@@ -149,6 +150,7 @@ module _ {B S : Type 0} {H : Type 0} (state : B → S) (M : Machine S) (copied :
     came = came ∙ sym (append-nil old.mail.came);
     gone = went.gone;
     stays = λ joined. (subst (λ h. HasJoined h) (sym same) joined, number.number);
+    joins = λ joined. inl (subst (λ h. HasJoined h) same joined);
     drives = number.drives;
     runs = λ C me copies numbered x hosted frames brought. record {
       y = x;

@@ -79,6 +79,7 @@ module _ {B S : Type 0} {H : Type 0} (state : B → S) (M : Machine S) (copied :
     came = came;
     gone = gone ∙ sym (append-nil old.mail.gone);
     stays = λ joined. (subst (λ n. HasJoined n) (sym node) joined, number.number);
+    joins = λ joined. inl (subst (λ n. HasJoined n) node joined);
     drives = number.drives;
     runs = λ C me copies is x hosted frames brought. record {
       y = x;

@@ -1,5 +1,5 @@
 -- How a host goes on when it reports: it tells the terminals how many keys are covered.
-use Rattle.std.proofs.Common.{Bool, [], ap, append-nil, arith, cond, eqb, false, refl, subst, sym, true, ℕ, ◌++◌, ◌<◌, ◌∙◌, ◌∷◌, ◌≡◌, ◌≢◌}
+use Rattle.std.proofs.Common.{Bool, [], ap, append-nil, arith, cond, eqb, false, refl, subst, sym, true, ℕ, ◌++◌, ◌<◌, ◌∙◌, ◌∷◌, ◌≡◌, ◌≢◌, inl}
 use Rattle.std.specs.Prelude.{slice_index}
 use Rattle.ft_node.specs.AnyNode.{IsNode}
 use Rattle.ft_node.specs.declared.node.Node as code
@@ -70,6 +70,7 @@ module _ {B S : Type 0} {H : Type 0} (state : B → S) (M : Machine S) (copied :
     came = came ∙ sym (append-nil old.mail.came);
     gone = went.gone;
     stays = λ joined. (subst (λ h. HasJoined h) (sym is) joined, same.number);
+    joins = λ joined. inl (subst (λ h. HasJoined h) (sym was) tt);
     drives = same.drives;
     runs = λ C me copies numbered x hosted frames brought.
         (let h = subst (λ h. HasNode state M C old.drives old.number me h x) was hosted in

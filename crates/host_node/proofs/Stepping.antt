@@ -1,5 +1,5 @@
 -- How a host goes on by each call of its node that no frame goes with, and when its machine runs ahead.
-use Rattle.std.proofs.Common.{ℕ, ◌≡◌, [], ◌∷◌, append-nil, sym, ap, subst, ◌∙◌}
+use Rattle.std.proofs.Common.{ℕ, ◌≡◌, [], ◌∷◌, append-nil, sym, ap, subst, ◌∙◌, inl}
 use Rattle.std.specs.Prelude.{OnErr, Result, Ok, Err, min}
 use Rattle.ft_node.specs.Ahead.{RanAhead, RunsAhead, steps_ahead}
 use Rattle.ft_node.specs.AnyNode.{IsNode}
@@ -84,6 +84,7 @@ module _ {B S : Type 0} {H : Type 0} (state : B → S) (M : Machine S) (copied :
     came = ap (λ p. p.came) mail ∙ sym (append-nil old.mail.came);
     gone = ap (λ p. p.gone) mail ∙ sym (append-nil old.mail.gone);
     stays = λ joined. (subst (λ h. HasJoined h) (sym is) tt, number.number);
+    joins = λ joined. inl (subst (λ h. HasJoined h) (sym was) tt);
     drives = number.drives;
     runs = λ C me copies numbered x hosted frames brought.
         (let drives = old.drives in

@@ -1,13 +1,15 @@
 -- What a host does: its node makes a run of the law's host, which takes frames that came to it, and sends what goes from it.
-use Rattle.std.specs.Prelude.{◌≡◌, ℕ, List, [], ◌∷◌, ◌++◌}
+use Rattle.std.specs.Prelude.{◌≡◌, ◌⊎◌, ℕ, List, [], ◌∷◌, ◌++◌}
 use Rattle.clone_state.specs.Copies.{CopiesAs}
 use Rattle.guest_lockstep.specs.Machine.{Machine}
 use Rattle.guest_parts.specs.Guest.{Guest}
-use Rattle.host_frames.specs.Frames.{IsSpelling, Said}
+use Rattle.host_frames.specs.Frames.{IsSpelling, Said, Tells}
 use Rattle.host_frames.specs.Meaning.{Brings, Speaks}
+use Rattle.host_frames.specs.declared.frame.Notice.TheVariants.{Join}
 use Rattle.host_law.specs.Frame.{Act, Came, Frame, sent, taken}
 use Rattle.host_law.specs.Host.{HostRun}
 use Rattle.host_node.specs.Hosts.{HasJoined, IsHosted, IsNumber}
+use Rattle.host_node.specs.Mail.{IsFrom}
 use Rattle.host_node.specs.declared.host.HostNode.{HostNode}
 use Rattle.pair_protocol.specs.Copying.{Copying}
 use Rattle.pair_protocol.specs.Lawful.{Among}
@@ -39,9 +41,16 @@ pub record RunsTo {B S : Type 0} {H : Type 0} (state : B → S) (M : Machine S) 
   pub ran : Ran M C drives me x frames said y
   pub is : IsHosted state M C drives me new y
 
+-- a body came that asks the host of this number to join
+pub record IsAsked (came : List (List ℕ)) (number : ℕ) : Type 0 where
+  pub place : ℕ
+  pub drives : ℕ
+  pub count : ℕ
+  pub from : IsFrom came (Tells (Join number place drives count))
+
 -- One move of a host: bodies came, and then frames went, and whatever node of the law the host has, this node has made a run
 -- that leads to the one that it has then. It holds of whatever list of frames has what the bodies mean that ever came, and of
--- the number that the host has then.
+-- the number that the host has then. A spare gets its number from a body that came, and keeps it.
 pub record Moves {B S : Type 0} {H : Type 0} (state : B → S) (M : Machine S) (copied : B → Guest) (old new : HostNode B H)
     : Type 0 where
   pub heard : List (List ℕ)
@@ -49,6 +58,7 @@ pub record Moves {B S : Type 0} {H : Type 0} (state : B → S) (M : Machine S) (
   pub came : new.mail.came ≡ old.mail.came ++ heard
   pub gone : new.mail.gone ≡ old.mail.gone ++ said
   pub stays : HasJoined old.node → HasJoined new.node × (new.number ≡ old.number)
+  pub joins : HasJoined new.node → HasJoined old.node ⊎ IsAsked new.mail.came new.number
   pub drives : new.drives ≡ old.drives
   pub runs : (C : Copying S) (me : ℕ) → CopiesAs state copied old.drives C.parts C.part_count C.assemble →
       IsNumber me new → (x : Node S) → IsHosted state M C old.drives me old x → (frames : List Frame) →

@@ -1,5 +1,5 @@
 -- One call of the switch: what the devices did, and what was pushed, are all that it did.
-use Rattle.std.proofs.Common.{ℕ, ◌≡◌, ◌<◌, Bool, true, false, Option, Some, None, Ok, Err, List, [], ◌∷◌, ◌++◌, append-nil, append_assoc, refl, sym, ap, ◌∙◌, subst, inl, inr, cond, ne_eqb, arith}
+use Rattle.std.proofs.Common.{ℕ, ◌≡◌, ◌<◌, Bool, true, false, Option, Some, None, Ok, Err, List, [], ◌∷◌, ◌++◌, append-nil, append_assoc, refl, sym, ap, ◌∙◌, subst, inl, inr, cond, ltb-true, ne_eqb, arith}
 use Rattle.std.specs.Prelude.{◌==◌, IsTrue, Result, drop, is_none, length, slice_set, take, nat_lt, slice_get}
 use Rattle.std.proofs.lemmas.Bool.{eqb-false}
 use Rattle.std.proofs.lemmas.List.{set-get_or}
@@ -369,6 +369,7 @@ begins_so place spare generation true a b admits low posts = record {
   to = place;
   bytes = posts.0;
   spelled = posts.1;
+  counted = ltb-true generation b.devices.hosts low;
   meets = record {
     read = [];
     written = law.MayBegin generation ∷ [];

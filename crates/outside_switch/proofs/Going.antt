@@ -7,7 +7,7 @@ use Rattle.outside_switch.proofs.Acting.{nothing_met}
 use Rattle.outside_switch.specs.declared.line.HostLine.{HostLine}
 use Rattle.std.specs.Prelude.{List, [], Option, None, Some, drop, length, take}
 use Rattle.outside_switch.specs.Goes as goes
-use Rattle.outside_switch.specs.Goes.{Begins, Goes, HearsBody, HearsFrame, Lines, NextSo, Takes}
+use Rattle.outside_switch.specs.Goes.{Begins, Goes, HearsBody, HearsFrame, Lines, Moves, NextSo, Takes}
 use Rattle.outside_switch.specs.Lines.{HearsAt, IsClosed, IsNamed, LinesGo, MayBeGiven}
 use Rattle.outside_switch.specs.Meets.{Meets, Seen}
 
@@ -16,28 +16,25 @@ nothing_yet a = goes.Rests
 
 pub and_then : (a b c : Seen) → Goes a b → Goes b c → Goes a c
 and_then a b c p goes.Rests = p
-and_then a b c p (goes.Acts {old = old} new before meets) = goes.Acts new (and_then a b old p before) meets
-and_then a b c p (goes.Hears {old = old} taken new place body said before takes is meets) =
-    goes.Hears taken new place body said (and_then a b old p before) takes is meets
-and_then a b c p (goes.Drops {old = old} new place body before takes) =
-    goes.Drops new place body (and_then a b old p before) takes
-and_then a b c p (goes.Closes {old = old} new place before closes) = goes.Closes new place (and_then a b old p before) closes
-and_then a b c p (goes.Names {old = old} begun new place generation before may begins names) =
-    goes.Names begun new place generation (and_then a b old p before) may begins names
+and_then a b c p (goes.Next {mid = mid} new q move) = goes.Next new (and_then a b mid p q) move
+
+-- one move
+once : (a b : Seen) → Moves a b → Goes a b
+once a b move = goes.Next b goes.Rests move
 
 pub acts : (a b : Seen) → Meets None a b → Goes a b
-acts a b meets = goes.Acts b goes.Rests meets
+acts a b meets = once a b (goes.Acts meets)
 
 pub closes : (a b : Seen) (place : ℕ) → Lines place IsClosed a b → Goes a b
-closes a b place is = goes.Closes b place goes.Rests is
+closes a b place is = once a b (goes.Closes place is)
 
 pub hears : (a taken b : Seen) (place : ℕ) (body : Vec ℕ) (said : Said) → Takes place body a taken → IsBodyOf said body.items →
     HearsFrame place said taken b → Goes a b
 hears a taken b place body said takes is frame =
-    and_then a frame.met b (goes.Hears taken frame.met place body said goes.Rests takes is frame.meets) frame.goes
+    and_then a frame.met b (once a frame.met (goes.Hears taken place body said takes is frame.meets)) frame.goes
 
 pub drops : (a b : Seen) (place : ℕ) (body : Vec ℕ) → Takes place body a b → Goes a b
-drops a b place body takes = goes.Drops b place body goes.Rests takes
+drops a b place body takes = once a b (goes.Drops place body takes)
 
 pub heard_body : (a taken b : Seen) (place : ℕ) (body : Vec ℕ) → Takes place body a taken →
     HearsBody place body.items taken b → Goes a b
@@ -53,7 +50,7 @@ next_so place (Some body) a b lines devices = record { lines = lines; devices = 
 
 pub names : (a begun b : Seen) (place generation : ℕ) → MayBeGiven generation place a.lines →
     Begins place generation a begun → Lines place (IsNamed generation) begun b → Goes a b
-names a begun b place generation may begins is = goes.Names begun b place generation goes.Rests may begins is
+names a begun b place generation may begins is = once a b (goes.Names begun place generation may begins is)
 
 -- the lines that were lent are put back
 pub put_back : (n : ℕ) (lines items : List HostLine) → n ≡ length lines →

@@ -1,5 +1,5 @@
 -- What calls of the switch come to, one after another.
-use Rattle.std.specs.Prelude.{◌≡◌, ◌⊎◌, ℕ, slice_get, nat_lt, Bool, true, false, if◌then◌else◌, List, [], ◌∷◌, ◌++◌, length, Option, Some, None, Result, Ok, Err}
+use Rattle.std.specs.Prelude.{◌≡◌, ◌⊎◌, ℕ, ◌<◌, slice_get, nat_lt, Bool, true, false, if◌then◌else◌, List, [], ◌∷◌, ◌++◌, length, Option, Some, None, Result, Ok, Err}
 use Rattle.std.specs.Global.{Vec}
 use Rattle.host_frames.specs.Frames.{IsBodyOf, IsSpelling, Said, Tells, Transfers}
 use Rattle.host_frames.specs.declared.frame.Notice.TheVariants.{Begin}
@@ -22,11 +22,12 @@ pub record Takes (place : ℕ) (body : Vec ℕ) (old new : Seen) : Type 0 where
   pub lines : OneLine place (LineGoes (body ∷ []) []) old.lines new.lines
   pub devices : new.devices ≡ old.devices
 
--- a host was told to begin a generation with that one at a place
+-- a host was told to begin a generation with that one at a place, once the host of the generation is counted
 pub record Begins (place generation : ℕ) (old new : Seen) : Type 0 where
   pub to : ℕ
   pub bytes : Vec ℕ
   pub spelled : IsSpelling (Tells (Begin generation place)) bytes.items
+  pub counted : generation < new.devices.hosts
   pub meets : Meets None old new
   pub pushed : meets.pushed ≡ record { place = to; bytes = bytes } ∷ []
 
@@ -35,22 +36,25 @@ abbrev pub BeginsSo : ℕ → ℕ → Bool → Seen → Seen → Type 0
 BeginsSo place generation true old new = Begins place generation old new
 BeginsSo place generation false old new = Meets None old new
 
--- how it went on from its first state
+-- one move
+pub data Moves (old new : Seen) : Type 0 where
+  -- nobody said anything
+  Acts : Meets None old new → Moves old new
+  -- what a host said was met
+  Hears : (taken : Seen) (place : ℕ) (body : Vec ℕ) (said : Said) → Takes place body old taken →
+      IsBodyOf said body.items → Meets (Some (record { place = place; said = said })) taken new → Moves old new
+  -- what came from a host was dropped
+  Drops : (place : ℕ) (body : Vec ℕ) → Takes place body old new → Moves old new
+  -- a host is cut off
+  Closes : (place : ℕ) → Lines place IsClosed old new → Moves old new
+  -- a host is this one of the law from now on: it was given to a generation, and has its number
+  Names : (begun : Seen) (place generation : ℕ) → MayBeGiven generation place old.lines →
+      Begins place generation old begun → Lines place (IsNamed generation) begun new → Moves old new
+
+-- how it went on from its first state, move by move
 pub data Goes (first : Seen) : Seen → Type 0 where
   Rests : Goes first first
-  -- nobody said anything
-  Acts : {old : Seen} (new : Seen) → Goes first old → Meets None old new → Goes first new
-  -- what a host said was met
-  Hears : {old : Seen} (taken new : Seen) (place : ℕ) (body : Vec ℕ) (said : Said) → Goes first old →
-      Takes place body old taken → IsBodyOf said body.items →
-      Meets (Some (record { place = place; said = said })) taken new → Goes first new
-  -- what came from a host was dropped
-  Drops : {old : Seen} (new : Seen) (place : ℕ) (body : Vec ℕ) → Goes first old → Takes place body old new → Goes first new
-  -- a host is cut off
-  Closes : {old : Seen} (new : Seen) (place : ℕ) → Goes first old → Lines place IsClosed old new → Goes first new
-  -- a host is another one of the law from now on: it was given to a generation, and has its number
-  Names : {old : Seen} (begun new : Seen) (place generation : ℕ) → Goes first old →
-      MayBeGiven generation place old.lines → Begins place generation old begun → Lines place (IsNamed generation) begun new → Goes first new
+  Next : {mid : Seen} (new : Seen) → Goes first mid → Moves mid new → Goes first new
 
 -- what a host said was met, and then it may be cut off
 pub record HearsFrame (place : ℕ) (said : Said) (old new : Seen) : Type 0 where

@@ -1,0 +1,10 @@
+pub mod Parts
+pub mod Fleets
+pub mod Speaking
+pub mod Standing
+pub mod Moving
+pub mod Numbering
+pub mod Booting
+pub mod Running
+pub mod Ending
+pub mod Streams

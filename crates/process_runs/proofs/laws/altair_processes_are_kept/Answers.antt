@@ -1,0 +1,11 @@
+-- The law of any lawful machine, for the Altair and its image.
+use Rattle.altair_copies.specs.Copies.{image_copy}
+use Rattle.guest_board.specs.Guest.{altair}
+use Rattle.process_runs.proofs.Ending.{are_kept, copied_so}
+use Rattle.process_runs.proofs.laws.altair_processes_are_kept.Goals as goal
+
+pub returns : goal.returns
+returns g c guest setup sectors is first last booted way =
+    are_kept guest (altair setup sectors) guest (image_copy setup.drives) setup.drives
+    (c.altairs_are_lawful.ensures setup sectors) (c.the_image_copies.ensures setup sectors is).0
+    (copied_so guest setup.drives) first last booted way

@@ -1,0 +1,5 @@
+pub mod Processes
+pub mod Runs
+pub mod Laws
+pub mod Altairs
+pub mod Streams

@@ -1,0 +1,26 @@
+-- Why a stream delivers only what was written to it: the thread that writes it and the thread that reads it alter nothing, if the
+-- bytes that one took are the first ones that the other has written.
+use Rattle.std.specs.Prelude.{◌≡◌, ℕ, List, [], ◌++◌, map, Option}
+use Rattle.std.specs.Global.{Vec}
+use Rattle.std.specs.List.{AllByRecursion}
+use Rattle.frame_streams.specs.Reading.{Reads, contents_of}
+use Rattle.frame_streams.specs.Writing.{Wrote, bytes_of}
+use Rattle.frame_streams.specs.declared.reader.FrameReader.{FrameReader}
+use Rattle.frame_streams.specs.declared.reader.StreamEnd.{StreamEnd}
+use Rattle.frame_streams.specs.declared.writer.FrameWriter.{FrameWriter}
+use Rattle.host_frames.specs.Frames.{IsSpelling, Said, framed}
+use Rattle.pair_protocol.specs.Faithful.{IsPrefix}
+use Rattle.process_runs.specs.Processes.{Delivered}
+
+-- the frame spells something
+abbrev pub IsFrame : Vec ℕ → Type 0
+IsFrame bytes = (said : Said) × IsSpelling said bytes.items
+
+-- the bodies that were handed on are those of the first frames that were written, each once and in order
+abbrev pub StreamsDeliver : (R W : Type 0) → Type 0
+StreamsDeliver R W =
+    (left : R → Option (List ℕ)) (contents : W → Option (List ℕ)) (end : Option StreamEnd) (a b : FrameReader R)
+    (c d : FrameWriter W) (reads : Reads left end a b) (wrote : Wrote contents c d) → a.pending ≡ [] →
+    AllByRecursion IsFrame wrote.frames → IsPrefix reads.taken (bytes_of wrote.frames) →
+    IsPrefix (map framed (contents_of reads.bodies)) (contents_of wrote.frames)
+    × Delivered (contents_of reads.bodies) (contents_of wrote.frames)
