@@ -17,7 +17,10 @@ TOP = pathlib.Path(__file__).resolve().parent.parent
 PAGE = TOP / "docs/COMMANDS.md"
 
 # What ./pair itself tells the program; nobody else has to.
-INNER = {"--images", "--saved", "--before", "--mark", "--apart", "--next", "--next-at"}
+INNER = {"--images", "--saved", "--before", "--mark", "--apart", "--next", "--next-at", "--folder", "--places"}
+
+# The most words of a cell.
+MOST_WORDS = 24
 
 # An option in a help text: its name, its value, and what it does.
 OPTION = re.compile(r" +(--[a-z-]+)(?: <?([^\s>]+)>?)? {2,}(.*)")
@@ -51,7 +54,9 @@ def commands() -> list[str]:
 
 
 def cell(text: str) -> str:
-    return text.replace("\\", r"\\").replace("|", r"\|")
+    """A text as a cell has it; of a long one, what comes before its last semicolon."""
+    before, _, _ = text.rpartition("; ")
+    return (before if before and len(text.split()) > MOST_WORDS else text).replace("\\", r"\\").replace("|", r"\|")
 
 
 def option_of(line: str) -> Option | None:
