@@ -7,7 +7,7 @@ use Rattle.command_host.specs.declared.screen.ScreenWriter.{ScreenWriter}
 use Rattle.pair_lines.specs.declared.screen.Shown.{Shown}
 use Rattle.rtrb.specs.Ring.{SameConsumer, received}
 
-codes_of : List Shown → List ℕ
+abbrev codes_of : List Shown → List ℕ
 codes_of bytes = map (λ (s : Shown). s.byte) bytes
 
 codes_both : (xs ys : List Shown) → codes_of (xs ++ ys) ≡ codes_of xs ++ codes_of ys

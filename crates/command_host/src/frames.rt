@@ -1,4 +1,6 @@
 //! The threads of one stream of frames, and the rings that lead to them.
+ghost use Rattle.std.specs.Prelude.{◌≡◌, [], IfOk};
+ghost use Rattle.rtrb.specs.Ring.{received, sent};
 
 use frame_streams::{FrameReader, FrameWriter, read_frames, write_frames};
 use host_frames::FrameBuffer;
@@ -18,7 +20,9 @@ const FRAMES: usize = 1_024;
 pub(crate) fn read_from<
     H: Threads + Clock + Copy + Drop + Send + Sync + 'static,
     S: Read + Drop + Send + 'static,
->(rt: H, alloc: Global, source: S, wake: &Arc<Parker>) -> R<Consumer<Vec<u8>>> {
+>(rt: H, alloc: Global, source: S, wake: &Arc<Parker>) -> R<Consumer<Vec<u8>>>
+    ensures { IfOk result (λ bodies. received bodies ≡ []) }
+{
     let (to_me, from) = RingBuffer::new(alloc, FRAMES)?;
     let wake = Arc::try_clone(wake)?;
     let pending = FrameBuffer::new(alloc)?;
@@ -50,7 +54,9 @@ pub(crate) struct Writing {
 pub(crate) fn write_to<
     H: Threads + Wait + Copy + Drop + Send + Sync + 'static,
     W: Write + Drop + Send + 'static,
->(rt: H, alloc: Global, sink: W) -> R<Writing> {
+>(rt: H, alloc: Global, sink: W) -> R<Writing>
+    ensures { IfOk result (λ writing. sent writing.frames ≡ []) }
+{
     let (frames, from_me) = RingBuffer::new(alloc, FRAMES)?;
     let wake = Arc::new(alloc, Parker::new())?;
     let theirs = Arc::try_clone(&wake)?;
