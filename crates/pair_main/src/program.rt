@@ -121,7 +121,8 @@ fn obey<
         ),
         Request::Help(text) => print_help(&text, &mut streams.writer),
         // A process of a pair runs over other streams.
-        Request::Host(_) | Request::Hosts(_) => Ok(()),
+        Request::Host(_order) => Ok(()),
+        Request::Hosts(_order) => Ok(()),
     };
     (streams, ended)
 }
