@@ -1,5 +1,6 @@
 //! What a host's node does in a turn, by its role.
 ghost use Rattle.host_node.specs.Goes.{Goes};
+ghost use Rattle.std.specs.Prelude.{◌≡◌};
 
 use crate::pace::{AGAIN, End, WRITES};
 use crate::serving::Serving;
@@ -8,10 +9,13 @@ use disk_dcdd::SECTORS;
 use event_callbacks::OpId;
 use guest_lockstep::{ReplayEnd, StopReason};
 use i8080_words::{Fault, R};
-use key_room::KeyRoom;
+use key_room::{CompletedWrites, KeyRoom};
 
 // How many steps a guest makes before it is offered its next key, unless it idles.
 const BETWEEN_KEYS: u64 = 300;
+
+// How many writes are outstanding at most.
+const OUTSTANDING: u64 = 8;
 
 // How many entries are sent in one turn at most, and how many parts are under way.
 const ENTRIES: u64 = 256;
@@ -26,7 +30,7 @@ const FRESHEN: u64 = 2_000;
 
 const PAGES: u64 = 8;
 
-impl<B: Copies<H> + KeyRoom + Drop, H: Drop> Serving<B, H> {
+impl<B: Copies<H> + CompletedWrites + KeyRoom + Drop, H: Drop> Serving<B, H> {
     // A primary runs its guest, and sends its log; before its backup is whole, the image.
     #[tactic(auto, using(crate::proofs::Going::stays, crate::proofs::Going::and_then))]
     pub(crate) fn serve_as_primary(&mut self) -> R<bool>
@@ -209,18 +213,29 @@ impl<B: Copies<H> + KeyRoom + Drop, H: Drop> Serving<B, H> {
         }
     }
 
-    // Releases writes.
+    // Releases writes, from the first on that may be outstanding.
     #[tactic(auto, using(crate::proofs::Going::stays, crate::proofs::Going::and_then))]
     fn release_writes(&mut self) -> R<()>
         ensures { Goes B.state B.machine B.copied self.old.host self.new.host }
     {
-        let from = self.pace.next_write;
+        let from = self.first_write();
         for ahead in 0..WRITES {
             if !self.release_write(from.saturating_add(ahead))? {
                 break;
             }
         }
         Ok(())
+    }
+
+    // The number of the next write to be looked at. Where it is not known, it is one that is outstanding with the last that is done,
+    // at the earliest.
+    fn first_write(&mut self) -> u64
+        ensures { self.new.host ≡ self.old.host }
+    {
+        if self.pace.next_write == 0 {
+            self.pace.next_write = self.host.last_write().saturating_sub(OUTSTANDING).max(1);
+        }
+        self.pace.next_write
     }
 
     // Releases the write of this number, if it is outstanding. Returns false if no later one can be released.

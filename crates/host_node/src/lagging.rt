@@ -6,10 +6,10 @@ use crate::serving::Serving;
 use clone_state::Copies;
 use guest_lockstep::StopReason;
 use i8080_words::{Fault, R};
-use key_room::KeyRoom;
+use key_room::{CompletedWrites, KeyRoom};
 use pair_events::Role;
 
-impl<B: Copies<H> + KeyRoom + Drop, H: Drop> Serving<B, H> {
+impl<B: Copies<H> + CompletedWrites + KeyRoom + Drop, H: Drop> Serving<B, H> {
     // Whether a primary's guest waits for the backup. None waits for one that is not whole yet.
     pub(crate) fn is_held_back(&self) -> bool {
         let has_backup = matches!(self.host.role(), Some(Role::Primary)) && !self.pace.is_copying;

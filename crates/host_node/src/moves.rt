@@ -6,7 +6,7 @@ use clone_state::Copies;
 use ft_node::{Drained, Lead, Ran};
 use guest_lockstep::Stopped;
 use i8080_words::{Fault, R};
-use key_room::KeyRoom;
+use key_room::{CompletedWrites, KeyRoom};
 use replayer::Replayed;
 
 impl<B: Copies<H> + Drop, H: Drop> HostNode<B, H> {
@@ -94,7 +94,7 @@ impl<B: Copies<H> + Drop, H: Drop> HostNode<B, H> {
     }
 }
 
-impl<B: Copies<H> + KeyRoom + Drop, H: Drop> HostNode<B, H> {
+impl<B: Copies<H> + CompletedWrites + KeyRoom + Drop, H: Drop> HostNode<B, H> {
     /// Whether a key that came to this port now would be kept by the guest of its node; false if it has none.
     pub fn keeps_key(&self, port: u8) -> bool {
         match &self.node {
@@ -105,4 +105,24 @@ impl<B: Copies<H> + KeyRoom + Drop, H: Drop> HostNode<B, H> {
             _ => false,
         }
     }
+
+    /// The greatest number of a write that the guest of its node knows to be done; 0 if none is, or if it has no guest.
+    pub fn last_write(&self) -> u64 {
+        match &self.node {
+            Hosted::Node(node) => match node.guest() {
+                Some(guest) => greatest(guest.completed()),
+                None => 0,
+            },
+            _ => 0,
+        }
+    }
+}
+
+// The greatest of some numbers; 0 if there are none.
+fn greatest(numbers: &[u64]) -> u64 {
+    let mut found = 0;
+    for number in numbers {
+        found = found.max(*number);
+    }
+    found
 }

@@ -72,7 +72,7 @@ pub struct Pace {
     // The count at which a key was last taken, and whether the guest waits for an input.
     pub key_at: u64,
     pub is_idle: bool,
-    // The next byte of each port and the next write to be released, and since when.
+    // The next byte of each port and the next write to be released, 0 if that is not known, and since when.
     pub next_byte: [u64; PORTS],
     pub next_write: u64,
     pub released_at: u64,
@@ -109,7 +109,7 @@ impl Pace {
             key_at: 0,
             is_idle: false,
             next_byte: [0; PORTS],
-            next_write: 1,
+            next_write: 0,
             released_at: now,
             next_sector: 0,
             asked_disk_at: None,
@@ -137,7 +137,7 @@ impl Pace {
         }
         self.released_at = self.now;
         self.next_byte = [0; PORTS];
-        self.next_write = self.next_write.saturating_sub(WRITES).max(1);
+        self.next_write = 0;
     }
 
     /// The next byte of a port to be released.
@@ -225,7 +225,7 @@ impl Pace {
         self.silent = 0;
         self.is_gone = false;
         self.next_byte = [0; PORTS];
-        self.next_write = 1;
+        self.next_write = 0;
         self.asked_disk_at = None;
     }
 

@@ -5,7 +5,7 @@ use crate::host::HostNode;
 use crate::pace::{End, Pace, Settings, TICK};
 use clone_state::Copies;
 use i8080_words::{Fault, R};
-use key_room::KeyRoom;
+use key_room::{CompletedWrites, KeyRoom};
 use pair_events::Role;
 use std::sync::Wait;
 use std::thread::Parker;
@@ -25,7 +25,7 @@ pub struct Serving<B: Copies<H> + Drop, H: Drop> {
 /// Serves until there is a reason to end, which is returned with the host. The reader of frames wakes the loop through the
 /// parker.
 #[tactic(auto, using(crate::proofs::Going::stays, crate::proofs::Going::and_then))]
-pub fn serve<B: Copies<H> + KeyRoom + Drop, H: Drop, C: Wait + Clock>(
+pub fn serve<B: Copies<H> + CompletedWrites + KeyRoom + Drop, H: Drop, C: Wait + Clock>(
     rt: &C,
     host: HostNode<B, H>,
     settings: Settings,
@@ -45,7 +45,7 @@ pub fn serve<B: Copies<H> + KeyRoom + Drop, H: Drop, C: Wait + Clock>(
     (serving.host, end)
 }
 
-impl<B: Copies<H> + KeyRoom + Drop, H: Drop> Serving<B, H> {
+impl<B: Copies<H> + CompletedWrites + KeyRoom + Drop, H: Drop> Serving<B, H> {
     // Takes turns until there is a reason to end.
     #[tactic(auto, using(crate::proofs::Going::stays, crate::proofs::Going::and_then))]
     fn serve_all<C: Wait + Clock>(&mut self, rt: &C, wake: &Parker) -> End
