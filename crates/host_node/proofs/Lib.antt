@@ -10,3 +10,6 @@ pub mod Sent
 pub mod Asked
 pub mod Begun
 pub mod Reported
+pub mod Looking
+pub mod Ending
+pub mod Booting

@@ -3,4 +3,7 @@ pub mod MailRings
 pub mod Hosts
 pub mod Goes
 pub mod Roles
+pub mod Looks
 pub mod Reports
+pub mod Ends
+pub mod Boots

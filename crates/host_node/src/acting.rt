@@ -1,7 +1,7 @@
 //! What a host's node does in a turn, by its role.
 ghost use Rattle.host_node.specs.Goes.{Goes};
 
-use crate::pace::{AGAIN, End, WRITES};
+use crate::pace::{AGAIN, WRITES};
 use crate::serving::Serving;
 use clone_state::Copies;
 use disk_dcdd::SECTORS;
@@ -365,21 +365,9 @@ impl<B: Copies<H> + Drop, H: Drop> Serving<B, H> {
         Ok(())
     }
 
-    // A joining node says how many parts have come. If its primary is gone, it can never be whole.
-    #[tactic(auto, using(crate::proofs::Going::stays, crate::proofs::Going::and_then))]
-    pub(crate) fn await_parts(&mut self) -> R<bool>
-        ensures { Goes B.state B.machine B.copied self.old.host self.new.host }
-    {
-        if self.pace.is_suspected(self.settings.patience) {
-            self.pace.end = Some(End::Orphaned);
-            return Ok(true);
-        }
-        self.tell_parts()
-    }
-
     // Says how many parts have come, if that was not said.
     #[tactic(auto, using(crate::proofs::Going::stays, crate::proofs::Going::and_then))]
-    fn tell_parts(&mut self) -> R<bool>
+    pub(crate) fn tell_parts(&mut self) -> R<bool>
         ensures { Goes B.state B.machine B.copied self.old.host self.new.host }
     {
         if self.pace.owes_parts && self.host.say_parts(self.pace.parts_here)? {

@@ -7,6 +7,7 @@ mod hearing;
 mod host;
 mod inputs;
 mod joining;
+mod laws;
 mod mail;
 mod moves;
 mod pace;
@@ -16,6 +17,7 @@ mod serving;
 
 pub use heard::Heard;
 pub use host::{HostNode, Hosted};
+pub use laws::hosts_boot;
 pub use mail::{KEYS, KeptKey, Mail};
 pub use pace::{End, Settings, TICK};
 pub use serving::serve;

@@ -34,22 +34,19 @@ pub enum End {
     Stopped,
     /// The stream from the outside has ended.
     Closed,
-    /// Another host has won the generation.
+    /// The node has halted: another host has won its generation.
     Lost,
     /// What the peer sent is not of this machine's run.
     Diverged,
     /// The host that was to send the machine is gone, or has begun anew without this one.
     Orphaned,
     OutOfMemory,
-    /// The clock cannot be read.
-    NoClock,
 }
 
 /// Times, and what is due.
 #[derive(Clone, Copy)]
 pub struct Pace {
     pub now: u64,
-    pub end: Option<End>,
     // How many ticks came since the peer was heard, and whether its stream has ended.
     pub silent: u32,
     pub is_gone: bool,
@@ -89,7 +86,6 @@ impl Pace {
     pub fn new(now: u64) -> Pace {
         Pace {
             now,
-            end: None,
             silent: 0,
             is_gone: false,
             asked_at: 0,
@@ -158,13 +154,11 @@ impl Pace {
             Heard::Sector { sector, is_taken } => self.note_sector(sector, is_taken),
             Heard::Accepted | Heard::Written(_) | Heard::Key => self.is_idle = false,
             Heard::Won => self.forget_peer(),
-            Heard::Lost => self.end = Some(End::Lost),
             Heard::Gone(host) => self.is_gone = self.is_gone || host == peer,
             Heard::Begun => self.begin(),
             Heard::Joined => self.join(),
             Heard::Tick => self.silent = self.silent.saturating_add(1),
-            Heard::Stop => self.end = Some(End::Stopped),
-            Heard::Nothing | Heard::Malformed | Heard::Progress { .. } => {}
+            Heard::Nothing | Heard::Malformed | Heard::Lost | Heard::Progress { .. } => {}
         }
     }
 
