@@ -14,6 +14,7 @@ const REST: u64 = 5;
 
 /// Serves the hosts until there is a reason to end, and then tells them to stop. Whoever has something for the outside wakes it
 /// through the parker.
+#[tactic(auto, using(crate::proofs::Going::switched))]
 pub fn run_hosts<D: SectorStore, N: Write + Drop, C: Wait + Clock>(
     rt: &C,
     alloc: Global,
@@ -28,7 +29,7 @@ pub fn run_hosts<D: SectorStore, N: Write + Drop, C: Wait + Clock>(
 }
 
 // Serves the hosts until there is a reason to end.
-#[tactic(auto, using(outside_switch::proofs::Going::nothing_yet, outside_switch::proofs::Going::and_then))]
+#[tactic(auto, using(crate::proofs::Going::stays, crate::proofs::Going::and_then))]
 fn serve<D: SectorStore, N: Write + Drop, C: Wait + Clock>(
     rt: &C,
     alloc: Global,

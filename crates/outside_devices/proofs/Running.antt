@@ -40,62 +40,55 @@ step-hosts M o act p (outside.Offers generation low) = refl
 step-hosts M o act p (outside.Passes frame) = refl
 step-hosts M o act p (outside.Drops frame) = refl
 
--- a host that comes makes them no fewer
-admitted-more : (hosts host : ℕ) → hosts ≤ admitted_after hosts host
-admitted-more hosts host = go (host == hosts)
-  where
-    go : (b : Bool) → hosts ≤ cond b (hosts + 1) hosts
-    go true = omega arith
-    go false = omega arith
-
 module _ {S : Type 0} (M : Machine S) (drives : ℕ) where
-  begins : (records : List Record) (may_fail : Option ℕ) → IsDisk M drives records [] →
-      OutsideRan M drives (at_boot records may_fail) [] []
-  begins records may_fail disk = λ hosts few. record {
-    acts = [];
-    last = at_first hosts;
-    run = outside.Rests;
-    took = refl;
-    gave = refl;
-    shows = record { terminals = nothing_yet; winners = λ generation. refl; disk = disk; hosts = few };
-    hosts_are = refl;
-  }
+  begins : (records : List Record) (may_fail : Option ℕ) (hosts : ℕ) → IsDisk M drives records [] →
+      Shows M drives (at_boot records may_fail) (at_first hosts)
+  begins records may_fail hosts disk =
+      record { terminals = nothing_yet; winners = λ generation. refl; disk = disk; hosts = omega arith }
 
-  goes : (held new : Held) (read written : List Frame) (act : Act) → OutsideRan M drives held read written →
-      new.hosts ≡ held.hosts → ((o : Outside) → Shows M drives held o → (p : Outside) × Makes M drives o act new p) →
-      OutsideRan M drives new (read ++ act.takes) (written ++ act.sends)
-  goes held new read written act ran same makes = λ hosts few.
-      let r = ran hosts (subst (λ n. n ≤ hosts) same few) in
-      let m = makes r.last r.shows in
-      record {
-        acts = r.acts ++ act ∷ [];
-        last = m.0;
-        run = run-one M (at_first hosts) r.last m.0 r.acts act r.run m.1.step;
-        took = taken-one r.acts act ∙ ap (λ l. l ++ act.takes) r.took;
-        gave = sent-one r.acts act ∙ ap (λ l. l ++ act.sends) r.gave;
-        shows = m.1.shows;
-        hosts_are = step-hosts M r.last act m.0 m.1.step ∙ r.hosts_are;
-      }
+  rests : (held : Held) (o : Outside) → Shows M drives held o → (ran : OutsideRan M drives o [] [] held) × (ran.last ≡ o)
+  rests held o shows =
+      (record { acts = []; last = o; run = outside.Rests; took = refl; gave = refl; shows = shows; hosts = refl }, refl)
 
-  admits : (held : Held) (host : ℕ) (read written : List Frame) → OutsideRan M drives held read written →
-      OutsideRan M drives (record held { hosts = admitted_after held.hosts host }) read written
-  admits held host read written ran = λ hosts few.
-      let more = admitted-more held.hosts host in
-      let r = ran hosts (omega (arith, few, more)) in
-      record {
-        acts = r.acts;
-        last = r.last;
-        run = r.run;
-        took = r.took;
-        gave = r.gave;
-        shows = record {
-          terminals = r.shows.terminals;
-          winners = r.shows.winners;
-          disk = r.shows.disk;
-          hosts = subst (λ n. admitted_after held.hosts host ≤ n) (sym r.hosts_are) few;
-        };
-        hosts_are = r.hosts_are;
-      }
+  goes : (first : Outside) (held new : Held) (read written : List Frame) (act : Act) (Leads : Outside → Outside → Type 0) →
+      (ran : OutsideRan M drives first read written held) →
+      ((o : Outside) → Shows M drives held o → (p : Outside) × Makes M drives o act new p × Leads o p) →
+      (more : OutsideRan M drives first (read ++ act.takes) (written ++ act.sends) new) × Leads ran.last more.last
+  goes first held new read written act Leads r makes =
+      let m = makes r.last r.shows in (
+        record {
+          acts = r.acts ++ act ∷ [];
+          last = m.0;
+          run = run-one M first r.last m.0 r.acts act r.run m.1.step;
+          took = taken-one r.acts act ∙ ap (λ l. l ++ act.takes) r.took;
+          gave = sent-one r.acts act ∙ ap (λ l. l ++ act.sends) r.gave;
+          shows = m.1.shows;
+          hosts = step-hosts M r.last act m.0 m.1.step ∙ r.hosts;
+        },
+        m.2,
+      )
+
+  admits : (first : Outside) (held : Held) (host : ℕ) (read written : List Frame) →
+      (ran : OutsideRan M drives first read written held) → admitted_after held.hosts host ≤ first.hosts →
+      (more : OutsideRan M drives first read written (record held { hosts = admitted_after held.hosts host }))
+      × (more.last ≡ ran.last)
+  admits first held host read written r few = (
+    record {
+      acts = r.acts;
+      last = r.last;
+      run = r.run;
+      took = r.took;
+      gave = r.gave;
+      shows = record {
+        terminals = r.shows.terminals;
+        winners = r.shows.winners;
+        disk = r.shows.disk;
+        hosts = subst (λ n. admitted_after held.hosts host ≤ n) (sym r.hosts) few;
+      };
+      hosts = r.hosts;
+    },
+    refl,
+  )
 
   pub goes_on : GoesOn M drives
-  goes_on = record { begins = begins; goes = goes; admits = admits }
+  goes_on = record { begins = begins; rests = rests; goes = goes; admits = admits }

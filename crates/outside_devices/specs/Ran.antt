@@ -1,4 +1,4 @@
--- What a loop over the calls promises: the frames that it took in and sent are those of a run of the outside.
+-- What calls of the devices come to, one after another: the frames that they took in and sent are those of a run of the outside.
 use Rattle.std.specs.Prelude.{◌≡◌, ℕ, ◌≤◌, List, [], ◌++◌, Option}
 use Rattle.guest_lockstep.specs.Machine.{Machine}
 use Rattle.shared_disk.specs.declared.store.Record.{Record}
@@ -9,30 +9,32 @@ use Rattle.outside_devices.specs.Held.{Held, at_boot}
 use Rattle.outside_devices.specs.Shown.{IsDisk, Shows}
 use Rattle.outside_devices.specs.Steps.{Makes}
 
--- a run of an outside that counts this many hosts
-pub record IsRun {S : Type 0} (M : Machine S) (drives : ℕ) (held : Held) (read written : List Frame) (hosts : ℕ)
+-- a run from this outside took in and sent these frames, and the devices show where it leads
+pub record OutsideRan {S : Type 0} (M : Machine S) (drives : ℕ) (first : Outside) (read written : List Frame) (held : Held)
     : Type 0 where
   pub acts : List Act
   pub last : Outside
-  pub run : OutsideRun M (at_first hosts) acts last
+  pub run : OutsideRun M first acts last
   pub took : taken acts ≡ read
   pub gave : sent acts ≡ written
   pub shows : Shows M drives held last
-  pub hosts_are : last.hosts ≡ hosts
+  -- a run counts from the first all hosts that ever come
+  pub hosts : last.hosts ≡ first.hosts
 
--- the devices came here by a run that read these frames and wrote those, however many hosts are still to come
-abbrev pub OutsideRan : {S : Type 0} → Machine S → ℕ → Held → List Frame → List Frame → Type 0
-OutsideRan M drives held read written = (hosts : ℕ) → held.hosts ≤ hosts → IsRun M drives held read written hosts
-
--- it begins with nothing, each call that is a step adds the frames that go with it, and a host that comes adds none
+-- it begins with nothing, each call that is a step adds the frames that go with it and leads to where that step does, and a
+-- host that comes adds none
 pub record GoesOn {S : Type 0} (M : Machine S) (drives : ℕ) : Type 0 where
-  pub begins : (records : List Record) (may_fail : Option ℕ) → IsDisk M drives records [] →
-      OutsideRan M drives (at_boot records may_fail) [] []
-  pub goes : (held new : Held) (read written : List Frame) (act : Act) → OutsideRan M drives held read written →
-      new.hosts ≡ held.hosts → ((o : Outside) → Shows M drives held o → (p : Outside) × Makes M drives o act new p) →
-      OutsideRan M drives new (read ++ act.takes) (written ++ act.sends)
-  pub admits : (held : Held) (host : ℕ) (read written : List Frame) → OutsideRan M drives held read written →
-      OutsideRan M drives (record held { hosts = admitted_after held.hosts host }) read written
+  pub begins : (records : List Record) (may_fail : Option ℕ) (hosts : ℕ) → IsDisk M drives records [] →
+      Shows M drives (at_boot records may_fail) (at_first hosts)
+  pub rests : (held : Held) (o : Outside) → Shows M drives held o → (ran : OutsideRan M drives o [] [] held) × (ran.last ≡ o)
+  pub goes : (first : Outside) (held new : Held) (read written : List Frame) (act : Act) (Leads : Outside → Outside → Type 0) →
+      (ran : OutsideRan M drives first read written held) →
+      ((o : Outside) → Shows M drives held o → (p : Outside) × Makes M drives o act new p × Leads o p) →
+      (more : OutsideRan M drives first (read ++ act.takes) (written ++ act.sends) new) × Leads ran.last more.last
+  pub admits : (first : Outside) (held : Held) (host : ℕ) (read written : List Frame) →
+      (ran : OutsideRan M drives first read written held) → admitted_after held.hosts host ≤ first.hosts →
+      (more : OutsideRan M drives first read written (record held { hosts = admitted_after held.hosts host }))
+      × (more.last ≡ ran.last)
 
 abbrev pub RunsGoOn : (S : Type 0) → Type 0
 RunsGoOn S = (M : Machine S) (drives : ℕ) → GoesOn M drives

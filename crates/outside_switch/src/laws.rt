@@ -1,14 +1,18 @@
 //! What the calls are in the law of processes. Nothing here runs.
-ghost use Rattle.outside_switch.specs.Runs.{StayApart, SwitchBegins, SwitchRuns};
+ghost use Rattle.outside_switch.specs.Runs.{HostsStay, NumbersCount, NumbersStay, StayApart, SwitchBegins, SwitchRuns};
 
-/// A switch begins with no frame. If what the hosts said brings what it means, then the devices are where a run of the outside of the law leads, which takes in only
-/// what the hosts sent, and sends what the hosts are told.
+/// A switch begins with nothing done. If what a host said brings what it means, then a move leads to where a run of the outside of
+/// the law leads, which takes in only what that host sent, and sends what the hosts are told.
 pub fn switch_runs<S>()
     ensures begins { SwitchBegins S }
     ensures runs { SwitchRuns S }
+    ensures hosts { HostsStay }
 {}
 
-/// No two places ever have one number, if none have at first.
+/// A place keeps its number, one that it is given is that of a host which is counted, and no two places ever have one number, if
+/// none have at first.
 pub fn numbers_stay_apart()
-    ensures { StayApart }
+    ensures apart { StayApart }
+    ensures stay { NumbersStay }
+    ensures count { NumbersCount }
 {}
