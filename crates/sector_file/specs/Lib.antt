@@ -1,0 +1,5 @@
+pub mod Device
+pub mod History
+pub mod Kept
+pub mod Sectors
+pub mod Tails
