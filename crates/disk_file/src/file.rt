@@ -45,7 +45,9 @@ impl RawFile for DiskFile {
     }
 
     fn cut(&mut self, len: usize) -> R<()> {
-        self.file.set_len(len as u64).map_err(|_| Fault::DeviceFault)
+        self.file
+            .set_len(len as u64)
+            .map_err(|_| Fault::DeviceFault)
     }
 
     fn sync(&mut self) -> R<()> {

@@ -67,11 +67,7 @@ fn refusal(fault: Fault) -> OpenError {
 /// Opens a file as the disk of this many drives, and says what followed its image. A file that is not there, or has no bytes,
 /// becomes a disk of zeros. What follows the image is taken up or cut off, unless it is `Foreign`: that is refused, and the
 /// file stays as it is.
-pub fn open_disk(
-    rt: &HostRuntime,
-    path: &str,
-    drives: u8,
-) -> Result<(DiskStore, Tail), OpenError>
+pub fn open_disk(rt: &HostRuntime, path: &str, drives: u8) -> Result<(DiskStore, Tail), OpenError>
     requires few { drives ≤ 26 }
     ensures unwritten { IfOk result (λ opened. All (λ (r : Record). r.number ≡ 0) opened.0.records.items) }
     ensures drives { IfOk result (λ opened. length opened.0.records.items ≡ drives * 2464) }

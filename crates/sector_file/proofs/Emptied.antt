@@ -1,10 +1,9 @@
 -- What a crash leaves while the journal behind an image is emptied.
-use Rattle.std.proofs.Common.{◌≡◌, inl, inr, ℕ, zero, suc, ◌+◌, ◌-◌, ◌*◌, ◌≤◌, List, [], ◌∷◌, ◌++◌, length, get_or, take, drop, if◌then◌else◌, ◌==◌, ◌&&◌, nat_lt, Bool, true, false, refl, sym, ◌∙◌, ap, arith, append_assoc, length-drop}
+use Rattle.std.proofs.Common.{◌≡◌, inl, inr, ℕ, ◌+◌, ◌-◌, ◌*◌, ◌≤◌, List, [], ◌∷◌, ◌++◌, length, get_or, take, drop, refl, sym, ◌∙◌, ap, arith, append_assoc, length-drop}
 use Rattle.std.proofs.lemmas.Bool.{cases_eq}
-use Rattle.std.proofs.lemmas.Bool.Decides.{nat_tests}
 use Rattle.std.proofs.lemmas.List.{append-nil, take_at, drop_at, take_all, drop_all, drop_more, take-take, drop-drop, drop-take, length-take, length-take-le}
 use Rattle.sector_file.specs.Device.{Torn, Cut, written}
-use Rattle.sector_file.specs.Sectors.{Entry, entries, journal_of, applied, contents, Resting}
+use Rattle.sector_file.specs.Sectors.{journal_of, applied, contents, Resting}
 use Rattle.sector_file.proofs.Blocks.{shut, front_nothing}
 use Rattle.sector_file.proofs.Lists.{over_before}
 

@@ -1,5 +1,5 @@
 -- The first entry of a journal, as it is read.
-use Rattle.std.proofs.Common.{◌≡◌, ℕ, ◌+◌, ◌*◌, ◌%◌, ◌≤◌, ◌<◌, List, [], ◌∷◌, length, take, drop, slice_index_or, Bool, true, Some, refl, sym, ◌∙◌, ap, arith}
+use Rattle.std.proofs.Common.{◌≡◌, ℕ, ◌+◌, ◌*◌, ◌%◌, ◌≤◌, ◌<◌, List, [], ◌∷◌, length, take, drop, slice_index_or, Bool, true, Some, sym, ◌∙◌, ap, arith}
 use Rattle.std.specs.List.{sum}
 use Rattle.std.proofs.lemmas.Bool.Decides.{nat_tests}
 use Rattle.sector_file.specs.Sectors.{counts, entry_at, journal_of}

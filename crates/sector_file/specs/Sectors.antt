@@ -1,7 +1,7 @@
 -- What a file stands for: the image of a disk, and after it the blocks of a journal. A block is a gate (79, an O, if it is
 -- open); the place of a sector, and the sum of that and of the sector's bytes modulo 65,536, two bytes each with the low one
 -- first; and the sector's 137 bytes.
-use Rattle.std.specs.Prelude.{◌≡◌, ◌⊎◌, ℕ, suc, ◌+◌, ◌*◌, ◌%◌, ◌<◌, ◌≤◌, List, [], ◌∷◌, ◌++◌, length, take, drop, Bool, if◌then◌else◌, ◌==◌, ◌&&◌, nat_lt, Option, Some, None}
+use Rattle.std.specs.Prelude.{◌≡◌, ◌⊎◌, ℕ, suc, ◌+◌, ◌*◌, ◌%◌, ◌≤◌, List, [], ◌∷◌, ◌++◌, length, take, drop, Bool, if◌then◌else◌, ◌==◌, ◌&&◌, nat_lt, Option, Some, None}
 use Rattle.std.specs.List.{sum}
 use Rattle.std.specs.Option.{option_map_or}
 

@@ -112,7 +112,7 @@ impl<D: Device> SectorStore for FileStore<D> {
         // had failed before, with the one in which it failed or without.
         ensures any_moment { LeavesOnly D.moment D.left_since self.old.device self.new.device
             (StandsFor (length self.old.records.items) (bytes_of self.old.records.items)
-                (pending_in self.old.pending address content.bytes)) }
+            (pending_in self.old.pending address content.bytes)) }
     {
         let sectors = self.kept.records.len();
         let place = match address.index() {

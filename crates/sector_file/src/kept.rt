@@ -46,7 +46,7 @@ impl<D: Device> Kept<D> {
         // had failed before, with the one in which it failed or without.
         ensures any_moment { LeavesOnly D.moment D.left_since self.old.device self.new.device
             (StandsFor (length self.old.records.items) (bytes_of self.old.records.items)
-                (pending_with self.old.pending place content.bytes)) }
+            (pending_with self.old.pending place content.bytes)) }
     {
         match self.pending {
             Some(_) => Err(Fault::DeviceFault),

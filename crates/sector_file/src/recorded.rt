@@ -17,11 +17,17 @@ pub trait RawFile: Drop {
 
 // The kinds of calls.
 const OPENED: u8 = 0;
+
 const WROTE: u8 = 1;
+
 const TORE: u8 = 2;
+
 const CUT: u8 = 3;
+
 const CUT_SHORT: u8 = 4;
+
 const SYNCED: u8 = 5;
+
 const NOT_SYNCED: u8 = 6;
 
 /// A file, and the calls that were made of it. What it says of the file is what a file has that does as it is asked.

@@ -4,7 +4,7 @@ use Rattle.sector_file.specs.Device.{Torn, written}
 use Rattle.sector_file.specs.Sectors.{contents, IsBeforeOrAfter}
 use Rattle.sector_file.proofs.Blocks.{length_block}
 use Rattle.sector_file.proofs.Moments.{weaker, then}
-use Rattle.sector_file.proofs.Steps.{first, second, staged, is_staged, tail_is, rests_again, then_has, then_tail}
+use Rattle.sector_file.proofs.Steps.{first, second, is_staged, tail_is, rests_again, then_has, then_tail}
 use Rattle.sector_file.proofs.append.append.Goals as goal
 
 pub returns-in_err-write_through-clause-any_moment : goal.returns-in_err-write_through-clause-any_moment

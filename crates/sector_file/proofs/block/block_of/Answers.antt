@@ -7,8 +7,7 @@ returns c =
     let high = c.halves-low.result.1 in
     let sum_low = c.halves-sum_low.result.0 in
     let sum_high = c.halves-sum_low.result.1 in
-    let copied : c.copy_from_slice.new.self ≡ c.args.bytes.now = search rules in
-    (
+    let copied : c.copy_from_slice.new.self ≡ c.args.bytes.now = search rules in (
       low ∷ high ∷ sum_low ∷ sum_high ∷ c.args.bytes.now,
       record {
         low = low;

@@ -1,4 +1,4 @@
-use Rattle.std.proofs.Common.{rules, arith, ◌≡◌, ◌+◌, ◌*◌, ◌≤◌, length, slice_index_or, take, drop, ◌-◌, sym, ◌∙◌}
+use Rattle.std.proofs.Common.{rules, arith, ◌≡◌, ◌≤◌, length, slice_index_or, take, drop, ◌-◌, sym, ◌∙◌}
 use Rattle.std.proofs.lemmas.List.{take_rest}
 use Rattle.sector_file.proofs.Reading.{entry_read}
 use Rattle.sector_file.proofs.block.first_entry.Goals as goal

@@ -16,8 +16,7 @@ returns-clause-kept g c =
     let disk = contents sectors (g.D.Device.seen c.args.device) in
     let same : contents (length records) new ≡ bytes_of records =
     ap (λ (n : ℕ). contents n new) read.count ∙ taken.same ∙ ap (contents sectors) c.requires.is ∙ sym read.disk in
-    let len : vec_len journal ≡ length journal.items = search rules in
-    (
+    let len : vec_len journal ≡ length journal.items = search rules in (
       record {
         few = omega (arith, read.count, c.requires.few);
         whole = read.whole;

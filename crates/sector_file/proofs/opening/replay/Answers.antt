@@ -23,7 +23,7 @@ loop-place-preserved c =
         i.entered.0 ++ e ∷ [],
         journal ∙ sym (append_assoc i.entered.0 (e ∷ []) (journal_of sectors c.in-Some.after.now)),
         ap bytes_of is ∙ sym (set_record xs e.place y i.whole there) ∙ ap (λ (l : List ℕ). with_sector l e.place e.bytes) i.entered.2
-        ∙ sym (applied-append sectors (bytes_of c.args.records.now) i.entered.0 (e ∷ [])),
+            ∙ sym (applied-append sectors (bytes_of c.args.records.now) i.entered.0 (e ∷ [])),
       );
       whole = subst AreWhole (sym is) (set_whole xs e.place y i.whole fits.1);
       unwritten = subst (All (λ (r : Record). r.number ≡ 0)) (sym is) (All-set (λ (r : Record). r.number ≡ 0) xs e.place y refl i.unwritten);
