@@ -1,4 +1,5 @@
-//! Writes sectors of a disk in a file, one for each line that it reads, and says when each is on the disk.
+//! Writes sectors of a disk in a file, one for each line that it reads, and says when each is on the disk; opens such files, and
+//! says what they are.
 #![tactic(auto)]
 
 use anyhow::{Result, bail};
@@ -52,24 +53,37 @@ fn write(store: &mut DiskStore, line: &str) -> Result<u64> {
     Ok(number)
 }
 
-// Arguments: the file, and `keep` to leave its journal at the end.
-fn main(rt: HostRuntime) -> Result<()> {
-    let mut words = env::args(&rt)?.skip(1);
-    let Some(path) = words.next() else {
-        bail!("usage: disk_trial FILE [keep]");
-    };
-    let keep = words.next().is_some();
-    let (mut store, tail) = open_disk(&rt, path.as_str(), 1)?;
+// Opens each of these files and closes it, and says what followed its image.
+fn open_all(rt: &HostRuntime, files: &[String]) -> Result<()> {
+    for file in files {
+        let (store, tail) = open_disk(rt, file.as_str(), 1)?;
+        let (_, ended) = store.close();
+        ended?;
+        println!(rt; "{}", word_of(tail))?;
+    }
+    Ok(())
+}
+
+// Opens a file, writes the sectors of each line that is read, and leaves the journal.
+fn write_all(rt: &HostRuntime, file: &str) -> Result<()> {
+    let (mut store, tail) = open_disk(rt, file, 1)?;
     println!(rt; "{}", word_of(tail))?;
     for line in BufReader::new(rt.alloc(), rt.reader())?.lines(rt.alloc()) {
         let number = write(&mut store, line?.as_str())?;
         println!(rt; "{number}")?;
     }
-    if keep {
-        return Ok(());
-    }
-    let (_, ended) = store.close();
-    ended?;
-    println!(rt; "closed")?;
     Ok(())
+}
+
+// Arguments: `open` and files, or `write` and a file.
+fn main(rt: HostRuntime) -> Result<()> {
+    let mut words = Vec::new(rt.alloc());
+    for word in env::args(&rt)?.skip(1) {
+        words.push(word)?;
+    }
+    match words.as_slice() {
+        [command, files @ ..] if command.as_str() == "open" => open_all(&rt, files),
+        [command, file] if command.as_str() == "write" => write_all(&rt, file.as_str()),
+        _ => bail!("usage: disk_trial open FILE ..; disk_trial write FILE"),
+    }
 }
