@@ -5,7 +5,6 @@ pub mod Replaying
 pub mod Acting
 pub mod Fetching
 pub mod Takeover
-pub mod Given
 pub mod Names
 pub mod TwoTerminals
 pub mod Completing

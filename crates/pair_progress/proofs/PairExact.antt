@@ -17,7 +17,7 @@ use Rattle.pair_protocol.proofs.Traces.OneTrace.{quiet_moves}
 use Rattle.pair_progress.specs.Completion.{IsExact, Responds}
 use Rattle.pair_progress.specs.CatchingUp.{IsPair}
 use Rattle.pair_progress.proofs.Acting.{nobody_and_one, undecided_top}
-use Rattle.pair_progress.proofs.Given.{all_accepted}
+use Rattle.pair_protocol.proofs.Traces.Outstanding.{all_accepted}
 use Rattle.pair_progress.proofs.Resting.{empty_rest, none_and_some}
 
 none_long : {A : Type 0} (xs : List A) → length xs ≡ 0 → xs ≡ []

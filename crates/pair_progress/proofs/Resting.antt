@@ -15,7 +15,7 @@ use Rattle.pair_progress.specs.Completion.{IsAtRest, IsCompletion, IsExact, Resp
 use Rattle.pair_progress.specs.Leads.{Leads}
 use Rattle.pair_progress.specs.Takeover.{IsLive}
 use Rattle.pair_progress.proofs.Completing.{Fewer, Server, completes, live_not_full, live_not_spent, live_real, live_releases, live_serves}
-use Rattle.pair_progress.proofs.Given.{all_accepted}
+use Rattle.pair_protocol.proofs.Traces.Outstanding.{all_accepted}
 use Rattle.pair_progress.proofs.Leading.{at_most, is_there, joined}
 use Rattle.pair_progress.proofs.Names.{among, count_out, count-falls, count-length, none_out, some_out}
 

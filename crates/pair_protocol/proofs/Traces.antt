@@ -4,3 +4,4 @@ pub mod Moves
 pub mod Cuts
 pub mod Recorded
 pub mod OneTrace
+pub mod Outstanding

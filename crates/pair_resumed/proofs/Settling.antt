@@ -11,7 +11,7 @@ use Rattle.pair_protocol.specs.Copying.{Copying}
 use Rattle.pair_rule.specs.Histories.{PlainRun}
 use Rattle.pair_rule.specs.Kinds.{counted_at}
 use Rattle.pair_rule.specs.Rules.{IsStart, first_known}
-use Rattle.pair_threads.proofs.AtRest.{all_accepted}
+use Rattle.pair_protocol.proofs.Traces.Outstanding.{all_accepted}
 use Rattle.pair_resumed.proofs.Given.{is_acknowledged, none_accepted, none_taken, some_byte}
 use Rattle.pair_resumed.proofs.Following.{Follows, follows_quiet}
 use Rattle.pair_resumed.proofs.Giving.{follows_gives, many}

@@ -6,7 +6,7 @@ use Rattle.pair_standing.proofs.Words.{Among, ComesAndGoes-booted, Do, Entry, Go
 use Rattle.event_callbacks.specs.declared.operations.OpId.TheVariants as id
 use Rattle.guest_lockstep.specs.Outstanding.{ComesAndGoes}
 use Rattle.pair_rule.proofs.ShownGuards.{all_in}
-use Rattle.pair_threads.proofs.AtRest.{all_accepted}
+use Rattle.pair_protocol.proofs.Traces.Outstanding.{all_accepted}
 use Rattle.pair_threads.proofs.Delivered.{none_left}
 
 -- as many operations as marks, which are entries

@@ -15,7 +15,7 @@ use Rattle.pair_rule.specs.declared.payload.DiskAnswer.TheVariants as answer
 use Rattle.pair_rule.proofs.LongerRuns.{GoesOn}
 use Rattle.pair_rule.proofs.ShownGuards.{all_in}
 use Rattle.pair_threads.specs.Left.{IsScreenOf, IsStoreOf, Leaves}
-use Rattle.pair_threads.proofs.AtRest.{all_accepted}
+use Rattle.pair_protocol.proofs.Traces.Outstanding.{all_accepted}
 use Rattle.pair_threads.proofs.Delivered.{at_rest, in_sector, on_screen, whole_screen}
 use Rattle.pair_threads.proofs.FirstEntries.{all_of_it, first_part, given_at_all, given_first, repeated}
 use Rattle.pair_threads.proofs.OneMoment.{StandsOf, stands_of}
