@@ -252,7 +252,7 @@ def failover_line_by_line() -> None:
 
 
 def session_of_the_shell() -> None:
-    """A case: the first session of docs/SHELL.md; what is typed is at the left, what is printed further in, and `...` is anything."""
+    """A case: the first session in docs/SHELL.md; what is typed is at the left, what is printed further in, and `...` is anything."""
     (command, *lines), *others = blocks(part("docs/SHELL.md", "Five minutes in the shell"))
     lines += [line for block in others for line in block]
     typed = "".join(f"{it}\n" for it in lines if not it.startswith(" "))

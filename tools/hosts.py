@@ -105,7 +105,7 @@ class Hosts:
             words = ["sh", "-c", 'exec 3< "$1" 4> "$2"; shift 2; exec "$@" <&3 >&4 3<&- 4>&-', "host"]
             words += [self.path(place, "in"), self.path(place, "out"), *self.asked.host_words(self.program, place)]
             with open(self.path(place, "said"), "wb") as said:
-                # In a session of its own a host hears no signal of this command's terminal.
+                # A host that leads its own process group hears no signal of this command's terminal.
                 process = subprocess.Popen(words, stdin=subprocess.DEVNULL, stderr=said, start_new_session=True)
             self.processes.append(process)
             self.says(f"host {place} is process {process.pid}")
