@@ -1,5 +1,17 @@
-"""Cases of a test, functions whose names say what must hold, and what comes of them."""
+"""Cases of a test, functions whose names say what must hold, and what comes of them; how a test answers --help."""
 import subprocess
+import sys
+
+
+def answer_help(usage, *options):
+    """Before a test does anything: prints its usage and ends for -h and --help, and with status 2 if it has no such option."""
+    words = sys.argv[1:]
+    if {"-h", "--help"} & set(words):
+        sys.exit(print(usage.strip()))
+    for it in words:
+        if it.startswith("-") and it not in options:
+            print(f"no option {it}\n\n{usage.strip()}", file=sys.stderr)
+            sys.exit(2)
 
 
 class Differs(Exception):

@@ -7,6 +7,7 @@ import pathlib
 import pty
 import re
 import select
+import signal
 import struct
 import subprocess
 import tempfile
@@ -144,6 +145,11 @@ class Console:
         return self.status()
 
 
+def hear_hang_ups():
+    """A command that is started now ends at a hang-up, also if whoever runs the test ignores them, as nohup does."""
+    signal.signal(signal.SIGHUP, signal.SIG_DFL)
+
+
 def set_size(terminal, size):
     """Gives a terminal so many rows and columns."""
     fcntl.ioctl(terminal, termios.TIOCSWINSZ, struct.pack("4H", *size, 0, 0))
@@ -160,7 +166,7 @@ class AtTerminal(Console):
         said = subprocess.PIPE if is_apart else self.other
         how = {"stdin": self.other, "stdout": self.other, "stderr": said, "start_new_session": True}
         how["env"], how["cwd"] = {**os.environ, "TERM": kind}, cwd
-        how["preexec_fn"] = lambda: fcntl.ioctl(0, termios.TIOCSCTTY, 0)
+        how["preexec_fn"] = lambda: hear_hang_ups() or fcntl.ioctl(0, termios.TIOCSCTTY, 0)
         run = subprocess.Popen(words, **how)
         super().__init__(run, self.terminal, {self.terminal: "shown"} | ({run.stderr.fileno(): "said"} if is_apart else {}))
 
@@ -179,7 +185,8 @@ class BetweenPipes(Console):
     """A console whose keys come through a pipe."""
 
     def __init__(self, words, **how):
-        run = subprocess.Popen(words, stdin=subprocess.PIPE, stdout=subprocess.PIPE, stderr=subprocess.PIPE, bufsize=0, **how)
+        how = {"stdin": subprocess.PIPE, "stdout": subprocess.PIPE, "stderr": subprocess.PIPE, "preexec_fn": hear_hang_ups, **how}
+        run = subprocess.Popen(words, bufsize=0, **how)
         super().__init__(run, run.stdin.fileno(), {run.stdout.fileno(): "shown", run.stderr.fileno(): "said"})
 
     def close(self):

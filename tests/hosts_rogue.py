@@ -1,8 +1,10 @@
 #!/usr/bin/env python3
-"""A host that is none, or one that dies: `tests/hosts` has it started in place of a host.
+"""A host that is none, one that dies, or one that hears no other: `tests/hosts` has it started in place of a host.
 
 usage: tests/hosts_rogue.py nothing|half|garbage|flood [WORD ..]     the further words, those of a host, are ignored
        tests/hosts_rogue.py dies BYTES PROGRAM WORD ..                 the host of these words, killed after so many bytes came to it
+       tests/hosts_rogue.py deaf PROGRAM WORD ..     the host of these words, which hears no other host from SIGUSR1 on, until the arbiter
+                                                     has answered it
 """
 import os
 import signal
@@ -12,6 +14,9 @@ import threading
 import time
 
 PIECE = 65536
+
+# The tags of the frames that other hosts send (packets, and how far they are), and of the arbiter's answers.
+OF_HOSTS, OF_ARBITER = (b"P", b"R"), (b"O", b"L")
 
 
 def frame(body):
@@ -39,26 +44,60 @@ def flood():
         write(report_of_spare() * 1000)
 
 
+class Host:
+    """A host that runs, between this process's streams and its own."""
+
+    def __init__(self, words):
+        self.run = subprocess.Popen(words, stdin=subprocess.PIPE, stdout=subprocess.PIPE)
+        threading.Thread(target=self.pass_back, daemon=True).start()
+
+    def pass_back(self):
+        """Passes on what the host says, and ends as it does."""
+        while some := os.read(self.run.stdout.fileno(), PIECE):
+            write(some)
+        os._exit(self.run.wait())
+
+    def give(self, some):
+        while some:
+            some = some[os.write(self.run.stdin.fileno(), some) :]
+
+
 def die_after(count, words):
     """Runs a host and passes all on, until so many bytes have come to it."""
-    host = subprocess.Popen(words, stdin=subprocess.PIPE, stdout=subprocess.PIPE)
-
-    def pass_back():
-        while some := os.read(host.stdout.fileno(), PIECE):
-            write(some)
-
-    threading.Thread(target=pass_back, daemon=True).start()
+    host = Host(words)
     while count > 0 and (some := os.read(0, min(PIECE, count))):
         count -= len(some)
-        while some:
-            some = some[os.write(host.stdin.fileno(), some) :]
-    host.kill()
+        host.give(some)
+    host.run.kill()
     os.kill(os.getpid(), signal.SIGKILL)
+
+
+def frames_of(source):
+    """The frames of a stream, whole."""
+    while head := source.read(4):
+        yield head + source.read(int.from_bytes(head[2:], "big"))
+
+
+def be_deaf(words):
+    """Runs a host, and passes on what is said to it, but for what other hosts say while it is deaf."""
+    is_deaf = threading.Event()
+    signal.signal(signal.SIGUSR1, lambda *_: is_deaf.set())
+    host, source = Host(words), open(0, "rb")
+    host.give(source.read(int(words[words.index("--before") + 1])))
+    for it in frames_of(source):
+        if it[4:5] in OF_ARBITER:
+            is_deaf.clear()
+        if not is_deaf.is_set() or it[4:5] not in OF_HOSTS:
+            host.give(it)
+    host.run.stdin.close()
+    sleep_for_good()
 
 
 def main(mode, *words):
     if mode == "dies":
         die_after(int(words[0]), words[1:])
+    if mode == "deaf":
+        be_deaf(words)
     if mode == "flood":
         flood()
     if mode == "half":
@@ -69,4 +108,6 @@ def main(mode, *words):
 
 
 if __name__ == "__main__":
+    if sys.argv[1:] in (["-h"], ["--help"]):
+        sys.exit(print(__doc__.strip()))
     main(*sys.argv[1:])

@@ -1,9 +1,10 @@
-"""What the pages name: other pages and their titles, files, the cells of tables, and the crates."""
+"""What the pages name: other pages and their titles, files, the cells of tables, and the crates; and the usage of each test."""
 from __future__ import annotations
 
 import functools
 import pathlib
 import re
+import subprocess
 import sys
 
 from cases import Differs, expect
@@ -14,6 +15,9 @@ import wrap
 
 # The most words of a cell.
 MOST_WORDS = 24
+
+# How soon a test must say how it is used, in seconds.
+SOON = 10
 
 # A link, with what it leads to; a code span.
 LINK = re.compile(r"\[[^]]*\]\(([^)\s]+)\)")
@@ -162,6 +166,14 @@ def each_file_says_what_it_is_about() -> None:
     expect([name_of(it) for it in files if not it.read_text(encoding="utf-8").startswith("-- ")], [], "files that begin without one")
 
 
+def each_test_says_how_it_is_used() -> None:
+    """A case: each program of tests/ answers --help at once."""
+    programs = [it for it in sorted((TOP / "tests").iterdir()) if it.is_file() and it.read_bytes().startswith(b"#!")]
+    for path in programs:
+        ran = subprocess.run([path, "--help"], capture_output=True, text=True, timeout=SOON)
+        expect((ran.returncode, "usage:" in ran.stdout.lower()), (0, True), f"the status of tests/{path.name} --help, and its usage")
+
+
 CHECKS = {
     "links": links_lead_somewhere,
     "files": files_exist,
@@ -174,6 +186,7 @@ OF_ALL = {
     "crates of GATE": the_gate_counts_the_edits_of_each_crate,
     "the house": no_storey_is_built_on_one_above_it,
     "first lines of files": each_file_says_what_it_is_about,
+    "usage of tests": each_test_says_how_it_is_used,
 }
 
 

@@ -144,8 +144,10 @@ class Run:
 
     def heed(self):
         """From now on no signal ends this command before all its processes have ended."""
-        for it in (*ENDINGS, signal.SIGHUP):
+        for it in ENDINGS:
             signal.signal(it, self.end)
+        if signal.getsignal(signal.SIGHUP) != signal.SIG_IGN:
+            signal.signal(signal.SIGHUP, self.end)
         signal.signal(signal.SIGTTOU, signal.SIG_IGN)
 
     def end(self, number, _frame=None):

@@ -11,7 +11,6 @@ pub fn ending_of_host(end: End) -> (u8, &'static str) {
         End::Lost => (0, "host: another host has won its generation"),
         End::Orphaned => (0, "host: the host that sent it the machine is gone"),
         End::OutOfMemory => (4, "host: out of memory"),
-        End::NoClock => (5, "host: the clock cannot be read"),
         End::Diverged => (7, "host: what came is not of its machine's run"),
     }
 }

@@ -15,7 +15,7 @@ use event_callbacks::{Callbacks, Completes, plain_completions};
 use guest_board::Setup;
 use host_node::{End, Mail, Settings, serve};
 use i8080_words::R;
-use key_room::KeyRoom;
+use key_room::{KeyRoom, OutstandingWrites};
 use std::alloc::Global;
 use std::io::{Read, Write};
 use std::sync::{Arc, Wait};
@@ -90,7 +90,7 @@ fn run_setup<
 
 /// Runs a host that boots with this, over a stream of frames to it and one from it, until there is a reason to end.
 pub fn run_booted<
-    B: Copies<K> + KeyRoom + Drop,
+    B: Copies<K> + KeyRoom + OutstandingWrites + Drop,
     K: Drop,
     H: Threads + Wait + Clock + Copy + Drop + Send + Sync + 'static,
     I: Read + Drop + Send + 'static,
@@ -103,7 +103,7 @@ pub fn run_booted<
     booted: Booted<B, K>,
     streams: (I, O),
 ) -> R<End>
-    ensures { IfOk result (λ end. HasServed B.state B.machine B.copied drives booted) }
+    ensures { IfOk result (HasServed B.state B.machine B.copied drives booted) }
 {
     let (reader, writer) = streams;
     let mine = Arc::new(alloc, Parker::new())?;

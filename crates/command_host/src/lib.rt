@@ -10,6 +10,7 @@ mod opening;
 mod outside;
 mod places;
 mod screen;
+mod writing;
 
 pub use booting::Booted;
 pub use ending::{ending_of_host, ending_of_hosts};

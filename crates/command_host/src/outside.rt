@@ -1,12 +1,14 @@
 //! The outside in a process: what its machine boots with and then keys come on one stream, what its terminal accepts goes on
 //! another, and its hosts are at the ends of named pipes.
 ghost use Rattle.std.specs.Prelude.{IfOk};
-ghost use Rattle.command_host.specs.Serving.{HasEnded};
+ghost use Rattle.command_host.specs.Serving.{HasEnded, HasRun, OpensFor};
+ghost use Rattle.command_host.specs.Showing.{BeginsInto};
 
 use crate::keys::{KeyReader, read_keys};
 use crate::opening::read_opening;
 use crate::places::{Pipes, add_places};
-use crate::screen::{ScreenWriter, show_all};
+use crate::screen::ScreenWriter;
+use crate::writing::{end_showing, start_showing};
 use command_ending::Failure;
 use command_hosts::{HostsEnd, PortEnd, Quit, Session, run_hosts};
 use command_input::{Input, Language, read_input};
@@ -50,7 +52,9 @@ pub fn run_outside<
     alloc: Global,
     order: &HostsOrder,
     streams: OutsideStreams<R, W, N>,
-) -> Result<HostsEnd, Failure> {
+) -> Result<HostsEnd, Failure>
+    ensures { IfOk result (λ end. HasRun N W.contents order.now.images.items end streams.writer) }
+{
     let OutsideStreams {
         mut reader,
         writer,
@@ -100,7 +104,10 @@ fn session_of<N: Write + Drop>(
     alloc: Global,
     input: &Input,
     notes: N,
-) -> R<(Session<MemoryStore, N>, Ends)> {
+) -> R<(Session<MemoryStore, N>, Ends)>
+    ensures screen { IfOk result (λ opened. BeginsInto opened.0.first.screen opened.1.shown) }
+    ensures opens { IfOk result (λ opened. OpensFor input.now opened.0) }
+{
     let store = MemoryStore::at_boot(alloc, input.script.setup.guest.drives, &input.sectors)?;
     let (first, first_keys) = RingBuffer::new(alloc, BYTES)?;
     let (second, second_keys) = RingBuffer::new(alloc, BYTES)?;
@@ -139,7 +146,8 @@ fn run_session<
     streams: (R, W),
     mine: Arc<Parker>,
 ) -> Result<HostsEnd, Failure>
-    ensures { IfOk result (λ end. HasEnded end session) }
+    requires { BeginsInto session.first.screen ends.shown }
+    ensures { IfOk result (λ end. HasEnded W.contents end session streams.1) }
 {
     let (source, sink) = streams;
     let Ends {
@@ -160,14 +168,8 @@ fn run_session<
     if hearing.is_err() {
         return Err(Failure::OutOfMemory);
     }
-    let writer = ScreenWriter { sink, shown };
-    let Ok(showing) = thread::spawn(&rt, move || show_all(&rt, writer).1.is_ok()) else {
-        return Err(Failure::OutOfMemory);
-    };
+    let showing = start_showing(rt, ScreenWriter { sink, shown })?;
     let end = run_hosts(&rt, alloc, &mut session, &mine);
-    drop(session);
-    if !showing.join(&rt) {
-        return Err(Failure::InputOrOutput);
-    }
+    end_showing(rt, showing, session.into_screen())?;
     Ok(end)
 }

@@ -1,4 +1,5 @@
 //! The places of hosts at the outside: two named pipes for each, opened by the threads that read and write them.
+ghost use Rattle.command_host.specs.Serving.{AddsPlaces};
 
 use command_hosts::Session;
 use frame_streams::{FrameReader, FrameWriter, read_frames, write_frames};
@@ -25,6 +26,7 @@ pub(crate) struct Pipes<'a> {
 }
 
 /// Adds places for hosts, so many, to a session. Whoever reads a host's frames wakes the session's loop.
+#[tactic(auto, using(crate::proofs::Starting::adds_none, crate::proofs::Starting::adds_same, crate::proofs::Starting::adds_one))]
 pub(crate) fn add_places<
     H: Threads + Wait + Clock + Copy + Drop + Send + Sync + 'static,
     D: SectorStore,
@@ -36,7 +38,9 @@ pub(crate) fn add_places<
     count: u64,
     mine: &Arc<Parker>,
     session: &mut Session<D, N>,
-) -> R<()> {
+) -> R<()>
+    ensures { AddsPlaces session.old session.new }
+{
     for place in 0..count {
         let from = read_place(rt, alloc, pipes, place, mine)?;
         let (to, wake) = write_place(rt, alloc, pipes, place)?;

@@ -1,8 +1,8 @@
 //! The user's end of one port: a keyboard, a screen, and which keys go to the live host now.
-ghost use Rattle.std.specs.Prelude.{◌≡◌, true};
-ghost use Rattle.outside_switch.specs.Goes.{Goes};
+ghost use Rattle.std.specs.Prelude.{◌≡◌, [], None, false, true};
+ghost use Rattle.outside_switch.specs.Goes.{GoesWith};
 ghost use Rattle.outside_switch.specs.Meets.{seen};
-ghost use Rattle.command_hosts.specs.Runs.{IsOver};
+ghost use Rattle.command_hosts.specs.Ports.{BeginsAt, HearsTaken, IsOver, Rests, SendsNext, Types, TypesKeys};
 
 use outside_switch::Switch;
 use pair_lines::{Keyboard, Screen};
@@ -35,7 +35,9 @@ pub struct PortEnd {
 
 impl PortEnd {
     /// The end of a port at which nothing was typed yet.
-    pub fn new(keyboard: Keyboard, screen: Screen) -> PortEnd {
+    pub fn new(keyboard: Keyboard, screen: Screen) -> PortEnd
+        ensures { (result.keyboard ≡ keyboard) × (result.screen ≡ screen) × (result.waiting ≡ None) }
+    {
         PortEnd {
             keyboard,
             screen,
@@ -47,10 +49,18 @@ impl PortEnd {
         }
     }
 
+    /// The screen, as it is now.
+    pub(crate) fn into_screen(self) -> Screen
+        ensures { result ≡ self.screen }
+    {
+        let PortEnd { screen, .. } = self;
+        screen
+    }
+
     /// Types the keys that have come. Returns whether one was typed.
-    #[tactic(auto, using(outside_switch::proofs::Going::nothing_yet, outside_switch::proofs::Going::and_then))]
+    #[tactic(auto, using(crate::proofs::Typing::none_typed, crate::proofs::Typing::more_typed))]
     pub(crate) fn type_keys<D: SectorStore>(&mut self, switch: &mut Switch<D>, port: u8) -> bool
-        ensures { Goes (seen switch.old) (seen switch.new) }
+        ensures { TypesKeys port self.old self.new (seen switch.old) (seen switch.new) }
     {
         let before = self.typed;
         for _ in 0..KEYS_A_TURN {
@@ -62,9 +72,9 @@ impl PortEnd {
     }
 
     // Types the next key, if there is one and its terminal takes it. One that is refused waits.
-    #[tactic(auto, using(outside_switch::proofs::Going::nothing_yet, outside_switch::proofs::Going::and_then))]
+    #[tactic(auto, using(crate::proofs::Typing::none_came, crate::proofs::Typing::refused, crate::proofs::Typing::key_typed))]
     fn type_next<D: SectorStore>(&mut self, switch: &mut Switch<D>, port: u8) -> bool
-        ensures { Goes (seen switch.old) (seen switch.new) }
+        ensures { TypesKeys port self.old self.new (seen switch.old) (seen switch.new) }
     {
         let Some(key) = self.next_key() else {
             return false;
@@ -78,7 +88,12 @@ impl PortEnd {
     }
 
     // The next key, which waits until it is typed.
-    fn next_key(&mut self) -> Option<u8> {
+    #[tactic(auto, using(crate::proofs::Typing::types_none, crate::proofs::Typing::types_next))]
+    fn next_key(&mut self) -> Option<u8>
+        ensures types { Types [] self.old self.new }
+        ensures waits { result ≡ self.new.waiting }
+        ensures screen { self.new.screen ≡ self.old.screen }
+    {
         if self.waiting.is_none() {
             self.waiting = self.keyboard.next();
         }
@@ -86,14 +101,17 @@ impl PortEnd {
     }
 
     /// Another host is live, and has taken so many keys: those after them are sent at once.
-    pub(crate) fn begin_anew(&mut self, taken: u64) {
+    pub(crate) fn begin_anew(&mut self, taken: u64)
+        ensures rests { Rests self.old self.new }
+        ensures begins { BeginsAt taken self.new }
+    {
         self.taken = taken;
         self.next = taken;
     }
 
     /// Sends keys to the live host, which has taken so many: those that were not sent yet, and all that it has not taken if nothing
     /// was taken or sent for a while.
-    #[tactic(auto, using(outside_switch::proofs::Going::nothing_yet, outside_switch::proofs::Going::and_then))]
+    #[tactic(auto, using(outside_switch::proofs::Going::still, crate::proofs::Typing::quiet_on, crate::proofs::Typing::rests_on))]
     pub(crate) fn send_keys<D: SectorStore>(
         &mut self,
         switch: &mut Switch<D>,
@@ -102,7 +120,8 @@ impl PortEnd {
         line: (u8, u8),
         taken: u64,
     )
-        ensures { Goes (seen switch.old) (seen switch.new) }
+        ensures goes { GoesWith [] (seen switch.old) (seen switch.new) }
+        ensures rests { Rests self.old self.new }
     {
         self.see_taken(now, taken);
         for _ in 0..WINDOW {
@@ -113,7 +132,10 @@ impl PortEnd {
     }
 
     // The live host has taken so many keys.
-    fn see_taken(&mut self, now: u64, taken: u64) {
+    fn see_taken(&mut self, now: u64, taken: u64)
+        ensures rests { Rests self.old self.new }
+        ensures hears { HearsTaken taken self.old self.new }
+    {
         if taken > self.taken {
             self.taken = taken;
             self.at = now;
@@ -124,7 +146,7 @@ impl PortEnd {
     }
 
     // Sends the next key to the live host, if there is one within the window. Returns false if none went.
-    #[tactic(auto, using(outside_switch::proofs::Going::nothing_yet, outside_switch::proofs::Going::and_then))]
+    #[tactic(auto, using(outside_switch::proofs::Going::still))]
     fn send_next<D: SectorStore>(
         &mut self,
         switch: &mut Switch<D>,
@@ -132,7 +154,10 @@ impl PortEnd {
         now: u64,
         line: (u8, u8),
     ) -> bool
-        ensures { Goes (seen switch.old) (seen switch.new) }
+        ensures goes { GoesWith [] (seen switch.old) (seen switch.new) }
+        ensures rests { Rests self.old self.new }
+        ensures sends { result ≡ true → SendsNext line.0 line.1 self.old self.new (seen switch.old) (seen switch.new) }
+        ensures waits { result ≡ false → self.new ≡ self.old }
     {
         let (place, port) = line;
         if self.next >= self.typed || self.next >= self.taken.saturating_add(WINDOW) {

@@ -28,7 +28,7 @@ pub fn run_hosts<D: SectorStore, N: Write + Drop, C: Wait + Clock>(
 }
 
 // Serves the hosts until there is a reason to end.
-#[tactic(auto, using(outside_switch::proofs::Going::nothing_yet, outside_switch::proofs::Going::and_then))]
+#[tactic(auto, using(crate::proofs::Going::stays))]
 fn serve<D: SectorStore, N: Write + Drop, C: Wait + Clock>(
     rt: &C,
     alloc: Global,

@@ -1,13 +1,17 @@
 //! The outside of a pair: its switch, the user's ends of both ports, and what the turns remember.
-ghost use Rattle.std.specs.Prelude.{◌≡◌, [], IfOk};
+ghost use Rattle.std.specs.Prelude.{◌≡◌, [], IfErr, IfOk, IsOkUnless, OnErr, OnOk, Some, if◌then◌else◌, length, nat_lt};
+ghost use Rattle.i8080_words.specs.declared.refusal.Fault.TheVariants.{OutOfMemory, Unknown};
 ghost use Rattle.outside_devices.specs.Held.{at_boot};
+ghost use Rattle.outside_switch.specs.Goes.{Adds};
+ghost use Rattle.outside_switch.specs.declared.line.HostLine.{HostLine};
 ghost use Rattle.outside_switch.specs.Meets.{seen};
 
 use crate::port::PortEnd;
 use i8080_words::R;
 use outside_switch::Switch;
+use pair_lines::Screen;
 use rtrb::{Consumer, Producer};
-use shared_disk::SectorStore;
+use shared_disk::{SectorStore, SharedDisk};
 use std::alloc::Global;
 use std::io::Write;
 use std::sync::Arc;
@@ -62,8 +66,9 @@ impl<D: SectorStore, N: Write + Drop> Session<D, N> {
         quits: Consumer<Quit>,
         notes: N,
     ) -> R<Session<D, N>>
-        ensures { IfOk result (λ session. seen session.switch
-            ≡ record { devices = record (at_boot (D.records store) (D.may_fail store)) { hosts = 2 }; lines = [] }) }
+        ensures ok { IfOk result (λ session. (session.first ≡ first) × (session.second ≡ second) × (seen session.switch
+            ≡ record { devices = record (at_boot (D.records store) (D.may_fail store)) { hosts = 2 }; lines = [] })) }
+        ensures only_memory { IsOkUnless result OutOfMemory }
     {
         let switch = Switch::new(alloc, store)?;
         Ok(Session {
@@ -82,19 +87,37 @@ impl<D: SectorStore, N: Write + Drop> Session<D, N> {
         })
     }
 
-    /// One host more, by its line.
+    /// One host more, by its line. `Unknown` if a byte names no more places.
     pub fn add(
         &mut self,
         from: Consumer<Vec<u8>>,
         to: Producer<Vec<u8>>,
         wake: Arc<Parker>,
-    ) -> R<()> {
+    ) -> R<()>
+        ensures ok { OnOk result ((line : HostLine) × (line.from ≡ from) × (line.to ≡ Some to)
+            × Adds line (seen self.old.switch) (seen self.new.switch)) }
+        ensures err { OnErr result (seen self.new.switch ≡ seen self.old.switch) }
+        ensures why { IfErr result
+            (λ fault. fault ≡ (if nat_lt (length self.old.switch.lines.items) 256 then OutOfMemory else Unknown)) }
+        ensures ports { (self.new.first ≡ self.old.first) × (self.new.second ≡ self.old.second) }
+    {
         self.switch.add(from, to, wake)
     }
 
-    /// The notes.
-    pub fn into_notes(self) -> N {
-        let Session { notes, .. } = self;
-        notes
+    /// The screen of the first port, on which nothing more is shown.
+    pub fn into_screen(self) -> Screen
+        ensures { result ≡ self.first.screen }
+    {
+        let Session { first, .. } = self;
+        first.into_screen()
+    }
+
+    /// The disk, as it is now, and the notes.
+    pub fn into_parts(self) -> (SharedDisk<D>, N)
+        ensures disk { D.records result.0 ≡ self.switch.devices.records }
+        ensures notes { result.1 ≡ self.notes }
+    {
+        let Session { switch, notes, .. } = self;
+        (switch.into_disk(), notes)
     }
 }

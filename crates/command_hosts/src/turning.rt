@@ -1,16 +1,19 @@
 //! One turn of the outside.
-ghost use Rattle.std.specs.Prelude.{IfSome, ◌≡◌, None, true};
-ghost use Rattle.outside_switch.specs.Meets.{seen};
-ghost use Rattle.outside_switch.specs.Goes.{Goes};
-ghost use Rattle.command_hosts.specs.Runs.{IsWhy, Went, have_no_machine};
+ghost use Rattle.std.specs.Prelude.{IfSome, ◌≡◌, ◌∷◌, [], true};
+ghost use Rattle.outside_switch.specs.Passing.{Shown, passed_of};
+ghost use Rattle.outside_switch.specs.declared.heard.Heard.{Heard};
+ghost use Rattle.outside_switch.specs.declared.heard.Heard.TheVariants as of_heard;
+ghost use Rattle.outside_switch.specs.Heeds.{HasRoomFor};
+ghost use Rattle.command_hosts.specs.Ports.{Serves};
+ghost use Rattle.command_hosts.specs.Runs.{IsTold, IsWhy, MayShow, SeesLive, Went, have_no_machine};
 ghost use Rattle.command_hosts.specs.declared.session.HostsEnd.TheVariants as ending;
 
 use crate::live::{Live, live_of, spare_for};
 use crate::notes::{note, words_of};
 use crate::session::{HostsEnd, Session};
+use event_callbacks::PORTS;
 use outside_switch::{Heard, HostLine};
 use pair_events::Role;
-use pair_lines::Screen;
 use shared_disk::SectorStore;
 use std::alloc::Global;
 use std::io::Write;
@@ -32,7 +35,6 @@ const STOPPED: u64 = 250_000;
 
 impl<D: SectorStore, N: Write + Drop> Session<D, N> {
     /// One turn, at this time. Returns whether anything has come.
-    #[tactic(auto, using(outside_switch::proofs::Going::nothing_yet, outside_switch::proofs::Going::and_then))]
     pub(crate) fn turn(&mut self, alloc: Global, now: u64) -> bool
         ensures { Went self.old self.new }
     {
@@ -46,8 +48,9 @@ impl<D: SectorStore, N: Write + Drop> Session<D, N> {
     }
 
     // If the outside was itself stopped, what it has not seen meanwhile says nothing.
+    #[tactic(auto, using(crate::proofs::Going::same))]
     fn see_stop(&mut self, now: u64)
-        ensures { self.new.switch ≡ self.old.switch }
+        ensures { Went self.old self.new }
     {
         if now.saturating_sub(self.moments.turned) > STOPPED {
             self.moments.moved = now;
@@ -56,21 +59,44 @@ impl<D: SectorStore, N: Write + Drop> Session<D, N> {
     }
 
     // Types the keys that have come at both ports.
-    #[tactic(auto, using(outside_switch::proofs::Going::nothing_yet, outside_switch::proofs::Going::and_then))]
     fn take_keys(&mut self, now: u64) -> bool
         ensures { Went self.old self.new }
     {
-        let has_first = self.first.type_keys(&mut self.switch, 0);
-        let has_second = self.second.type_keys(&mut self.switch, 1);
-        if !has_first && !has_second {
-            return false;
+        let has_first = self.type_first();
+        let has_second = self.type_second();
+        let has_keys = has_first | has_second;
+        self.see_move(now, has_keys);
+        has_keys
+    }
+
+    // Types the keys that have come at the first port.
+    #[tactic(auto, using(crate::proofs::Going::types_first))]
+    fn type_first(&mut self) -> bool
+        ensures { Went self.old self.new }
+    {
+        self.first.type_keys(&mut self.switch, 0)
+    }
+
+    // Types the keys that have come at the second port.
+    #[tactic(auto, using(crate::proofs::Going::types_second))]
+    fn type_second(&mut self) -> bool
+        ensures { Went self.old self.new }
+    {
+        self.second.type_keys(&mut self.switch, 1)
+    }
+
+    // Remembers when something moved.
+    #[tactic(auto, using(crate::proofs::Going::same))]
+    fn see_move(&mut self, now: u64, has_moved: bool)
+        ensures { Went self.old self.new }
+    {
+        if has_moved {
+            self.moments.moved = now;
         }
-        self.moments.moved = now;
-        true
     }
 
     // Hears the hosts at all places.
-    #[tactic(auto, using(outside_switch::proofs::Going::nothing_yet, outside_switch::proofs::Going::and_then))]
+    #[tactic(auto, using(crate::proofs::Going::stays, crate::proofs::Going::and_then))]
     fn hear_all(&mut self, alloc: Global, now: u64) -> bool
         ensures { Went self.old self.new }
     {
@@ -82,7 +108,7 @@ impl<D: SectorStore, N: Write + Drop> Session<D, N> {
     }
 
     // Hears the host at one place.
-    #[tactic(auto, using(outside_switch::proofs::Going::nothing_yet, outside_switch::proofs::Going::and_then))]
+    #[tactic(auto, using(crate::proofs::Going::stays, crate::proofs::Going::and_then))]
     fn hear_host(&mut self, alloc: Global, now: u64, place: u8) -> bool
         ensures { Went self.old self.new }
     {
@@ -96,20 +122,32 @@ impl<D: SectorStore, N: Write + Drop> Session<D, N> {
         has_heard
     }
 
-    // Hears the next body of a host. Returns false if there is none.
-    #[tactic(auto, using(outside_switch::proofs::Going::nothing_yet, outside_switch::proofs::Going::and_then))]
+    // Hears the next body of a host, and shows what there is to show. Returns false if there is none.
     fn hear_next(&mut self, alloc: Global, now: u64, place: u8) -> bool
         ensures { Went self.old self.new }
     {
-        let rooms = [self.first.screen.has_room(), self.second.screen.has_room()];
+        let rooms = self.rooms();
         let heard = self.switch.hear(alloc, place, rooms);
         self.tell(alloc, now, place, heard);
         !matches!(heard, Heard::Nothing)
     }
 
+    // Whether the screen of each port has room.
+    fn rooms(&mut self) -> [bool; PORTS]
+        ensures switch { self.new.switch ≡ self.old.switch }
+        ensures first { Serves 0 [] self.old.first self.new.first }
+        ensures second { Serves 1 [] self.old.second self.new.second }
+        ensures room { (heard : Heard) → HasRoomFor result heard
+            → MayShow self.new.first.screen self.new.second.screen heard }
+    {
+        [self.first.screen.has_room(), self.second.screen.has_room()]
+    }
+
     // Shows and tells what was heard of a host.
+    #[tactic(auto, using(crate::proofs::Going::told_since, crate::proofs::Going::tells_nothing))]
     fn tell(&mut self, alloc: Global, now: u64, place: u8, heard: Heard)
-        ensures { self.new.switch ≡ self.old.switch }
+        requires { MayShow self.old.first.screen self.old.second.screen heard }
+        ensures { IsTold (passed_of heard) self.old self.new }
     {
         if let Some(words) = words_of(heard) {
             note(&mut self.notes, alloc, place, words);
@@ -117,24 +155,32 @@ impl<D: SectorStore, N: Write + Drop> Session<D, N> {
         match heard {
             Heard::Shown { port, byte } => self.show(now, port, byte),
             Heard::Written => self.moments.moved = now,
-            _ => {}
+            Heard::Nothing => {}
+            Heard::Met => {}
+            Heard::Unwritten => {}
+            Heard::Became(_) => {}
+            Heard::Won(_) => {}
+            Heard::Lost(_) => {}
+            Heard::Failed => {}
         }
     }
 
     // Shows a byte that a terminal has accepted, since its screen had room.
+    #[tactic(auto, using(crate::proofs::Going::shows_first, crate::proofs::Going::shows_second))]
     fn show(&mut self, now: u64, port: u8, byte: u8)
-        ensures { self.new.switch ≡ self.old.switch }
+        requires { MayShow self.old.first.screen self.old.second.screen (of_heard.Shown port byte) }
+        ensures { IsTold (Shown port byte ∷ []) self.old self.new }
     {
         self.moments.moved = now;
         if port == 0 {
-            show_on(&mut self.first.screen, port, byte);
+            self.first.screen.show(port, byte);
         } else {
-            show_on(&mut self.second.screen, port, byte);
+            self.second.screen.show(port, byte);
         }
     }
 
     // Hosts whose streams have ended are gone.
-    #[tactic(auto, using(outside_switch::proofs::Going::nothing_yet, outside_switch::proofs::Going::and_then))]
+    #[tactic(auto, using(crate::proofs::Going::stays, crate::proofs::Going::and_then))]
     fn see_ends(&mut self, alloc: Global)
         ensures { Went self.old self.new }
     {
@@ -144,7 +190,7 @@ impl<D: SectorStore, N: Write + Drop> Session<D, N> {
     }
 
     // If the stream of the host at a place has ended, it is gone.
-    #[tactic(auto, using(outside_switch::proofs::Going::nothing_yet, outside_switch::proofs::Going::and_then))]
+    #[tactic(auto, using(crate::proofs::Going::switched, crate::proofs::Going::switched_twice))]
     fn see_end(&mut self, alloc: Global, place: u8)
         ensures { Went self.old self.new }
     {
@@ -156,7 +202,7 @@ impl<D: SectorStore, N: Write + Drop> Session<D, N> {
     }
 
     // Sends the live host its keys, and has it begin with a spare if it is alone.
-    #[tactic(auto, using(outside_switch::proofs::Going::nothing_yet, outside_switch::proofs::Going::and_then))]
+    #[tactic(auto, using(crate::proofs::Going::stays, crate::proofs::Going::and_then))]
     fn serve_live(&mut self, alloc: Global, now: u64)
         ensures { Went self.old self.new }
     {
@@ -171,8 +217,10 @@ impl<D: SectorStore, N: Write + Drop> Session<D, N> {
     }
 
     // Another host may be live: all keys that it has not taken are sent to it.
+    #[tactic(auto, using(crate::proofs::Going::stays, crate::proofs::Going::rests))]
     fn see_live(&mut self, live: &Live)
-        ensures { self.new.switch ≡ self.old.switch }
+        ensures went { Went self.old self.new }
+        ensures anew { SeesLive live.now self.old self.new }
     {
         let who = (live.place, live.report.generation);
         if self.moments.live == Some(who) {
@@ -185,7 +233,7 @@ impl<D: SectorStore, N: Write + Drop> Session<D, N> {
     }
 
     // Sends the live host the keys of both ports.
-    #[tactic(auto, using(outside_switch::proofs::Going::nothing_yet, outside_switch::proofs::Going::and_then))]
+    #[tactic(auto, using(crate::proofs::Going::sends))]
     fn send_keys(&mut self, alloc: Global, now: u64, live: &Live)
         ensures { Went self.old self.new }
     {
@@ -197,7 +245,7 @@ impl<D: SectorStore, N: Write + Drop> Session<D, N> {
     }
 
     // Has a host that is alone begin with a spare, if there is one.
-    #[tactic(auto, using(outside_switch::proofs::Going::nothing_yet, outside_switch::proofs::Going::and_then))]
+    #[tactic(auto, using(crate::proofs::Going::stays, crate::proofs::Going::switched))]
     fn begin(&mut self, alloc: Global, now: u64, live: &Live)
         ensures { Went self.old self.new }
     {
@@ -218,7 +266,7 @@ impl<D: SectorStore, N: Write + Drop> Session<D, N> {
     }
 
     // Tells all hosts that the switch is there.
-    #[tactic(auto, using(outside_switch::proofs::Going::nothing_yet, outside_switch::proofs::Going::and_then))]
+    #[tactic(auto, using(crate::proofs::Going::stays, crate::proofs::Going::switched))]
     fn tick(&mut self, alloc: Global, now: u64)
         ensures { Went self.old self.new }
     {
@@ -230,8 +278,9 @@ impl<D: SectorStore, N: Write + Drop> Session<D, N> {
     }
 
     /// Why all ends now, if it does.
+    #[tactic(auto, using(crate::proofs::Going::same))]
     pub(crate) fn end(&mut self, now: u64) -> Option<HostsEnd>
-        ensures went { self.new.switch ≡ self.old.switch }
+        ensures went { Went self.old self.new }
         ensures why { IfSome result (λ end. IsWhy end self.new) }
     {
         if self.quits.pop().is_ok() {
@@ -254,13 +303,6 @@ impl<D: SectorStore, N: Write + Drop> Session<D, N> {
             return false;
         }
         now.saturating_sub(self.moments.moved) >= SETTLED
-    }
-}
-
-// Shows a byte, if the screen has room.
-fn show_on(screen: &mut Screen, port: u8, byte: u8) {
-    if screen.has_room() {
-        screen.show(port, byte);
     }
 }
 

@@ -22,7 +22,7 @@ use Rattle.host_law.specs.Frame as law
 use Rattle.host_law.specs.Host as host
 use Rattle.host_node.proofs.Calling.{told}
 use Rattle.host_node.proofs.Going.{once, ran_as, ran_one}
-use Rattle.host_node.proofs.Roles.{keeps_reads, never_spare}
+use Rattle.host_node.proofs.Roles.{keeps_so}
 use Rattle.host_node.specs.Goes as goes
 use Rattle.host_node.specs.Goes.{Goes}
 use Rattle.host_node.specs.Hosts.{HasJoined, HasNode, SameHost}
@@ -90,6 +90,7 @@ module _ {B S : Type 0} {H : Type 0} (state : B → S) (M : Machine S) (copied :
             (subst (λ c. IsFrom c (Tells (notice.Begin generation place))) (sym came) from) brought in
             let act = law.answering (law.MayBegin generation) (law.Recruits generation count Shared l.list) in
             let step = steps-follow M C me x (record y { list = l.list }) made.y act l.follows made.step in
+            let k = keeps_so M C me (record y { list = l.list }) made.y act made.step h.1.other in
             record {
               y = step.next;
               ran = ran_as M C drives me x step.next frames act (went.bytes ∷ []) step.ran
@@ -105,8 +106,8 @@ module _ {B S : Type 0} {H : Type 0} (state : B → S) (M : Machine S) (copied :
                   y = made.y;
                   follows = step.follows;
                   is = made.is;
-                  other = never_spare M C me (record y { list = l.list }) made.y act made.step h.1.other;
-                  reads = keeps_reads M C me (record y { list = l.list }) made.y act made.step h.1.other ∙ h.1.reads;
+                  other = k.other h.1.other;
+                  reads = k.reads ∙ h.1.reads;
                 },
               );
             });

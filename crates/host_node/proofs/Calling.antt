@@ -14,7 +14,7 @@ use Rattle.host_law.specs.Frame.{Act, Came, Frame, quiet, sending, taking}
 use Rattle.host_law.specs.Host as host
 use Rattle.host_law.specs.Host.{HostStep}
 use Rattle.host_node.proofs.Going.{once, ran_as}
-use Rattle.host_node.proofs.Roles.{keeps_reads, never_spare}
+use Rattle.host_node.proofs.Roles.{keeps_so}
 use Rattle.host_node.specs.Goes as goes
 use Rattle.host_node.specs.Goes.{AllBring, Goes, RunsTo, Says}
 use Rattle.host_node.specs.Hosts.{HasJoined, HasNode, SameHost}
@@ -63,6 +63,7 @@ module _ {B S : Type 0} {H : Type 0} (state : B → S) (M : Machine S) (copied :
         let h = subst (λ h. HasNode state M C drives old.number me h x) was hosted in
         let made = call C drives me copies (number.number ∙ h.0) h.1.y h.1.other h.1.is frames brought in
         let l = steps-follow M C me x h.1.y made.made.y made.act h.1.follows made.made.step in
+        let k = keeps_so M C me h.1.y made.made.y made.act made.made.step h.1.other in
         record {
           y = l.next;
           ran = ran_as M C drives me x l.next frames made.act said l.ran made.came made.says;
@@ -72,8 +73,8 @@ module _ {B S : Type 0} {H : Type 0} (state : B → S) (M : Machine S) (copied :
               y = made.made.y;
               follows = l.follows;
               is = made.made.is;
-              other = never_spare M C me h.1.y made.made.y made.act made.made.step h.1.other;
-              reads = keeps_reads M C me h.1.y made.made.y made.act made.made.step h.1.other ∙ h.1.reads;
+              other = k.other h.1.other;
+              reads = k.reads ∙ h.1.reads;
             },
           );
         });

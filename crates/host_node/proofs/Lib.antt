@@ -10,3 +10,7 @@ pub mod Sent
 pub mod Asked
 pub mod Begun
 pub mod Reported
+pub mod Looking
+pub mod Waiting
+pub mod Ending
+pub mod Booting

@@ -1,7 +1,8 @@
 -- How a host goes on when it reports: it tells the terminals how many keys are covered.
 use Rattle.std.proofs.Common.{Bool, [], ap, append-nil, arith, cond, eqb, false, refl, subst, sym, true, ℕ, ◌++◌, ◌<◌, ◌∙◌, ◌∷◌, ◌≡◌, ◌≢◌, inl}
-use Rattle.std.specs.Prelude.{slice_index}
+use Rattle.std.specs.Prelude.{slice_index, Result, Ok, Err}
 use Rattle.ft_node.specs.AnyNode.{IsNode}
+use Rattle.ft_node.specs.Calls as calls
 use Rattle.ft_node.specs.declared.node.Node as code
 use Rattle.guest_lockstep.specs.Machine.{Machine}
 use Rattle.guest_parts.specs.Guest.{Guest}
@@ -25,9 +26,11 @@ use Rattle.host_node.specs.Goes as goes
 use Rattle.host_node.specs.Goes.{Goes}
 use Rattle.host_node.specs.Hosts.{HasJoined, HasNode, SameHost}
 use Rattle.host_node.specs.Mail.{HasSaid}
-use Rattle.host_node.specs.Reports.{IsCovered}
+use Rattle.host_node.specs.Reports.{HasCovered, IsCovered, Reports, covered_by}
 use Rattle.host_node.specs.declared.host.HostNode.{HostNode}
+use Rattle.host_node.specs.declared.host.Hosted.{Hosted}
 use Rattle.host_node.specs.declared.host.Hosted.TheVariants as hosted
+use Rattle.i8080_words.specs.declared.refusal.Fault.{Fault}
 use Rattle.pair_protocol.specs.Copying.{Copying}
 use Rattle.pair_protocol.specs.Node.{Node, Spare}
 
@@ -52,19 +55,26 @@ told_port M C me x y port keys follows step = by_count (eqb keys 0) refl
         (step (λ zero. (let k = ap (λ n. eqb n 0) (sym zero) ∙ e in absurd (cc)))) in
         record { z = s.next; ran = said false e s.next s.ran; follows = s.follows })
 
+-- what a node tells, if it is told of any key
+tells : {S : Type 0} (M : Machine S) (told : Result ℕ Fault) (y : Node S) (port keys : ℕ) → keys ≡ covered_by told → keys ≢ 0
+    → calls.Tells M port y told → calls.Tells M port y (Ok keys)
+tells M (Ok k) y port keys are some told = subst (λ n. calls.Tells M port y (Ok n)) (sym are) told
+tells M (Err why) y port keys are some told = absurd (some are)
+
 module _ {B S : Type 0} {H : Type 0} (state : B → S) (M : Machine S) (copied : B → Guest) where
   told_step : (C : Copying S) (drives me : ℕ) (n : code.Node B H) (y : Node S) (port keys : ℕ) → y.role ≢ Spare → port < 2
       → IsNode state M C drives n y → IsCovered state M n port keys → keys ≢ 0
       → HostStep M C me y (law.sending (law.TellsKeys port keys)) y
   told_step C drives me n y port keys other within node covered some =
-      (are-steps M C me y other (λ z. Unit {0})).told port keys within (covered C drives y node some)
+      (are-steps M C me y other (λ z. Unit {0})).told port keys within
+      (tells M covered.0 y port keys covered.2 some (covered.1 C drives y node))
 
-  pub reports : (old new : HostNode B H) (n : code.Node B H) (report : Report) → old.node ≡ hosted.Node n
+  reports_node : (old new : HostNode B H) (n : code.Node B H) (report : Report) → old.node ≡ hosted.Node n
       → new.node ≡ old.node → SameHost old new → new.mail.came ≡ old.mail.came
       → HasSaid (Tells (notice.Report report)) old.mail.gone new.mail.gone
       → IsCovered state M n 0 (slice_index report.covered 0) → IsCovered state M n 1 (slice_index report.covered 1)
       → Goes state M copied old new
-  reports old new n report was is same came went first second = once state M copied old new (record {
+  reports_node old new n report was is same came went first second = once state M copied old new (record {
     heard = [];
     said = went.bytes ∷ [];
     came = came ∙ sym (append-nil old.mail.came);
@@ -107,10 +117,28 @@ module _ {B S : Type 0} {H : Type 0} (state : B → S) (M : Machine S) (copied :
   })
 
   -- without a node nothing is covered
-  pub reports_none : (old new : HostNode B H) (report : Report) → new.node ≡ old.node → SameHost old new
+  reports_none : (old new : HostNode B H) (report : Report) → new.node ≡ old.node → SameHost old new
       → new.mail.came ≡ old.mail.came → HasSaid (Tells (notice.Report report)) old.mail.gone new.mail.gone
-      → report.covered ≡ 0 ∷ 0 ∷ [] → Goes state M copied old new
-  reports_none old new report is same came went none =
+      → slice_index report.covered 0 ≡ 0 → slice_index report.covered 1 ≡ 0 → Goes state M copied old new
+  reports_none old new report is same came went first second =
       saying state M copied old new (Tells (notice.Report report)) is same came went
-      (λ drives me. subst (λ c. meaning.Speaks drives me (Tells (notice.Report report))
-      (covered_at 0 (slice_index c 0) ++ covered_at 1 (slice_index c 1))) none (meaning.OfReport report))
+      (λ drives me. subst (λ k. meaning.Speaks drives me (Tells (notice.Report report)) (covered_at 0 k ++ covered_at 1 0)) first
+      (subst (λ k. meaning.Speaks drives me (Tells (notice.Report report))
+      (covered_at 0 (slice_index report.covered 0) ++ covered_at 1 k)) second (meaning.OfReport report)))
+
+  reports_of : (h : Hosted B H) (old new : HostNode B H) (report : Report) → old.node ≡ h → new.node ≡ old.node
+      → SameHost old new → new.mail.came ≡ old.mail.came → HasSaid (Tells (notice.Report report)) old.mail.gone new.mail.gone
+      → HasCovered state M h 0 (slice_index report.covered 0) → HasCovered state M h 1 (slice_index report.covered 1)
+      → Goes state M copied old new
+  reports_of (hosted.Spare callbacks) old new report was is same came went first second =
+      reports_none old new report is same came went first second
+  reports_of (hosted.Node n) old new report was is same came went first second =
+      reports_node old new n report was is same came went first second
+  reports_of hosted.Halted old new report was is same came went first second =
+      reports_none old new report is same came went first second
+
+  pub reports : (old new : HostNode B H) (report : Report) → new.node ≡ old.node → SameHost old new
+      → new.mail.came ≡ old.mail.came → HasSaid (Tells (notice.Report report)) old.mail.gone new.mail.gone
+      → Reports state M old.number old.node report → Goes state M copied old new
+  reports old new report is same came went says =
+      reports_of old.node old new report refl is same came went says.first says.second

@@ -3,5 +3,9 @@ pub mod MailRings
 pub mod Hosts
 pub mod Goes
 pub mod Roles
+pub mod Looks
+pub mod Guests
 pub mod Reports
 pub mod Lagging
+pub mod Ends
+pub mod Boots

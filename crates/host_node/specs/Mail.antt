@@ -1,18 +1,23 @@
 -- What came to a host and what went from it, in bytes, and what is kept of it.
-use Rattle.std.specs.Prelude.{◌≡◌, ℕ, List, [], ◌∷◌, ◌++◌}
+use Rattle.std.specs.Prelude.{◌≡◌, ℕ, ◌==◌, if◌then◌else◌, List, [], ◌∷◌, ◌++◌}
 use Rattle.host_frames.specs.Frames.{IsBodyOf, IsSpelling, Said, Transfers}
 use Rattle.host_frames.specs.declared.frame.Transfer.TheVariants.{Key}
 use Rattle.host_node.specs.declared.mail.KeptKey.{KeptKey}
 use Rattle.pair_protocol.specs.Lawful.{Among}
 
--- the bodies that came, the frames that went, how many more the ring takes that are known of, and the keys of each port
--- that wait
+-- the bodies that came, those that are known to wait, the frames that went, how many more the ring takes that are known of,
+-- and the keys of each port that wait
 pub record Post : Type 0 where
   pub came : List (List ℕ)
+  pub waits : List (List ℕ)
   pub gone : List (List ℕ)
   pub room : ℕ
   pub first : List KeptKey
   pub second : List KeptKey
+
+-- the keys of a port that wait
+abbrev pub keys_at : Post → ℕ → List KeptKey
+keys_at m port = if port == 0 then m.first else m.second
 
 -- some body that came says this
 pub record IsFrom (came : List (List ℕ)) (said : Said) : Type 0 where

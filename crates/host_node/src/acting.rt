@@ -1,14 +1,17 @@
 //! What a host's node does in a turn, by its role.
 ghost use Rattle.host_node.specs.Goes.{Goes};
+ghost use Rattle.host_node.specs.Guests.{KeepsNoKey, OffersKey};
+ghost use Rattle.host_node.specs.Lagging.{IsHeldBack};
+ghost use Rattle.std.specs.Prelude.{◌≡◌, false};
 
-use crate::pace::{AGAIN, End, WRITES};
+use crate::pace::AGAIN;
 use crate::serving::Serving;
 use clone_state::Copies;
-use disk_dcdd::SECTORS;
+use disk_dcdd::{OUTSTANDING, SECTORS};
 use event_callbacks::OpId;
 use guest_lockstep::{ReplayEnd, StopReason};
 use i8080_words::{Fault, R};
-use key_room::KeyRoom;
+use key_room::{KeyRoom, OutstandingWrites};
 
 // How many steps a guest makes before it is offered its next key, unless it idles.
 const BETWEEN_KEYS: u64 = 300;
@@ -26,7 +29,7 @@ const FRESHEN: u64 = 2_000;
 
 const PAGES: u64 = 8;
 
-impl<B: Copies<H> + KeyRoom + Drop, H: Drop> Serving<B, H> {
+impl<B: Copies<H> + KeyRoom + OutstandingWrites + Drop, H: Drop> Serving<B, H> {
     // A primary runs its guest, and sends its log; before its backup is whole, the image.
     #[tactic(auto, using(crate::proofs::Going::stays, crate::proofs::Going::and_then))]
     pub(crate) fn serve_as_primary(&mut self) -> R<bool>
@@ -119,25 +122,45 @@ impl<B: Copies<H> + KeyRoom + Drop, H: Drop> Serving<B, H> {
         Ok(has_taken)
     }
 
-    // Takes a key of a port, if the guest has read the one before it, or idles.
-    #[tactic(auto, using(crate::proofs::Going::stays, crate::proofs::Going::and_then))]
+    // Takes a key of a port, if the guest may be offered one.
+    #[tactic(auto, using(crate::proofs::Going::stays, crate::proofs::Going::and_then, crate::proofs::Looking::offers_none))]
     fn take_key(&mut self, port: u8) -> R<bool>
-        ensures { Goes B.state B.machine B.copied self.old.host self.new.host }
+        ensures goes { Goes B.state B.machine B.copied self.old.host self.new.host }
+        ensures room { self.old.pace.is_idle ≡ false → KeepsNoKey B.state B.machine B.keeps_key self.old.host.node port
+            → self.new.host ≡ self.old.host }
     {
-        if !self.pace.is_idle && !self.host.keeps_key(port) {
+        if !self.may_offer_key(port) {
             return Ok(false);
         }
         self.host.take_key(port)
     }
 
+    // Whether the guest has read the key before the next one of a port, or idles.
+    fn may_offer_key(&self, port: u8) -> bool
+        ensures { OffersKey B.state B.machine B.keeps_key self.now.host.node port self.now.pace.is_idle result }
+    {
+        let has_room = self.host.keeps_key(port);
+        self.pace.is_idle || has_room
+    }
+
     // Makes steps, unless the backup is far behind.
-    #[tactic(auto, using(crate::proofs::Going::stays, crate::proofs::Going::and_then))]
+    #[tactic(auto, using(crate::proofs::Going::stays, crate::proofs::Going::and_then, crate::proofs::Waiting::is_free))]
     fn step(&mut self) -> R<bool>
-        ensures { Goes B.state B.machine B.copied self.old.host self.new.host }
+        ensures goes { Goes B.state B.machine B.copied self.old.host self.new.host }
+        ensures held { IsHeldBack B.state B.machine self.old.host.node self.old.pace.is_copying self.old.pace.lag.heard
+            → self.new.host ≡ self.old.host }
     {
         if self.is_held_back() {
             return Ok(false);
         }
+        self.make_steps()
+    }
+
+    // Makes steps.
+    #[tactic(auto, using(crate::proofs::Going::stays, crate::proofs::Going::and_then))]
+    fn make_steps(&mut self) -> R<bool>
+        ensures { Goes B.state B.machine B.copied self.old.host self.new.host }
+    {
         match self.host.step(self.settings.steps) {
             Ok(ran) => {
                 self.pace.is_idle = matches!(ran.why, StopReason::Refused(Fault::Idle));
@@ -209,32 +232,33 @@ impl<B: Copies<H> + KeyRoom + Drop, H: Drop> Serving<B, H> {
         }
     }
 
-    // Releases writes.
+    // Releases outstanding writes.
     #[tactic(auto, using(crate::proofs::Going::stays, crate::proofs::Going::and_then))]
     fn release_writes(&mut self) -> R<()>
         ensures { Goes B.state B.machine B.copied self.old.host self.new.host }
     {
-        let from = self.pace.next_write;
-        for ahead in 0..WRITES {
-            if !self.release_write(from.saturating_add(ahead))? {
+        for _ in 0..OUTSTANDING {
+            if !self.release_write()? {
                 break;
             }
         }
         Ok(())
     }
 
-    // Releases the write of this number, if it is outstanding. Returns false if no later one can be released.
+    // Releases the next outstanding write. Returns false if no later one can be released.
     #[tactic(auto, using(crate::proofs::Going::stays, crate::proofs::Going::and_then))]
-    fn release_write(&mut self, number: u64) -> R<bool>
+    fn release_write(&mut self) -> R<bool>
         ensures { Goes B.state B.machine B.copied self.old.host self.new.host }
     {
+        let Some(number) = self.host.write_from(self.pace.next_write) else {
+            return Ok(false);
+        };
         match self.host.release(OpId::Write(number)) {
             Ok(true) => {
                 self.pace.next_write = number.saturating_add(1);
                 Ok(true)
             }
             Err(Fault::OutOfMemory) => Err(Fault::OutOfMemory),
-            Err(Fault::NotDue) => Ok(true),
             Ok(false) | Err(_) => Ok(false),
         }
     }
@@ -386,21 +410,9 @@ impl<B: Copies<H> + KeyRoom + Drop, H: Drop> Serving<B, H> {
         Ok(())
     }
 
-    // A joining node says how many parts have come. If its primary is gone, it can never be whole.
-    #[tactic(auto, using(crate::proofs::Going::stays, crate::proofs::Going::and_then))]
-    pub(crate) fn await_parts(&mut self) -> R<bool>
-        ensures { Goes B.state B.machine B.copied self.old.host self.new.host }
-    {
-        if self.pace.is_suspected(self.settings.patience) {
-            self.pace.end = Some(End::Orphaned);
-            return Ok(true);
-        }
-        self.tell_parts()
-    }
-
     // Says how many parts have come, if that was not said.
     #[tactic(auto, using(crate::proofs::Going::stays, crate::proofs::Going::and_then))]
-    fn tell_parts(&mut self) -> R<bool>
+    pub(crate) fn tell_parts(&mut self) -> R<bool>
         ensures { Goes B.state B.machine B.copied self.old.host self.new.host }
     {
         if self.pace.owes_parts && self.host.say_parts(self.pace.parts_here)? {

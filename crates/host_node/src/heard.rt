@@ -43,6 +43,4 @@ pub enum Heard {
     Joined,
     /// The outside is there.
     Tick,
-    /// The process is to end.
-    Stop,
 }

@@ -1,10 +1,13 @@
 //! What a host does with a frame that came: at most one call of its node, or one for each acceptance.
+ghost use Rattle.std.specs.Prelude.{IfErr};
+ghost use Rattle.host_node.specs.Ends.{IsEnd};
 ghost use Rattle.host_node.specs.Goes.{Goes};
 ghost use Rattle.host_node.specs.Mail.{IsFrom};
 ghost use Rattle.host_frames.specs.Frames.{Packet, Tells, Transfers, said_by};
 
 use crate::heard::Heard;
 use crate::host::{HostNode, Hosted};
+use crate::pace::End;
 use crate::sending::PARTS;
 use clone_state::Copies;
 use ft_node::Lead;
@@ -21,18 +24,35 @@ const REPORTED: u8 = 0x42;
 const PART: u8 = 0x50;
 
 impl<B: Copies<H> + Drop, H: Drop> HostNode<B, H> {
-    /// Takes the next frame that has come, if there is one, and says what it was. `OutOfMemory` if there was none for what
-    /// the frame asks.
+    /// Takes the next frame that has come, if there is one, and says what it was; or says why the host ends: it was told to
+    /// stop, or there was no memory for what the frame asks.
     #[tactic(auto, using(crate::proofs::Going::heard_none, crate::proofs::Going::heard_one, crate::proofs::Going::from_last, crate::proofs::Going::and_then))]
-    pub fn hear(&mut self) -> R<Option<Heard>>
-        ensures { Goes B.state B.machine B.copied self.old self.new }
+    pub fn hear(&mut self) -> Result<Option<Heard>, End>
+        ensures goes { Goes B.state B.machine B.copied self.old self.new }
+        ensures why { IfErr result (λ end. IsEnd B.state B.machine B.copied end self.old self.new) }
     {
         let Some(body) = self.mail.next() else {
             return Ok(None);
         };
         match frame_of(&body) {
-            Ok(frame) => Ok(Some(self.take(&frame)?)),
+            Ok(frame) => self.hear_frame(&frame),
             Err(_) => Ok(Some(Heard::Malformed)),
+        }
+    }
+
+    // Takes a frame that came.
+    #[tactic(auto, using(crate::proofs::Going::stays))]
+    fn hear_frame(&mut self, frame: &Frame<'_>) -> Result<Option<Heard>, End>
+        requires { IsFrom self.old.mail.came (said_by frame.now) }
+        ensures goes { Goes B.state B.machine B.copied self.old self.new }
+        ensures why { IfErr result (λ end. IsEnd B.state B.machine B.copied end self.old self.new) }
+    {
+        if let Frame::Notice(Notice::Stop) = frame {
+            return Err(End::Stopped);
+        }
+        match self.take(frame) {
+            Ok(heard) => Ok(Some(heard)),
+            Err(_) => Err(End::OutOfMemory),
         }
     }
 
@@ -141,8 +161,7 @@ impl<B: Copies<H> + Drop, H: Drop> HostNode<B, H> {
                 count,
             } if host == self.peer => Ok(Heard::Progress(Lead { entries, count })),
             Notice::Tick => Ok(Heard::Tick),
-            Notice::Stop => Ok(Heard::Stop),
-            Notice::Progress { .. } | Notice::Suspect(_) | Notice::Report(_) => {
+            Notice::Progress { .. } | Notice::Suspect(_) | Notice::Report(_) | Notice::Stop => {
                 Ok(Heard::Nothing)
             }
         }

@@ -1,6 +1,7 @@
 //! The node of a host, or what the host has in its place, and its mail.
-ghost use Rattle.std.specs.Prelude.{◌≡◌};
+ghost use Rattle.std.specs.Prelude.{◌≡◌, ◌==◌, [], false, if◌then◌else◌, option_map, true};
 ghost use Rattle.host_node.specs.Goes.{Goes};
+ghost use Rattle.host_node.specs.Looks.{HasCount, HasDue, HasGeneration, HasGuest, HasKeys, HasRole};
 ghost use Rattle.host_node.specs.declared.host.Hosted.TheVariants as hosted;
 
 use crate::mail::Mail;
@@ -44,6 +45,8 @@ impl<B: Copies<H> + Drop, H: Drop> HostNode<B, H> {
         ensures mail { result.mail ≡ mail }
         ensures number { result.number ≡ number }
         ensures drives { result.drives ≡ drives }
+        ensures peer { result.peer ≡ (if number == 0 then 1 else 0) }
+        ensures waits { result.is_waiting ≡ false }
         ensures node { result.node ≡ hosted.Node node }
     {
         let peer = if number == 0 { 1 } else { 0 };
@@ -62,6 +65,7 @@ impl<B: Copies<H> + Drop, H: Drop> HostNode<B, H> {
     pub fn spare(alloc: Global, drives: u8, callbacks: H, mail: Mail) -> HostNode<B, H>
         ensures mail { result.mail ≡ mail }
         ensures drives { result.drives ≡ drives }
+        ensures waits { result.is_waiting ≡ false }
         ensures node { result.node ≡ hosted.Spare callbacks }
     {
         HostNode {
@@ -76,7 +80,9 @@ impl<B: Copies<H> + Drop, H: Drop> HostNode<B, H> {
     }
 
     /// The role of its node; none if it has no node. A node that has halted is not kept.
-    pub fn role(&self) -> Option<Role> {
+    pub fn role(&self) -> Option<Role>
+        ensures { HasRole B.state B.machine self.now.node result }
+    {
         match &self.node {
             Hosted::Spare(_) => None,
             Hosted::Node(node) => Some(node.role()),
@@ -85,7 +91,9 @@ impl<B: Copies<H> + Drop, H: Drop> HostNode<B, H> {
     }
 
     /// The generation of its node; 0 if it has none.
-    pub fn generation(&self) -> u32 {
+    pub fn generation(&self) -> u32
+        ensures { HasGeneration B.state B.machine self.now.node result }
+    {
         match &self.node {
             Hosted::Node(node) => node.generation(),
             Hosted::Spare(_) | Hosted::Halted => 0,
@@ -93,7 +101,9 @@ impl<B: Copies<H> + Drop, H: Drop> HostNode<B, H> {
     }
 
     /// How many steps the machine of its node has made; 0 if it has none.
-    pub fn count(&self) -> u64 {
+    pub fn count(&self) -> u64
+        ensures { HasCount B.state B.machine self.now.node result }
+    {
         match &self.node {
             Hosted::Node(node) => node.count(),
             Hosted::Spare(_) | Hosted::Halted => 0,
@@ -101,17 +111,24 @@ impl<B: Copies<H> + Drop, H: Drop> HostNode<B, H> {
     }
 
     /// The place of its node's peer at the switch.
-    pub fn peer(&self) -> u8 {
+    pub fn peer(&self) -> u8
+        ensures { result ≡ self.now.peer }
+    {
         self.peer
     }
 
     /// Whether the arbiter was asked and has not answered.
-    pub fn is_waiting(&self) -> bool {
+    pub fn is_waiting(&self) -> bool
+        ensures { result ≡ self.now.is_waiting }
+    {
         self.is_waiting
     }
 
     /// How many keys of each port its guest has taken.
-    pub fn keys(&self) -> [u64; PORTS] {
+    #[tactic(auto, using(crate::proofs::Looking::keys_by))]
+    pub fn keys(&self) -> [u64; PORTS]
+        ensures { HasKeys B.state B.machine self.now.node result }
+    {
         match self.guest() {
             Some(guest) => [guest.keys(0), guest.keys(1)],
             None => [0; PORTS],
@@ -119,7 +136,10 @@ impl<B: Copies<H> + Drop, H: Drop> HostNode<B, H> {
     }
 
     /// The oldest byte of a port that no terminal has accepted.
-    pub fn due_byte(&self, port: u8) -> Option<u64> {
+    #[tactic(auto, using(crate::proofs::Looking::due_by))]
+    pub fn due_byte(&self, port: u8) -> Option<u64>
+        ensures { HasDue B.state B.machine self.now.node port result }
+    {
         if usize::from(port) >= PORTS {
             return None;
         }
@@ -127,7 +147,9 @@ impl<B: Copies<H> + Drop, H: Drop> HostNode<B, H> {
     }
 
     /// The guest of its node, if it has one.
-    pub fn guest(&self) -> Option<&B> {
+    pub fn guest(&self) -> Option<&B>
+        ensures { HasGuest B.state B.machine self.now.node (option_map (λ guest. B.state guest.now) result) }
+    {
         match &self.node {
             Hosted::Node(node) => node.guest(),
             Hosted::Spare(_) | Hosted::Halted => None,
@@ -137,7 +159,8 @@ impl<B: Copies<H> + Drop, H: Drop> HostNode<B, H> {
     /// Whether no frame can come any more.
     #[tactic(auto, using(crate::proofs::Going::looked))]
     pub fn is_over(&mut self) -> bool
-        ensures { Goes B.state B.machine B.copied self.old self.new }
+        ensures goes { Goes B.state B.machine B.copied self.old self.new }
+        ensures none { result ≡ true → self.new.mail.waits ≡ [] }
     {
         self.mail.is_over()
     }

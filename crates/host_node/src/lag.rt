@@ -1,8 +1,9 @@
 //! How far the hosts of a pair are, and how far a backup may be behind.
-ghost use Rattle.std.specs.Prelude.{◌≡◌};
-ghost use Rattle.host_node.specs.Lagging.{is_too_far};
+ghost use Rattle.std.specs.Prelude.{◌≡◌, None, Some};
+ghost use Rattle.host_node.specs.Lagging.{is_due, is_far_behind, is_too_far, waits_for};
 
 use ft_node::Lead;
+use pair_events::Role;
 
 // How many steps a backup may be behind: about those of a twentieth of a second. If it is further behind, its primary's guest
 // makes no step (VMware FT, section 3.2.2).
@@ -20,7 +21,10 @@ pub struct Lag {
 
 impl Lag {
     /// Nothing was said.
-    pub fn new() -> Lag {
+    pub fn new() -> Lag
+        ensures heard { result.heard ≡ None }
+        ensures said { result.said ≡ None }
+    {
         Lag {
             heard: None,
             said: None,
@@ -28,18 +32,25 @@ impl Lag {
     }
 
     /// The peer says how far it is.
-    pub fn hear(&mut self, lead: Lead) {
+    pub fn hear(&mut self, lead: Lead)
+        ensures heard { self.new.heard ≡ Some lead }
+        ensures said { self.new.said ≡ self.old.said }
+    {
         self.heard = Some(lead);
     }
 
     /// How far the peer is.
-    pub fn heard(&self) -> Option<Lead> {
+    pub fn heard(&self) -> Option<Lead>
+        ensures { result ≡ self.now.heard }
+    {
         self.heard
     }
 
     /// Whether the peer is so far behind a guest of this count that the guest may not go on. A peer that has said nothing yet
     /// has only begun.
-    pub fn is_far_behind(&self, count: u64) -> bool {
+    pub fn is_far_behind(&self, count: u64) -> bool
+        ensures { result ≡ is_far_behind self.now.heard count }
+    {
         match self.heard {
             Some(lead) => is_too_far(lead.count, count),
             None => false,
@@ -47,7 +58,9 @@ impl Lag {
     }
 
     /// Whether it is time to say that this host has come to a count.
-    pub fn is_due(&self, count: u64) -> bool {
+    pub fn is_due(&self, count: u64) -> bool
+        ensures { result ≡ is_due self.now.said count }
+    {
         match self.said {
             Some(said) => count.saturating_sub(said) >= STEPS,
             None => true,
@@ -55,12 +68,18 @@ impl Lag {
     }
 
     /// It was said.
-    pub fn say(&mut self, count: u64) {
+    pub fn say(&mut self, count: u64)
+        ensures said { self.new.said ≡ Some count }
+        ensures heard { self.new.heard ≡ self.old.heard }
+    {
         self.said = Some(count);
     }
 
     /// It is to be said again, since what was said may be lost.
-    pub fn say_again(&mut self) {
+    pub fn say_again(&mut self)
+        ensures said { self.new.said ≡ None }
+        ensures heard { self.new.heard ≡ self.old.heard }
+    {
         self.said = None;
     }
 }
@@ -70,4 +89,14 @@ fn is_too_far(steps: u64, count: u64) -> bool
     ensures { result ≡ is_too_far steps count }
 {
     count.saturating_sub(steps) > MOST_BEHIND
+}
+
+/// Whether a node in this role waits for a backup that is behind: a primary does, unless the backup is not whole yet.
+pub fn waits_for(role: Option<Role>, is_copying: bool, is_behind: bool) -> bool
+    ensures { result ≡ waits_for role is_copying is_behind }
+{
+    match role {
+        Some(Role::Primary) => is_behind && !is_copying,
+        _ => false,
+    }
 }

@@ -1,19 +1,23 @@
 //! How the hosts of a pair keep together: a backup follows its primary where that logs nothing, and a primary waits for a
 //! backup that is far behind.
 ghost use Rattle.host_node.specs.Goes.{Goes};
+ghost use Rattle.host_node.specs.Lagging.{HoldsBack};
 
+use crate::lag::waits_for;
 use crate::serving::Serving;
 use clone_state::Copies;
 use guest_lockstep::StopReason;
 use i8080_words::{Fault, R};
-use key_room::KeyRoom;
-use pair_events::Role;
+use key_room::{KeyRoom, OutstandingWrites};
 
-impl<B: Copies<H> + KeyRoom + Drop, H: Drop> Serving<B, H> {
-    // Whether a primary's guest waits for the backup. None waits for one that is not whole yet.
-    pub(crate) fn is_held_back(&self) -> bool {
-        let has_backup = matches!(self.host.role(), Some(Role::Primary)) && !self.pace.is_copying;
-        has_backup && self.pace.lag.is_far_behind(self.host.count())
+impl<B: Copies<H> + KeyRoom + OutstandingWrites + Drop, H: Drop> Serving<B, H> {
+    // Whether a primary's guest waits for the backup.
+    #[tactic(auto, using(crate::proofs::Waiting::holds_back))]
+    pub(crate) fn is_held_back(&self) -> bool
+        ensures { HoldsBack B.state B.machine self.now.host.node self.now.pace.is_copying self.now.pace.lag.heard result }
+    {
+        let is_behind = self.pace.lag.is_far_behind(self.host.count());
+        waits_for(self.host.role(), self.pace.is_copying, is_behind)
     }
 
     // Says how far the host is, if that is due.

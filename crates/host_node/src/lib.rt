@@ -9,6 +9,7 @@ mod inputs;
 mod joining;
 mod lag;
 mod lagging;
+mod laws;
 mod mail;
 mod moves;
 mod pace;
@@ -18,6 +19,7 @@ mod serving;
 
 pub use heard::Heard;
 pub use host::{HostNode, Hosted};
+pub use laws::hosts_boot;
 pub use mail::{KEYS, KeptKey, Mail};
 pub use pace::{End, Settings, TICK};
 pub use serving::serve;

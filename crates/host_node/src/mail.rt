@@ -1,5 +1,5 @@
 //! What comes to a host and what goes from it: frames on two rings, and the keys that wait until its guest looks for them.
-ghost use Rattle.std.specs.Prelude.{◌≡◌, ◌<◌, ◌++◌, ◌∷◌, [], IfErr, IfOk, IfSome, IsOkUnless, IsTrue, None, OnErr, OnOk};
+ghost use Rattle.std.specs.Prelude.{◌≡◌, ◌<◌, ◌++◌, ◌∷◌, [], IfErr, IfOk, IfSome, IsOkUnless, IsTrue, None, OnErr, OnOk, length, true};
 ghost use Rattle.frame_streams.specs.Reading.{contents_of};
 ghost use Rattle.host_frames.specs.Frames.{IsSpelling, Tells, Transfers, said_by};
 ghost use Rattle.host_frames.specs.declared.frame.Transfer.TheVariants.{Key};
@@ -90,6 +90,7 @@ impl Mail {
 
     /// Whether no frame can come any more, once none is left.
     pub fn is_over(&mut self) -> bool
+        ensures none { result ≡ true → self.new.waits ≡ [] }
         ensures came { self.new.came ≡ self.old.came }
         ensures gone { self.new.gone ≡ self.old.gone }
     {
@@ -164,7 +165,9 @@ impl Mail {
     }
 
     /// How many keys of a port wait.
-    pub fn waiting(&self, port: u8) -> usize {
+    pub fn waiting(&self, port: u8) -> usize
+        ensures { result ≡ length (table.keys_at self.now port) }
+    {
         if port == 0 {
             self.first.len()
         } else {

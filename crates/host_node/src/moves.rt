@@ -1,12 +1,15 @@
 //! The moves of a host's machine.
 ghost use Rattle.host_node.specs.Goes.{Goes};
+ghost use Rattle.host_node.specs.Guests.{HasWriteFrom, KeepsKey, keeps_at, number_from};
+ghost use Rattle.std.specs.Prelude.{◌≡◌};
 
 use crate::host::{HostNode, Hosted};
 use clone_state::Copies;
+use disk_dcdd::Place;
 use ft_node::{Drained, Lead, Ran};
 use guest_lockstep::Stopped;
 use i8080_words::{Fault, R};
-use key_room::KeyRoom;
+use key_room::{KeyRoom, OutstandingWrites};
 use replayer::Replayed;
 
 impl<B: Copies<H> + Drop, H: Drop> HostNode<B, H> {
@@ -94,15 +97,44 @@ impl<B: Copies<H> + Drop, H: Drop> HostNode<B, H> {
     }
 }
 
-impl<B: Copies<H> + KeyRoom + Drop, H: Drop> HostNode<B, H> {
+impl<B: Copies<H> + KeyRoom + OutstandingWrites + Drop, H: Drop> HostNode<B, H> {
     /// Whether a key that came to this port now would be kept by the guest of its node; false if it has none.
-    pub fn keeps_key(&self, port: u8) -> bool {
-        match &self.node {
-            Hosted::Node(node) if usize::from(port) < event_callbacks::PORTS => match node.guest() {
-                Some(guest) => guest.keeps_key(port),
-                None => false,
-            },
-            _ => false,
+    #[tactic(auto, using(crate::proofs::Looking::says, crate::proofs::Looking::says_nothing))]
+    pub fn keeps_key(&self, port: u8) -> bool
+        ensures { KeepsKey B.state B.machine B.keeps_key self.now.node port result }
+    {
+        match self.guest() {
+            Some(guest) => keeps_at(guest, port),
+            None => false,
         }
     }
+
+    /// The number of the first outstanding write from this number on; none if there is none, or if the host has no guest.
+    #[tactic(auto, using(crate::proofs::Looking::says, crate::proofs::Looking::says_nothing))]
+    pub fn write_from(&self, from: u64) -> Option<u64>
+        ensures { HasWriteFrom B.state B.machine B.OutstandingWrites.writes self.now.node from result }
+    {
+        match self.guest() {
+            Some(guest) => number_from(guest.outstanding_writes(), from),
+            None => None,
+        }
+    }
+}
+
+// Whether a guest would keep a key that came to this port now; false if it has no such port.
+fn keeps_at<G: KeyRoom>(guest: &G, port: u8) -> bool
+    ensures { result ≡ keeps_at (G.keeps_key guest.now) port }
+{
+    if usize::from(port) >= event_callbacks::PORTS {
+        return false;
+    }
+    guest.keeps_key(port)
+}
+
+// The number of the first write from this number on.
+fn number_from(writes: &[Place], from: u64) -> Option<u64>
+    ensures { result ≡ number_from writes.now from }
+{
+    let write = writes.iter().find(|write| from <= write.number)?;
+    Some(write.number)
 }

@@ -14,9 +14,6 @@ pub const TICK: u64 = 50_000;
 /// After how many microseconds what was sent is sent again.
 pub const AGAIN: u64 = 100_000;
 
-/// How many writes after the first that is outstanding are looked at.
-pub const WRITES: u64 = 16;
-
 /// How a host's loop goes. Times are in microseconds.
 #[derive(Clone, Copy)]
 pub struct Settings {
@@ -35,22 +32,19 @@ pub enum End {
     Stopped,
     /// The stream from the outside has ended.
     Closed,
-    /// Another host has won the generation.
+    /// The node has halted: another host has won its generation.
     Lost,
     /// What the peer sent is not of this machine's run.
     Diverged,
     /// The host that was to send the machine is gone, or has begun anew without this one.
     Orphaned,
     OutOfMemory,
-    /// The clock cannot be read.
-    NoClock,
 }
 
 /// Times, and what is due.
 #[derive(Clone, Copy)]
 pub struct Pace {
     pub now: u64,
-    pub end: Option<End>,
     // How many ticks came since the peer was heard, and whether its stream has ended.
     pub silent: u32,
     pub is_gone: bool,
@@ -72,7 +66,7 @@ pub struct Pace {
     // The count at which a key was last taken, and whether the guest waits for an input.
     pub key_at: u64,
     pub is_idle: bool,
-    // The next byte of each port and the next write to be released, and since when.
+    // The numbers from which on bytes of each port and writes are to be released, and since when.
     pub next_byte: [u64; PORTS],
     pub next_write: u64,
     pub released_at: u64,
@@ -92,7 +86,6 @@ impl Pace {
     pub fn new(now: u64) -> Pace {
         Pace {
             now,
-            end: None,
             silent: 0,
             is_gone: false,
             asked_at: 0,
@@ -109,7 +102,7 @@ impl Pace {
             key_at: 0,
             is_idle: false,
             next_byte: [0; PORTS],
-            next_write: 1,
+            next_write: 0,
             released_at: now,
             next_sector: 0,
             asked_disk_at: None,
@@ -137,7 +130,7 @@ impl Pace {
         }
         self.released_at = self.now;
         self.next_byte = [0; PORTS];
-        self.next_write = self.next_write.saturating_sub(WRITES).max(1);
+        self.next_write = 0;
     }
 
     /// The next byte of a port to be released.
@@ -162,14 +155,12 @@ impl Pace {
             Heard::Sector { sector, is_taken } => self.note_sector(sector, is_taken),
             Heard::Accepted | Heard::Written(_) | Heard::Key => self.is_idle = false,
             Heard::Won => self.forget_peer(),
-            Heard::Lost => self.end = Some(End::Lost),
             Heard::Gone(host) => self.is_gone = self.is_gone || host == peer,
             Heard::Begun => self.begin(),
             Heard::Joined => self.join(),
             Heard::Tick => self.silent = self.silent.saturating_add(1),
-            Heard::Stop => self.end = Some(End::Stopped),
             Heard::Progress(lead) => self.lag.hear(lead),
-            Heard::Nothing | Heard::Malformed => {}
+            Heard::Nothing | Heard::Malformed | Heard::Lost => {}
         }
     }
 
@@ -225,7 +216,7 @@ impl Pace {
         self.silent = 0;
         self.is_gone = false;
         self.next_byte = [0; PORTS];
-        self.next_write = 1;
+        self.next_write = 0;
         self.asked_disk_at = None;
     }
 

@@ -1,8 +1,8 @@
 //! What a host says of itself.
-ghost use Rattle.std.specs.Prelude.{◌≡◌, ◌∷◌, ◌<◌, [], slice_index};
+ghost use Rattle.std.specs.Prelude.{◌≡◌, ◌<◌, IfOk, slice_index};
 ghost use Rattle.event_callbacks.specs.declared.devices.TheConstants.{PORTS};
 ghost use Rattle.host_node.specs.Goes.{Goes};
-ghost use Rattle.host_node.specs.Reports.{IsCovered};
+ghost use Rattle.host_node.specs.Reports.{HasCovered, IsCovered, Reports, ReportsGeneration, SaysReport};
 
 use crate::host::{HostNode, Hosted};
 use clone_state::Copies;
@@ -14,67 +14,55 @@ use i8080_words::R;
 impl<B: Copies<H> + Drop, H: Drop> HostNode<B, H> {
     /// What it says of itself: its generation, its role, how many steps its machine has made, how many keys it has taken, and
     /// how many of those are covered.
-    pub fn report(&self) -> Report {
-        match &self.node {
-            Hosted::Node(node) => self.report_of(node),
-            Hosted::Spare(_) | Hosted::Halted => self.report_of_none(),
+    pub fn report(&self) -> Report
+        ensures { Reports B.state B.machine self.now.number self.now.node result }
+    {
+        Report {
+            generation: self.reported_generation(),
+            role: self.role(),
+            count: self.count(),
+            taken: self.keys(),
+            covered: [self.covered(0), self.covered(1)],
         }
     }
 
     /// Sends what it says of itself. Returns false if there is no room.
-    #[tactic(auto, using(crate::proofs::Reported::reports, crate::proofs::Reported::reports_none, crate::proofs::Going::looked))]
+    #[tactic(auto, using(crate::proofs::Reported::reports, crate::proofs::Going::looked))]
     pub fn send_report(&mut self) -> R<bool>
-        ensures { Goes B.state B.machine B.copied self.old self.new }
+        ensures goes { Goes B.state B.machine B.copied self.old self.new }
+        ensures says { IfOk result (λ is_sent. SaysReport B.state B.machine is_sent self.old self.new) }
     {
         if !self.mail.has_room() {
             return Ok(false);
         }
-        match &self.node {
-            Hosted::Node(node) => {
-                let report = self.report_of(node);
-                self.mail.say(&Frame::Notice(Notice::Report(report)))?;
-            }
-            Hosted::Spare(_) | Hosted::Halted => {
-                let report = self.report_of_none();
-                self.mail.say(&Frame::Notice(Notice::Report(report)))?;
-            }
-        }
+        let report = self.report();
+        self.mail.say(&Frame::Notice(Notice::Report(report)))?;
         Ok(true)
     }
 
-    // What it says of its node.
-    fn report_of(&self, node: &Node<B, H>) -> Report
-        ensures first { IsCovered B.state B.machine node.now 0 (slice_index result.covered 0) }
-        ensures second { IsCovered B.state B.machine node.now 1 (slice_index result.covered 1) }
+    // The generation of its node; if that has halted, its own number, which is its first generation but for host 0.
+    fn reported_generation(&self) -> u32
+        ensures { ReportsGeneration B.state B.machine self.now.number self.now.node result }
     {
-        Report {
-            generation: node.generation(),
-            role: Some(node.role()),
-            count: node.count(),
-            taken: self.keys(),
-            covered: [covered_at(node, 0), covered_at(node, 1)],
+        match &self.node {
+            Hosted::Halted => self.number.max(1),
+            Hosted::Spare(_) | Hosted::Node(_) => self.generation(),
         }
     }
 
-    // What it says without a node.
-    fn report_of_none(&self) -> Report
-        ensures { result.covered ≡ 0 ∷ 0 ∷ [] }
+    // How many keys of a port the terminal need not keep any longer.
+    fn covered(&self, port: u8) -> u64
+        requires { port < PORTS }
+        ensures { HasCovered B.state B.machine self.now.node port result }
     {
-        let generation = match &self.node {
-            Hosted::Spare(_) => 0,
-            Hosted::Node(_) | Hosted::Halted => self.number.max(1),
-        };
-        Report {
-            generation,
-            role: self.role(),
-            count: 0,
-            taken: [0; PORTS],
-            covered: [0; PORTS],
+        match &self.node {
+            Hosted::Node(node) => covered_at(node, port),
+            Hosted::Spare(_) | Hosted::Halted => 0,
         }
     }
 }
 
-// How many keys of a port the terminal need not keep any longer.
+// How many keys of a port a node tells to be covered.
 fn covered_at<B: Copies<H> + Drop, H: Drop>(node: &Node<B, H>, port: u8) -> u64
     requires { port < PORTS }
     ensures { IsCovered B.state B.machine node.now port result }

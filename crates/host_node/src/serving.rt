@@ -1,11 +1,14 @@
 //! The loop of a host: turns that take what came, let the node go on, and send what is due. No turn waits for a stream.
+ghost use Rattle.std.specs.Prelude.{◌≡◌, ◌⊎◌, IfErr};
+ghost use Rattle.host_node.specs.Ends.{IsEnd, IsRefusal};
 ghost use Rattle.host_node.specs.Goes.{Goes};
+ghost use Rattle.host_node.specs.declared.pace.End.TheVariants as of_end;
 
 use crate::host::HostNode;
 use crate::pace::{End, Pace, Settings, TICK};
 use clone_state::Copies;
 use i8080_words::{Fault, R};
-use key_room::KeyRoom;
+use key_room::{KeyRoom, OutstandingWrites};
 use pair_events::Role;
 use std::sync::Wait;
 use std::thread::Parker;
@@ -25,99 +28,61 @@ pub struct Serving<B: Copies<H> + Drop, H: Drop> {
 /// Serves until there is a reason to end, which is returned with the host. The reader of frames wakes the loop through the
 /// parker.
 #[tactic(auto, using(crate::proofs::Going::stays, crate::proofs::Going::and_then))]
-pub fn serve<B: Copies<H> + KeyRoom + Drop, H: Drop, C: Wait + Clock>(
+pub fn serve<B: Copies<H> + KeyRoom + OutstandingWrites + Drop, H: Drop, C: Wait + Clock>(
     rt: &C,
     host: HostNode<B, H>,
     settings: Settings,
     wake: &Parker,
 ) -> (HostNode<B, H>, End)
-    ensures { Goes B.state B.machine B.copied host result.0 }
+    ensures goes { Goes B.state B.machine B.copied host result.0 }
+    ensures why { IsEnd B.state B.machine B.copied result.1 host result.0 }
 {
-    let Some(now) = micros(rt) else {
-        return (host, End::NoClock);
-    };
+    let pace = Pace::new(micros(rt, 0));
     let mut serving = Serving {
         host,
         settings,
-        pace: Pace::new(now),
+        pace,
     };
     let end = serving.serve_all(rt, wake);
     (serving.host, end)
 }
 
-impl<B: Copies<H> + KeyRoom + Drop, H: Drop> Serving<B, H> {
+impl<B: Copies<H> + KeyRoom + OutstandingWrites + Drop, H: Drop> Serving<B, H> {
     // Takes turns until there is a reason to end.
-    #[tactic(auto, using(crate::proofs::Going::stays, crate::proofs::Going::and_then))]
+    #[tactic(auto, using(crate::proofs::Going::stays, crate::proofs::Going::and_then, crate::proofs::Ending::ends_since))]
     fn serve_all<C: Wait + Clock>(&mut self, rt: &C, wake: &Parker) -> End
-        ensures { Goes B.state B.machine B.copied self.old.host self.new.host }
+        ensures goes { Goes B.state B.machine B.copied self.old.host self.new.host }
+        ensures why { IsEnd B.state B.machine B.copied result self.old.host self.new.host }
     {
-        for _ in 0..u64::MAX {
-            let Some(now) = micros(rt) else {
-                return End::NoClock;
-            };
-            self.pace.now = now;
+        for _ in rt.forever() {
+            self.pace.now = micros(rt, self.pace.now);
             let is_busy = match self.turn() {
                 Ok(is_busy) => is_busy,
-                Err(fault) => return end_of(fault),
+                Err(end) => return end,
             };
-            if let Some(end) = self.pace.end {
-                return end;
-            }
             if !is_busy {
                 wake.park_timeout(rt, Duration::from_micros(TICK / 10));
             }
         }
-        End::Closed
+        unreachable!()
     }
 
-    // One turn. Returns whether anything came or was done.
-    #[tactic(auto, using(crate::proofs::Going::stays, crate::proofs::Going::and_then))]
-    fn turn(&mut self) -> R<bool>
-        ensures { Goes B.state B.machine B.copied self.old.host self.new.host }
+    // One turn. Returns whether anything came or was done, or why the loop ends.
+    #[tactic(auto, using(crate::proofs::Going::stays, crate::proofs::Going::and_then, crate::proofs::Ending::ends_since))]
+    fn turn(&mut self) -> Result<bool, End>
+        ensures goes { Goes B.state B.machine B.copied self.old.host self.new.host }
+        ensures why { IfErr result (λ end. IsEnd B.state B.machine B.copied end self.old.host self.new.host) }
     {
         let has_heard = self.hear_all()?;
         let has_acted = self.attend(has_heard)?;
         Ok(has_heard | has_acted)
     }
 
-    // Goes on, unless no frame can come any more.
-    #[tactic(auto, using(crate::proofs::Going::stays, crate::proofs::Going::and_then))]
-    fn attend(&mut self, has_heard: bool) -> R<bool>
-        ensures { Goes B.state B.machine B.copied self.old.host self.new.host }
-    {
-        let is_over = self.host.is_over();
-        if is_over && !has_heard {
-            self.pace.end = Some(End::Closed);
-            return Ok(true);
-        }
-        self.beat_and_act()
-    }
-
-    // Says that the host is there, and lets the node go on.
-    #[tactic(auto, using(crate::proofs::Going::stays, crate::proofs::Going::and_then))]
-    fn beat_and_act(&mut self) -> R<bool>
-        ensures { Goes B.state B.machine B.copied self.old.host self.new.host }
-    {
-        self.beat()?;
-        self.ask_or_act()
-    }
-
-    // While the host waits for the arbiter its node does nothing.
-    #[tactic(auto, using(crate::proofs::Going::stays, crate::proofs::Going::and_then))]
-    fn ask_or_act(&mut self) -> R<bool>
-        ensures { Goes B.state B.machine B.copied self.old.host self.new.host }
-    {
-        let waits = self.asks()?;
-        if waits {
-            return Ok(false);
-        }
-        self.act()
-    }
-
     // Takes the frames that have come. Returns whether there was any.
-    #[tactic(auto, using(crate::proofs::Going::stays, crate::proofs::Going::and_then))]
-    fn hear_all(&mut self) -> R<bool>
-        ensures { Goes B.state B.machine B.copied self.old.host self.new.host }
+    #[tactic(auto, using(crate::proofs::Going::stays, crate::proofs::Going::and_then, crate::proofs::Ending::ends_since))]
+    fn hear_all(&mut self) -> Result<bool, End>
+        ensures goes { Goes B.state B.machine B.copied self.old.host self.new.host }
+        ensures why { IfErr result (λ end. IsEnd B.state B.machine B.copied end self.old.host self.new.host) }
     {
         let mut has_heard = false;
         for _ in 0..FRAMES {
@@ -131,8 +96,9 @@ impl<B: Copies<H> + KeyRoom + Drop, H: Drop> Serving<B, H> {
 
     // Takes the next frame, if one has come.
     #[tactic(auto, using(crate::proofs::Going::stays, crate::proofs::Going::and_then))]
-    fn hear_next(&mut self) -> R<bool>
-        ensures { Goes B.state B.machine B.copied self.old.host self.new.host }
+    fn hear_next(&mut self) -> Result<bool, End>
+        ensures goes { Goes B.state B.machine B.copied self.old.host self.new.host }
+        ensures why { IfErr result (λ end. IsEnd B.state B.machine B.copied end self.old.host self.new.host) }
     {
         let Some(heard) = self.host.hear()? else {
             return Ok(false);
@@ -142,17 +108,73 @@ impl<B: Copies<H> + KeyRoom + Drop, H: Drop> Serving<B, H> {
         Ok(true)
     }
 
-    // What the node does in its role. Returns whether anything was done.
+    // Goes on, unless no frame can come any more.
+    #[tactic(auto, using(crate::proofs::Going::stays, crate::proofs::Going::and_then, crate::proofs::Ending::ends_since))]
+    fn attend(&mut self, has_heard: bool) -> Result<bool, End>
+        ensures goes { Goes B.state B.machine B.copied self.old.host self.new.host }
+        ensures why { IfErr result (λ end. IsEnd B.state B.machine B.copied end self.old.host self.new.host) }
+    {
+        let is_over = self.host.is_over();
+        if is_over && !has_heard {
+            return Err(End::Closed);
+        }
+        self.beat_and_act()
+    }
+
+    // Says that the host is there, and lets its node go on, unless it waits for the arbiter.
+    #[tactic(auto, using(crate::proofs::Going::stays, crate::proofs::Going::and_then, crate::proofs::Ending::ends_since))]
+    fn beat_and_act(&mut self) -> Result<bool, End>
+        ensures goes { Goes B.state B.machine B.copied self.old.host self.new.host }
+        ensures why { IfErr result (λ end. IsEnd B.state B.machine B.copied end self.old.host self.new.host) }
+    {
+        match self.beat_and_ask() {
+            Ok(true) => Ok(false),
+            Ok(false) => self.act(),
+            Err(_) => Err(End::OutOfMemory),
+        }
+    }
+
+    // Says that the host is there, and asks the arbiter if that is due. Returns whether the host waits for the answer.
     #[tactic(auto, using(crate::proofs::Going::stays, crate::proofs::Going::and_then))]
-    fn act(&mut self) -> R<bool>
+    fn beat_and_ask(&mut self) -> R<bool>
         ensures { Goes B.state B.machine B.copied self.old.host self.new.host }
     {
-        match self.host.role() {
+        self.beat()?;
+        self.asks()
+    }
+
+    // Lets the node go on, unless it has halted, or can never be whole.
+    #[tactic(auto, using(crate::proofs::Going::stays, crate::proofs::Going::and_then, crate::proofs::Ending::refused))]
+    fn act(&mut self) -> Result<bool, End>
+        ensures goes { Goes B.state B.machine B.copied self.old.host self.new.host }
+        ensures why { IfErr result (λ end. IsEnd B.state B.machine B.copied end self.old.host self.new.host) }
+    {
+        let role = self.host.role();
+        if let Some(Role::Halted) = role {
+            return Err(End::Lost);
+        }
+        if let Some(Role::Joining) = role {
+            if self.pace.is_suspected(self.settings.patience) {
+                return Err(End::Orphaned);
+            }
+        }
+        match self.act_as(role) {
+            Ok(is_busy) => Ok(is_busy),
+            Err(fault) => Err(end_of(role, fault)),
+        }
+    }
+
+    // What the node does in its role. Returns whether anything was done.
+    #[tactic(auto, using(crate::proofs::Going::stays, crate::proofs::Going::and_then))]
+    fn act_as(&mut self, role: Option<Role>) -> R<bool>
+        ensures { Goes B.state B.machine B.copied self.old.host self.new.host }
+    {
+        match role {
             Some(Role::Primary) => self.serve_as_primary(),
             Some(Role::Alone) => self.run_alone(),
             Some(Role::Backup) => self.follow(),
             Some(Role::Draining) => self.drain(),
-            Some(Role::Joining) => self.await_parts(),
+            Some(Role::Joining) => self.tell_parts(),
             Some(Role::Halted) | None => Ok(false),
         }
     }
@@ -236,16 +258,30 @@ impl<B: Copies<H> + KeyRoom + Drop, H: Drop> Serving<B, H> {
     }
 }
 
-// Why a loop ends whose host refuses so.
-fn end_of(fault: Fault) -> End {
+// Why a loop ends whose node refuses so in this role: only one that repeats what its peer sent can find that it does not fit.
+fn end_of(role: Option<Role>, fault: Fault) -> End
+    ensures { IsRefusal role result }
+{
+    match role {
+        Some(Role::Backup) | Some(Role::Draining) => end_of_repeating(fault),
+        _ => End::OutOfMemory,
+    }
+}
+
+// The same of a node that repeats what its peer sent.
+fn end_of_repeating(fault: Fault) -> End
+    ensures { (result ≡ of_end.Diverged) ⊎ (result ≡ of_end.OutOfMemory) }
+{
     match fault {
         Fault::Malformed => End::Diverged,
         _ => End::OutOfMemory,
     }
 }
 
-// The time.
-fn micros<C: Clock>(rt: &C) -> Option<u64> {
-    let time = rt.monotonic().ok()?;
-    u64::try_from(time.as_micros()).ok()
+// The time; as before, if the clock does not tell.
+fn micros<C: Clock>(clock: &C, before: u64) -> u64 {
+    let Ok(time) = clock.monotonic() else {
+        return before;
+    };
+    u64::try_from(time.as_micros()).unwrap_or(before)
 }

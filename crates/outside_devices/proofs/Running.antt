@@ -46,43 +46,50 @@ module _ {S : Type 0} (M : Machine S) (drives : ℕ) where
   begins records may_fail hosts disk =
       record { terminals = nothing_yet; winners = λ generation. refl; disk = disk; hosts = omega arith }
 
-  rests : (held : Held) (o : Outside) → Shows M drives held o → OutsideRan M drives o [] [] held
+  rests : (held : Held) (o : Outside) → Shows M drives held o → (ran : OutsideRan M drives o [] [] held) × (ran.last ≡ o)
   rests held o shows =
-      record { acts = []; last = o; run = outside.Rests; took = refl; gave = refl; shows = shows; hosts = refl }
+      (record { acts = []; last = o; run = outside.Rests; took = refl; gave = refl; shows = shows; hosts = refl }, refl)
 
   goes : (first : Outside) (held new : Held) (read written : List Frame) (act : Act) →
-      OutsideRan M drives first read written held →
-      ((o : Outside) → Shows M drives held o → (p : Outside) × Makes M drives o act new p) →
-      OutsideRan M drives first (read ++ act.takes) (written ++ act.sends) new
+      (ran : OutsideRan M drives first read written held) →
+      (makes : (o : Outside) → Shows M drives held o → (p : Outside) × Makes M drives o act new p) →
+      (more : OutsideRan M drives first (read ++ act.takes) (written ++ act.sends) new)
+      × (more.last ≡ (makes ran.last ran.shows).0)
   goes first held new read written act r makes =
-      let m = makes r.last r.shows in
-      record {
-        acts = r.acts ++ act ∷ [];
-        last = m.0;
-        run = run-one M first r.last m.0 r.acts act r.run m.1.step;
-        took = taken-one r.acts act ∙ ap (λ l. l ++ act.takes) r.took;
-        gave = sent-one r.acts act ∙ ap (λ l. l ++ act.sends) r.gave;
-        shows = m.1.shows;
-        hosts = step-hosts M r.last act m.0 m.1.step ∙ r.hosts;
-      }
+      let m = makes r.last r.shows in (
+        record {
+          acts = r.acts ++ act ∷ [];
+          last = m.0;
+          run = run-one M first r.last m.0 r.acts act r.run m.1.step;
+          took = taken-one r.acts act ∙ ap (λ l. l ++ act.takes) r.took;
+          gave = sent-one r.acts act ∙ ap (λ l. l ++ act.sends) r.gave;
+          shows = m.1.shows;
+          hosts = step-hosts M r.last act m.0 m.1.step ∙ r.hosts;
+        },
+        refl,
+      )
 
   admits : (first : Outside) (held : Held) (host : ℕ) (read written : List Frame) →
-      OutsideRan M drives first read written held → admitted_after held.hosts host ≤ first.hosts →
-      OutsideRan M drives first read written (record held { hosts = admitted_after held.hosts host })
-  admits first held host read written r few = record {
-    acts = r.acts;
-    last = r.last;
-    run = r.run;
-    took = r.took;
-    gave = r.gave;
-    shows = record {
-      terminals = r.shows.terminals;
-      winners = r.shows.winners;
-      disk = r.shows.disk;
-      hosts = subst (λ n. admitted_after held.hosts host ≤ n) (sym r.hosts) few;
-    };
-    hosts = r.hosts;
-  }
+      (ran : OutsideRan M drives first read written held) → admitted_after held.hosts host ≤ first.hosts →
+      (more : OutsideRan M drives first read written (record held { hosts = admitted_after held.hosts host }))
+      × (more.last ≡ ran.last)
+  admits first held host read written r few = (
+    record {
+      acts = r.acts;
+      last = r.last;
+      run = r.run;
+      took = r.took;
+      gave = r.gave;
+      shows = record {
+        terminals = r.shows.terminals;
+        winners = r.shows.winners;
+        disk = r.shows.disk;
+        hosts = subst (λ n. admitted_after held.hosts host ≤ n) (sym r.hosts) few;
+      };
+      hosts = r.hosts;
+    },
+    refl,
+  )
 
   pub goes_on : GoesOn M drives
   goes_on = record { begins = begins; rests = rests; goes = goes; admits = admits }

@@ -21,18 +21,21 @@ pub record OutsideRan {S : Type 0} (M : Machine S) (drives : ℕ) (first : Outsi
   -- a run counts from the first all hosts that ever come
   pub hosts : last.hosts ≡ first.hosts
 
--- it begins with nothing, each call that is a step adds the frames that go with it, and a host that comes adds none
+-- it begins with nothing, each call that is a step adds the frames that go with it and leads to where that step does, and a
+-- host that comes adds none
 pub record GoesOn {S : Type 0} (M : Machine S) (drives : ℕ) : Type 0 where
   pub begins : (records : List Record) (may_fail : Option ℕ) (hosts : ℕ) → IsDisk M drives records [] →
       Shows M drives (at_boot records may_fail) (at_first hosts)
-  pub rests : (held : Held) (o : Outside) → Shows M drives held o → OutsideRan M drives o [] [] held
+  pub rests : (held : Held) (o : Outside) → Shows M drives held o → (ran : OutsideRan M drives o [] [] held) × (ran.last ≡ o)
   pub goes : (first : Outside) (held new : Held) (read written : List Frame) (act : Act) →
-      OutsideRan M drives first read written held →
-      ((o : Outside) → Shows M drives held o → (p : Outside) × Makes M drives o act new p) →
-      OutsideRan M drives first (read ++ act.takes) (written ++ act.sends) new
+      (ran : OutsideRan M drives first read written held) →
+      (makes : (o : Outside) → Shows M drives held o → (p : Outside) × Makes M drives o act new p) →
+      (more : OutsideRan M drives first (read ++ act.takes) (written ++ act.sends) new)
+      × (more.last ≡ (makes ran.last ran.shows).0)
   pub admits : (first : Outside) (held : Held) (host : ℕ) (read written : List Frame) →
-      OutsideRan M drives first read written held → admitted_after held.hosts host ≤ first.hosts →
-      OutsideRan M drives first read written (record held { hosts = admitted_after held.hosts host })
+      (ran : OutsideRan M drives first read written held) → admitted_after held.hosts host ≤ first.hosts →
+      (more : OutsideRan M drives first read written (record held { hosts = admitted_after held.hosts host }))
+      × (more.last ≡ ran.last)
 
 abbrev pub RunsGoOn : (S : Type 0) → Type 0
 RunsGoOn S = (M : Machine S) (drives : ℕ) → GoesOn M drives

@@ -152,4 +152,13 @@ impl<D: SectorStore> OutsideDevices<D> {
     {
         u64::from(generation) < self.hosts
     }
+
+    /// The disk, as it is now.
+    pub fn into_disk(self) -> SharedDisk<D>
+        ensures records { D.records result ≡ self.records }
+        ensures failures { D.may_fail result ≡ self.may_fail }
+    {
+        let OutsideDevices { disk, .. } = self;
+        disk
+    }
 }

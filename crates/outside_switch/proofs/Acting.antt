@@ -29,7 +29,7 @@ use Rattle.host_frames.specs.declared.frame.Report as host
 use Rattle.host_frames.specs.declared.frame.Transfer.TheVariants.{Accepted, Byte, Failed, Get, Key, Sector, Write, Written}
 use Rattle.host_law.specs.Frame as law
 use Rattle.host_law.specs.Frame.{Act, Came}
-use Rattle.outside_devices.specs.Calls.{Asks, Puts, Reads, admitted_after, arrived_after, key_answer, terminal_at, told_after, typed_after, typed_answer}
+use Rattle.outside_devices.specs.Calls.{Asks, Puts, Reads, admitted_after, arrived_after, is_accepted, key_answer, terminal_at, told_after, typed_after, typed_answer}
 use Rattle.event_callbacks.specs.declared.devices.TheConstants.{PORTS}
 use Rattle.outside_devices.specs.Held.{Held}
 use Rattle.outside_devices.specs.Terminal.{KeptTerminal, after_typing, answered, blank, next_key, typing_answer, typing_refusal, with_key}
@@ -37,7 +37,8 @@ use Rattle.outside_switch.specs.Goes.{BeginsSo}
 use Rattle.outside_switch.specs.Calls as calls
 use Rattle.outside_switch.specs.Calls.{Call, Called}
 use Rattle.outside_switch.specs.Lines.{LinesGo, Posts, PostsAll, Pushed, number_at}
-use Rattle.outside_switch.specs.Meets.{Meets, Seen}
+use Rattle.outside_switch.specs.Meets.{Meets, MeetsWith, Seen}
+use Rattle.outside_switch.specs.Passing.{CalledWith, Passed, Shown, Typed, passed_by_call, passed_by_calls, typed_of}
 use Rattle.outside_switch.specs.Says.{Brings, IsFrom, IsHost, IsPassed, IsRight, Saying}
 use Rattle.outside_switch.specs.declared.line.HostLine.{HostLine}
 use Rattle.outside_switch.proofs.Lines.{lines_same}
@@ -45,81 +46,73 @@ use Rattle.outside_switch.proofs.Meanings.{only}
 
 -- ---- the devices
 
-pub called_one : (a b : Held) (act : Act) → Call a b act → Called a act.takes act.sends b
-called_one a b act call = calls.Goes b act calls.Rests call
+called_one : (a b : Held) (act : Act) (call : Call a b act) → CalledWith (passed_by_call call) a act.takes act.sends b
+called_one a b act call = record { called = calls.Goes b act calls.Rests call; passes = refl }
 
-pub called_two : (a b c : Held) (one two : Act) → Call a b one → Call b c two →
-    Called a (one.takes ++ two.takes) (one.sends ++ two.sends) c
-called_two a b c one two p q = calls.Goes c two (called_one a b one p) q
+called_two : (a b c : Held) (one two : Act) (p : Call a b one) (q : Call b c two) →
+    CalledWith (passed_by_call p ++ passed_by_call q) a (one.takes ++ two.takes) (one.sends ++ two.sends) c
+called_two a b c one two p q = record { called = calls.Goes c two (calls.Goes b one calls.Rests p) q; passes = refl }
 
-called_none : (a b : Held) → b ≡ a → Called a [] [] b
-called_none a b same = subst (λ h. Called a [] [] h) (sym same) calls.Rests
+called_none : (a b : Held) → b ≡ a → CalledWith [] a [] [] b
+called_none a b same = subst (λ h. CalledWith [] a [] [] h) (sym same) (record { called = calls.Rests; passes = refl })
 
 -- ---- what was pushed
 
--- nothing was done
-pub nothing_met : (heard : Option Saying) (a b : Seen) → b.devices ≡ a.devices → LinesGo [] a.lines b.lines → Meets heard a b
-nothing_met heard a b devices lines = record {
-  read = [];
-  written = [];
-  pushed = [];
-  called = called_none a.devices b.devices devices;
-  came = λ drives frames brings. tt;
-  right = tt;
-  lines = lines;
+-- the devices were called, and nothing was pushed
+none_met : {passed : List Passed} (heard : Option Saying) (a b : Seen) (read written : List law.Frame) →
+    CalledWith passed a.devices read written b.devices →
+    ((drives : ℕ) (frames : List law.Frame) → Brings drives a.lines heard frames → Came read frames) →
+    LinesGo [] a.lines b.lines → MeetsWith passed heard a b
+none_met heard a b read written c came lines = record {
+  meets = record {
+    read = read;
+    written = written;
+    pushed = [];
+    called = c.called;
+    came = came;
+    right = tt;
+    lines = lines;
+  };
+  passes = c.passes;
 }
 
-pub still_met : (heard : Option Saying) (a : Seen) → Meets heard a a
+-- the devices were called, and one frame was pushed or lost
+one_met : {passed : List Passed} (heard : Option Saying) (a b : Seen) (read written : List law.Frame) (place : ℕ) (said : Said)
+    (r : Bool) → CalledWith passed a.devices read written b.devices →
+    ((drives : ℕ) (frames : List law.Frame) → Brings drives a.lines heard frames → Came read frames) →
+    ((bytes : Vec ℕ) → IsFrom a.lines heard written (record { place = place; bytes = bytes }) said) →
+    Posts place said r a.lines b.lines → MeetsWith passed heard a b
+one_met heard a b read written place said true c came from posts = record {
+  meets = record {
+    read = read;
+    written = written;
+    pushed = record { place = place; bytes = posts.0 } ∷ [];
+    called = c.called;
+    came = came;
+    right = (record { said = said; spelled = posts.1; from = from posts.0 }, tt);
+    lines = posts.2;
+  };
+  passes = c.passes;
+}
+one_met heard a b read written place said false c came from posts = none_met heard a b read written c came posts
+
+-- nothing was done
+pub nothing_met : (heard : Option Saying) (a b : Seen) → b.devices ≡ a.devices → LinesGo [] a.lines b.lines →
+    MeetsWith [] heard a b
+nothing_met heard a b devices lines =
+    none_met heard a b [] [] (called_none a.devices b.devices devices) (λ drives frames brings. tt) lines
+
+pub still_met : (heard : Option Saying) (a : Seen) → MeetsWith [] heard a a
 still_met heard a = nothing_met heard a a refl (lines_same a.lines)
 
 -- the lines that were lent are put back
-pub met_in : (heard : Option Saying) (a : Seen) (devices : Held) (n : ℕ) (lines items : List HostLine) → n ≡ length lines →
-    Meets heard a (record { devices = devices; lines = lines }) →
-    Meets heard a (record { devices = devices; lines = take n (lines ++ drop (length lines) items) })
-met_in heard a devices n lines items same meets =
-    subst (λ l. Meets heard a (record { devices = devices; lines = l }))
+pub met_in : {passed : List Passed} (heard : Option Saying) (a : Seen) (devices : Held) (n : ℕ) (lines items : List HostLine) →
+    n ≡ length lines → MeetsWith passed heard a (record { devices = devices; lines = lines }) →
+    MeetsWith passed heard a (record { devices = devices; lines = take n (lines ++ drop (length lines) items) })
+met_in {passed = passed} heard a devices n lines items same meets =
+    subst (λ l. MeetsWith passed heard a (record { devices = devices; lines = l }))
     (sym (ap (λ k. take k (lines ++ drop (length lines) items)) same
     ∙ take-append_seam lines (drop (length lines) items))) meets
-
--- the devices were called, and one frame was pushed or lost
-pub one_met : (heard : Option Saying) (a b : Seen) (read written : List law.Frame) (place : ℕ) (said : Said) (r : Bool) →
-    Called a.devices read written b.devices →
-    ((drives : ℕ) (frames : List law.Frame) → Brings drives a.lines heard frames → Came read frames) →
-    ((bytes : Vec ℕ) → IsFrom a.lines heard written (record { place = place; bytes = bytes }) said) →
-    Posts place said r a.lines b.lines → Meets heard a b
-one_met heard a b read written place said true called came from posts = record {
-  read = read;
-  written = written;
-  pushed = record { place = place; bytes = posts.0 } ∷ [];
-  called = called;
-  came = came;
-  right = (record { said = said; spelled = posts.1; from = from posts.0 }, tt);
-  lines = posts.2;
-}
-one_met heard a b read written place said false called came from posts = record {
-  read = read;
-  written = written;
-  pushed = [];
-  called = called;
-  came = came;
-  right = tt;
-  lines = posts;
-}
-
--- the devices were called, and nothing was pushed
-pub none_met : (heard : Option Saying) (a b : Seen) (read written : List law.Frame) →
-    Called a.devices read written b.devices →
-    ((drives : ℕ) (frames : List law.Frame) → Brings drives a.lines heard frames → Came read frames) →
-    LinesGo [] a.lines b.lines → Meets heard a b
-none_met heard a b read written called came lines = record {
-  read = read;
-  written = written;
-  pushed = [];
-  called = called;
-  came = came;
-  right = tt;
-  lines = lines;
-}
 
 -- ---- what a host says
 
@@ -132,25 +125,38 @@ brings_one : (place : ℕ) (said : Said) (frame : law.Frame) (a : Seen) (drives 
     Came (frame ∷ []) frames
 brings_one place said frame a drives frames means brings = (means brings.0 brings.2, tt)
 
-pub byte_met : (place port number byte count : ℕ) (room r : Bool) (a b : Seen) →
+-- a byte was shown exactly if it was accepted
+abbrev pub shown_so : ℕ → Option ℕ → List Passed
+shown_so port None = []
+shown_so port (Some byte) = Shown port byte ∷ []
+
+shown_if : (accepts : Bool) (port byte : ℕ) (shown : Option ℕ) → shown ≡ cond accepts (Some byte) None →
+    cond accepts (Shown port byte ∷ []) [] ++ [] ≡ shown_so port shown
+shown_if true port byte shown is = ap (shown_so port) (sym is)
+shown_if false port byte shown is = ap (shown_so port) (sym is)
+
+pub byte_met : (place port number byte count : ℕ) (room r : Bool) (shown : Option ℕ) (a b : Seen) →
+    shown ≡ cond (is_accepted a.devices.terminals port number room) (Some byte) None →
     b.devices ≡ record a.devices { terminals = arrived_after a.devices.terminals port number room } →
     count ≡ (terminal_at b.devices.terminals port).accepted →
     Posts place (Transfers (Accepted port count)) r a.lines b.lines →
-    Meets (saying place (Transfers (Byte port number byte))) a b
-byte_met place port number byte count room r a b arrives counts posts =
-    one_met (saying place (Transfers (Byte port number byte))) a b _ _ place (Transfers (Accepted port count)) r
+    MeetsWith (shown_so port shown) (saying place (Transfers (Byte port number byte))) a b
+byte_met place port number byte count room r shown a b is arrives counts posts =
+    subst (λ l. MeetsWith l (saying place (Transfers (Byte port number byte))) a b)
+    (shown_if (is_accepted a.devices.terminals port number room) port byte shown is)
+    (one_met (saying place (Transfers (Byte port number byte))) a b _ _ place (Transfers (Accepted port count)) r
     (called_two a.devices b.devices b.devices _ _ (calls.TakesByte port number byte room arrives) (calls.SendsCount port refl))
     (λ drives frames. brings_one place (Transfers (Byte port number byte)) _ a drives frames
     (λ host told. told _ (meaning.OfByte port number byte)))
     (λ bytes. inr (λ drives host frame is means.
     inl (only drives host _ frame means ∙ ap (λ n. law.AreAccepted port n) counts)))
-    posts
+    posts)
 
 pub written_met : (place : ℕ) (write : SectorWrite) (r : Bool) (a b : Seen) →
     Puts a.devices.records write (Ok tt) b.devices.records →
     b.devices ≡ record a.devices { records = b.devices.records; may_fail = b.devices.may_fail } →
     Posts place (Transfers (Written write.number)) r a.lines b.lines →
-    Meets (saying place (Transfers (Write write))) a b
+    MeetsWith [] (saying place (Transfers (Write write))) a b
 written_met place write r a b puts same posts =
     one_met (saying place (Transfers (Write write))) a b _ _ place (Transfers (Written write.number)) r
     (called_one a.devices b.devices _ (calls.PutsWrite write puts same))
@@ -163,7 +169,7 @@ pub unwritten_met : (place : ℕ) (write : SectorWrite) (why : fault.Fault) (r :
     Puts a.devices.records write (Err why) b.devices.records →
     b.devices ≡ record a.devices { records = b.devices.records; may_fail = b.devices.may_fail } →
     Posts place (Transfers (Failed write.number)) r a.lines b.lines →
-    Meets (saying place (Transfers (Write write))) a b
+    MeetsWith [] (saying place (Transfers (Write write))) a b
 unwritten_met place write why r a b puts same posts =
     one_met (saying place (Transfers (Write write))) a b _ _ place (Transfers (Failed write.number)) r
     (called_one a.devices b.devices _ (calls.RefusesWrite write why puts same))
@@ -181,7 +187,7 @@ pub sector_met : (place : ℕ) (address : SectorAddress) (read : SectorRead) (r 
     Reads a.devices.records address (Ok read) b.devices.records →
     b.devices ≡ record a.devices { records = b.devices.records; may_fail = b.devices.may_fail } →
     Posts place (Transfers (Sector read)) r a.lines b.lines →
-    Meets (saying place (Transfers (Get address))) a b
+    MeetsWith [] (saying place (Transfers (Get address))) a b
 sector_met place address read r a b reads same posts =
     let there : address_of_read read ≡ address =
     read_there address read (record_at a.devices.records address) reads.0 in
@@ -197,7 +203,7 @@ sector_met place address read r a b reads same posts =
 pub unread_met : (place : ℕ) (address : SectorAddress) (why : fault.Fault) (a b : Seen) →
     Reads a.devices.records address (Err why) b.devices.records →
     b.devices ≡ record a.devices { records = b.devices.records; may_fail = b.devices.may_fail } →
-    b.lines ≡ a.lines → Meets (saying place (Transfers (Get address))) a b
+    b.lines ≡ a.lines → MeetsWith [] (saying place (Transfers (Get address))) a b
 unread_met place address why a b reads same lines =
     none_met (saying place (Transfers (Get address))) a b _ _
     (called_one a.devices b.devices _ (calls.RefusesRead address why reads same))
@@ -222,7 +228,7 @@ brings_question place generation number a at drives frames brings = (
 pub won_met : (place generation number : ℕ) (won : arbiter.Won) (r : Bool) (a b : Seen) →
     number_at a.lines place ≡ Some number → Asks a.devices.askings generation number (Ok won) b.devices.askings →
     b.devices ≡ record a.devices { askings = b.devices.askings } →
-    Posts place (Tells (Won generation)) r a.lines b.lines → Meets (saying place (Tells (Suspect generation))) a b
+    Posts place (Tells (Won generation)) r a.lines b.lines → MeetsWith [] (saying place (Tells (Suspect generation))) a b
 won_met place generation number won r a b at asks same posts =
     one_met (saying place (Tells (Suspect generation))) a b _ _ place (Tells (Won generation)) r
     (called_one a.devices b.devices _ (calls.Wins generation number won asks same))
@@ -236,7 +242,7 @@ pub lost_met : (place generation number : ℕ) (why : fault.Fault) (r : Bool) (a
     number_at a.lines place ≡ Some number → why ≡ Lost →
     Asks a.devices.askings generation number (Err why) b.devices.askings →
     b.devices ≡ record a.devices { askings = b.devices.askings } →
-    Posts place (Tells (notice.Lost generation)) r a.lines b.lines → Meets (saying place (Tells (Suspect generation))) a b
+    Posts place (Tells (notice.Lost generation)) r a.lines b.lines → MeetsWith [] (saying place (Tells (Suspect generation))) a b
 lost_met place generation number why r a b at lost asks same posts =
     one_met (saying place (Tells (Suspect generation))) a b _ _ place (Tells (notice.Lost generation)) r
     (called_one a.devices b.devices _ (calls.Loses generation number
@@ -250,7 +256,7 @@ lost_met place generation number why r a b at lost asks same posts =
 pub forgot_met : (place generation number : ℕ) (why : fault.Fault) (a b : Seen) →
     number_at a.lines place ≡ Some number → Asks a.devices.askings generation number (Err why) b.devices.askings →
     b.devices ≡ record a.devices { askings = b.devices.askings } →
-    b.lines ≡ a.lines → Meets (saying place (Tells (Suspect generation))) a b
+    b.lines ≡ a.lines → MeetsWith [] (saying place (Tells (Suspect generation))) a b
 forgot_met place generation number why a b at asks same lines =
     none_met (saying place (Tells (Suspect generation))) a b _ _
     (called_one a.devices b.devices _ (calls.Forgets generation number why asks same))
@@ -259,26 +265,40 @@ forgot_met place generation number why a b at asks same lines =
 
 -- ---- what a host reports
 
-called_both : (a b c : Held) (r s w v : List law.Frame) → Called a r w b → Called b s v c → Called a (r ++ s) (w ++ v) c
-called_both a b c r s w v p calls.Rests =
-    subst (λ l. Called a l (w ++ []) b) (sym (append-nil r))
-    (subst (λ l. Called a r l b) (sym (append-nil w)) p)
-called_both a b c r s w v p (calls.Goes {held = held} {read = x} {written = y} new act before call) =
-    subst (λ l. Called a l (w ++ (y ++ act.sends)) new) (append_assoc r x act.takes)
-    (subst (λ l. Called a ((r ++ x) ++ act.takes) l new) (append_assoc w y act.sends)
-    (calls.Goes new act (called_both a b held r x w y p before) call))
+none_both : (xs ys : List Passed) → xs ++ ys ≡ [] → (xs ≡ []) × (ys ≡ [])
+none_both [] ys e = (refl, e)
+none_both (x ∷ xs) ys e = absurd (cc)
+
+calls_both : (a b c : Held) (r s w v : List law.Frame) → CalledWith [] a r w b → (called : Called b s v c) →
+    passed_by_calls called ≡ [] → CalledWith [] a (r ++ s) (w ++ v) c
+calls_both a b c r s w v p calls.Rests none =
+    subst (λ l. CalledWith [] a l (w ++ []) b) (sym (append-nil r))
+    (subst (λ l. CalledWith [] a r l b) (sym (append-nil w)) p)
+calls_both a b c r s w v p (calls.Goes {held = held} {read = x} {written = y} new act before call) none =
+    let n = none_both (passed_by_calls before) (passed_by_call call) none in
+    let q = calls_both a b held r x w y p before n.0 in
+    subst (λ l. CalledWith [] a l (w ++ (y ++ act.sends)) new) (append_assoc r x act.takes)
+    (subst (λ l. CalledWith [] a ((r ++ x) ++ act.takes) l new) (append_assoc w y act.sends)
+    (record {
+      called = calls.Goes new act q.called call;
+      passes = ap (λ l. l ++ passed_by_call call) q.passes ∙ n.1;
+    }))
+
+called_both : (a b c : Held) (r s w v : List law.Frame) → CalledWith [] a r w b → CalledWith [] b s v c →
+    CalledWith [] a (r ++ s) (w ++ v) c
+called_both a b c r s w v p q = calls_both a b c r s w v p q.called q.passes
 
 -- keys are told, unless none are covered
 pub told_covered : (port keys : ℕ) (a b : Held) → 0 < keys →
-    b ≡ record a { terminals = told_after a.terminals port keys } → Called a (covered_at port keys) [] b
+    b ≡ record a { terminals = told_after a.terminals port keys } → CalledWith [] a (covered_at port keys) [] b
 told_covered port keys a b some tells =
-    subst (λ c. Called a (cond c [] (law.TellsKeys port keys ∷ [])) [] b)
+    subst (λ c. CalledWith [] a (cond c [] (law.TellsKeys port keys ∷ [])) [] b)
     (sym (ne_eqb keys 0 (λ e. absurd (omega arith))))
     (called_one a b _ (calls.HearsKeys port keys tells))
 
-pub told_none : (port keys : ℕ) (a : Held) → keys ≡ 0 → Called a (covered_at port keys) [] a
+pub told_none : (port keys : ℕ) (a : Held) → keys ≡ 0 → CalledWith [] a (covered_at port keys) [] a
 told_none port keys a none =
-    subst (λ n. Called a (covered_at port n) [] a) (sym none) calls.Rests
+    subst (λ n. CalledWith [] a (covered_at port n) [] a) (sym none) (called_none a a refl)
 
 brings_covered : (place : ℕ) (report : host.Report) (port keys : ℕ) (a : Seen) (drives : ℕ) (frames : List law.Frame) →
     slice_get report.covered port ≡ Some keys →
@@ -297,8 +317,8 @@ came_both (x ∷ xs) ys frames p q = (p.0, came_both xs ys frames p.1 q)
 
 pub report_met : (place first second : ℕ) (report : host.Report) (a b : Seen) (mid : Held) →
     slice_get report.covered 0 ≡ Some first → slice_get report.covered 1 ≡ Some second →
-    Called a.devices (covered_at 0 first) [] mid → Called mid (covered_at 1 second) [] b.devices →
-    LinesGo [] a.lines b.lines → Meets (saying place (Tells (Report report))) a b
+    CalledWith [] a.devices (covered_at 0 first) [] mid → CalledWith [] mid (covered_at 1 second) [] b.devices →
+    LinesGo [] a.lines b.lines → MeetsWith [] (saying place (Tells (Report report))) a b
 report_met place first second report a b mid is_first is_second p q lines =
     none_met (saying place (Tells (Report report))) a b _ _
     (called_both a.devices mid b.devices (covered_at 0 first) (covered_at 1 second) [] [] p q)
@@ -312,7 +332,7 @@ report_met place first second report a b mid is_first is_second p q lines =
 
 pub passed_met : (place to : ℕ) (heard said : Said) (r : Bool) (a b : Seen) →
     IsPassed place to (number_at a.lines to) heard said → b.devices ≡ a.devices → Posts to said r a.lines b.lines →
-    Meets (saying place heard) a b
+    MeetsWith [] (saying place heard) a b
 passed_met place to heard said r a b passed devices posts =
     one_met (saying place heard) a b [] [] to said r (called_none a.devices b.devices devices)
     (λ drives frames brings. tt) (λ bytes. inl passed) posts
@@ -320,7 +340,7 @@ passed_met place to heard said r a b passed devices posts =
 -- ---- what nobody said
 
 pub key_met : (place port index byte : ℕ) (r : Bool) (a b : Seen) → key_answer a.devices.terminals port index ≡ Ok byte →
-    b.devices ≡ a.devices → Posts place (Transfers (Key port index byte)) r a.lines b.lines → Meets None a b
+    b.devices ≡ a.devices → Posts place (Transfers (Key port index byte)) r a.lines b.lines → MeetsWith [] None a b
 key_met place port index byte r a b key devices posts =
     one_met None a b _ _ place (Transfers (Key port index byte)) r
     (called_one a.devices b.devices _ (calls.SendsKey port index byte key devices))
@@ -328,7 +348,7 @@ key_met place port index byte r a b key devices posts =
 
 pub typed_met : (port byte index : ℕ) (a b : Seen) → typed_answer a.devices.terminals port ≡ Ok index →
     b.devices ≡ record a.devices { terminals = typed_after a.devices.terminals port byte } → b.lines ≡ a.lines →
-    Meets None a b
+    MeetsWith (Typed port byte ∷ []) None a b
 typed_met port byte index a b typed devices lines =
     none_met None a b _ _ (called_one a.devices b.devices _ (calls.TypesKey port byte index typed devices))
     (λ drives frames brings. tt) (subst (λ l. LinesGo [] a.lines l) (sym lines) (lines_same a.lines))
@@ -353,7 +373,7 @@ typed_same terminals port byte why is = go (nat_lt port PORTS) is
 
 pub typed_so : (port byte : ℕ) (r : Result ℕ fault.Fault) (a b : Seen) → r ≡ typed_answer a.devices.terminals port →
     b.devices ≡ record a.devices { terminals = typed_after a.devices.terminals port byte } → b.lines ≡ a.lines →
-    Meets None a b
+    MeetsWith (typed_of r port byte) None a b
 typed_so port byte (Ok index) a b is devices lines = typed_met port byte index a b (sym is) devices lines
 typed_so port byte (Err why) a b is devices lines =
     nothing_met None a b
@@ -370,11 +390,12 @@ begins_so place spare generation true a b admits low posts = record {
   bytes = posts.0;
   spelled = posts.1;
   counted = ltb-true generation b.devices.hosts low;
+  passes = (called_two a.devices b.devices b.devices _ _ (calls.Admits generation admits) (calls.Offers generation low refl)).passes;
   meets = record {
     read = [];
     written = law.MayBegin generation ∷ [];
     pushed = record { place = place; bytes = posts.0 } ∷ [];
-    called = called_two a.devices b.devices b.devices _ _ (calls.Admits generation admits) (calls.Offers generation low refl);
+    called = (called_two a.devices b.devices b.devices _ _ (calls.Admits generation admits) (calls.Offers generation low refl)).called;
     came = λ drives frames brings. tt;
     right = (
       record {
@@ -394,7 +415,7 @@ begins_so place spare generation false a b admits low posts =
 
 -- a host is counted
 pub admitted_met : (generation : ℕ) (a b : Seen) →
-    b.devices ≡ record a.devices { hosts = admitted_after a.devices.hosts generation } → b.lines ≡ a.lines → Meets None a b
+    b.devices ≡ record a.devices { hosts = admitted_after a.devices.hosts generation } → b.lines ≡ a.lines → MeetsWith [] None a b
 admitted_met generation a b admits lines =
     none_met None a b _ _ (called_one a.devices b.devices _ (calls.Admits generation admits))
     (λ drives frames brings. tt) (subst (λ l. LinesGo [] a.lines l) (sym lines) (lines_same a.lines))
@@ -417,23 +438,28 @@ all_right a said (p ∷ ps) silent spelled = (
 )
 
 pub notice_met : (said : Notice) (a b : Seen) → IsSilent said → b.devices ≡ a.devices →
-    PostsAll (Tells said) a.lines b.lines → Meets None a b
-notice_met said a b silent devices posts = record {
-  read = [];
-  written = [];
-  pushed = posts.pushed;
-  called = called_none a.devices b.devices devices;
-  came = λ drives frames brings. tt;
-  right = all_right a said posts.pushed silent posts.spelled;
-  lines = posts.lines;
-}
+    PostsAll (Tells said) a.lines b.lines → MeetsWith [] None a b
+notice_met said a b silent devices posts =
+    let none = called_none a.devices b.devices devices in
+    record {
+      meets = record {
+        read = [];
+        written = [];
+        pushed = posts.pushed;
+        called = none.called;
+        came = λ drives frames brings. tt;
+        right = all_right a said posts.pushed silent posts.spelled;
+        lines = posts.lines;
+      };
+      passes = none.passes;
+    }
 
 pub gone_met : (place : ℕ) (a b : Seen) → b.devices ≡ a.devices → PostsAll (Tells (Gone place)) a.lines b.lines →
-    Meets None a b
+    MeetsWith [] None a b
 gone_met place a b = notice_met (Gone place) a b (λ drives host frame. only drives host (Tells (Gone place)) frame)
 
-pub tick_met : (a b : Seen) → b.devices ≡ a.devices → PostsAll (Tells Tick) a.lines b.lines → Meets None a b
+pub tick_met : (a b : Seen) → b.devices ≡ a.devices → PostsAll (Tells Tick) a.lines b.lines → MeetsWith [] None a b
 tick_met a b = notice_met Tick a b (λ drives host frame. only drives host (Tells Tick) frame)
 
-pub stop_met : (a b : Seen) → b.devices ≡ a.devices → PostsAll (Tells Stop) a.lines b.lines → Meets None a b
+pub stop_met : (a b : Seen) → b.devices ≡ a.devices → PostsAll (Tells Stop) a.lines b.lines → MeetsWith [] None a b
 stop_met a b = notice_met Stop a b (λ drives host frame. only drives host (Tells Stop) frame)

@@ -9,7 +9,8 @@ use Rattle.outside_switch.specs.Heeds.{HeedsBody}
 use Rattle.outside_switch.specs.declared.heard.Heard.{Heard}
 use Rattle.outside_switch.specs.declared.heard.Heard.TheVariants.{Nothing}
 use Rattle.outside_switch.specs.Lines.{AtPlace, IsClosed, IsNamed, LineGoes, MayBeGiven, NoneWaits, OneLine, Posts}
-use Rattle.outside_switch.specs.Meets.{Meets, Seen}
+use Rattle.outside_switch.specs.Meets.{Meets, MeetsWith, Seen}
+use Rattle.outside_switch.specs.Passing.{Passed, passed_by_calls}
 use Rattle.outside_switch.specs.declared.line.HostLine.{HostLine}
 
 -- only the line of one place became another
@@ -29,12 +30,13 @@ pub record Begins (place generation : ℕ) (old new : Seen) : Type 0 where
   pub spelled : IsSpelling (Tells (Begin generation place)) bytes.items
   pub counted : generation < new.devices.hosts
   pub meets : Meets None old new
+  pub passes : passed_by_calls meets.called ≡ []
   pub pushed : meets.pushed ≡ record { place = to; bytes = bytes } ∷ []
 
 -- that, or only the host of the generation is counted
 abbrev pub BeginsSo : ℕ → ℕ → Bool → Seen → Seen → Type 0
 BeginsSo place generation true old new = Begins place generation old new
-BeginsSo place generation false old new = Meets None old new
+BeginsSo place generation false old new = MeetsWith [] None old new
 
 -- one move
 pub data Moves (old new : Seen) : Type 0 where
@@ -56,20 +58,37 @@ pub data Goes (first : Seen) : Seen → Type 0 where
   Rests : Goes first first
   Next : {mid : Seen} (new : Seen) → Goes first mid → Moves mid new → Goes first new
 
+-- what passed between the devices and the user by a move, and on the way
+abbrev pub passed_by : {old new : Seen} → Moves old new → List Passed
+passed_by (Acts meets) = passed_by_calls meets.called
+passed_by (Hears taken place body said takes is meets) = passed_by_calls meets.called
+passed_by (Drops place body takes) = []
+passed_by (Closes place closes) = []
+passed_by (Names begun place generation may begins names) = passed_by_calls begins.meets.called
+
+abbrev pub passed_in : {first last : Seen} → Goes first last → List Passed
+passed_in Rests = []
+passed_in (Next new before move) = passed_in before ++ passed_by move
+
+pub record GoesWith (passed : List Passed) (first last : Seen) : Type 0 where
+  pub way : Goes first last
+  pub passes : passed_in way ≡ passed
+
 -- what a host said was met, and then it may be cut off
-pub record HearsFrame (place : ℕ) (said : Said) (old new : Seen) : Type 0 where
+pub record HearsFrame (passed : List Passed) (place : ℕ) (said : Said) (old new : Seen) : Type 0 where
   pub met : Seen
-  pub meets : Meets (Some (record { place = place; said = said })) old met
-  pub goes : Goes met new
+  pub meets : MeetsWith passed (Some (record { place = place; said = said })) old met
+  pub goes : GoesWith [] met new
 
 -- a body was dropped, or what it says was met
-abbrev pub HearsBody : ℕ → List ℕ → Seen → Seen → Type 0
-HearsBody place body old new = Goes old new ⊎ ((said : Said) × IsBodyOf said body × HearsFrame place said old new)
+abbrev pub HearsBody : List Passed → ℕ → List ℕ → Seen → Seen → Type 0
+HearsBody passed place body old new =
+    GoesWith passed old new ⊎ ((said : Said) × IsBodyOf said body × HearsFrame passed place said old new)
 
 -- a body came from the host at a place, or none waits
 abbrev pub NextSo : ℕ → Option (Vec ℕ) → Seen → Seen → Type 0
 NextSo place (Some body) old new = Takes place body old new
-NextSo place None old new = Meets None old new × (new.devices ≡ old.devices) × NoneWaits (slice_get new.lines place)
+NextSo place None old new = MeetsWith [] None old new × (new.devices ≡ old.devices) × NoneWaits (slice_get new.lines place)
 
 abbrev pub HeedsNext : ℕ → List Bool → Option (Vec ℕ) → Seen → Seen → Heard → Type 0
 HeedsNext place rooms None taken new heard = (new ≡ taken) × (heard ≡ Nothing)
@@ -85,7 +104,7 @@ pub record Begun (place generation : ℕ) (old new : Seen) : Type 0 where
 
 abbrev pub BegunSo : ℕ → ℕ → Bool → Seen → Seen → Type 0
 BegunSo place generation true old new = Begun place generation old new
-BegunSo place generation false old new = Meets None old new
+BegunSo place generation false old new = MeetsWith [] None old new
 
 -- the key of an index was sent to the host at a place, or lost; one that is not kept is not sent
 abbrev pub SendsKey : Result ℕ Fault → ℕ → ℕ → ℕ → Bool → List HostLine → List HostLine → Type 0

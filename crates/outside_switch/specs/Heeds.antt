@@ -1,7 +1,8 @@
 -- What the devices do of what a host says, and what whoever calls is told of it.
-use Rattle.std.specs.Prelude.{◌≡◌, ◌⊎◌, ℕ, ◌==◌, Bool, true, false, not, is_none, nat_lt, if◌then◌else◌, List, length, slice_index, slice_index_or, slice_get, Option, Some, None, Result, Ok, Err}
+use Rattle.std.specs.Prelude.{◌≡◌, ◌⊎◌, ◌<◌, ℕ, ◌==◌, Bool, true, false, not, is_none, nat_lt, if◌then◌else◌, List, length, slice_index, slice_index_or, slice_get, Option, Some, None, Result, Ok, Err}
 use Rattle.arbiter_core.specs.declared.arbiter.Won as arbiter
 use Rattle.disk_dcdd.specs.declared.sector.SectorWrite.{SectorWrite}
+use Rattle.event_callbacks.specs.declared.devices.TheConstants.{PORTS}
 use Rattle.host_frames.specs.Frames.{IsBodyOf, Said, Packet, Transfers, Tells}
 use Rattle.host_frames.specs.declared.frame.Notice.{Notice}
 use Rattle.host_frames.specs.declared.frame.Notice.TheVariants.{Join, Progress, Report, Suspect}
@@ -98,3 +99,8 @@ HeedsOpen true place rooms body lines old new heard =
 abbrev pub HeedsBody : ℕ → List Bool → List ℕ → List HostLine → Held → Held → Heard → Type 0
 HeedsBody place rooms body lines old new heard =
     HeedsOpen (open_in (slice_get lines place)) place rooms body lines old new heard
+
+-- a byte is shown only on the screen of a port, and if that has room
+abbrev pub HasRoomFor : List Bool → Heard → Type 0
+HasRoomFor rooms (Shown port byte) = (port < PORTS) × (room_of rooms port ≡ true)
+HasRoomFor rooms _ = Unit {0}

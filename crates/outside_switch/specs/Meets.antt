@@ -1,11 +1,12 @@
 -- What one call does: calls of the devices, and frames that are pushed.
-use Rattle.std.specs.Prelude.{ℕ, List, Option, None, Some}
+use Rattle.std.specs.Prelude.{◌≡◌, ℕ, List, Option, None, Some}
 use Rattle.std.specs.List.{AllByRecursion}
 use Rattle.host_law.specs.Frame.{Came, Frame}
 use Rattle.outside_devices.specs.Held.{Held}
 use Rattle.host_frames.specs.Frames.{Said}
 use Rattle.outside_switch.specs.Calls.{Called}
 use Rattle.outside_switch.specs.Lines.{LinesGo, Pushed}
+use Rattle.outside_switch.specs.Passing.{Passed, passed_by_calls}
 use Rattle.outside_switch.specs.Says.{Brings, IsRight, Saying}
 use Rattle.outside_switch.specs.declared.line.HostLine.{HostLine}
 use Rattle.outside_switch.specs.declared.switch.Switch.{Switch}
@@ -29,9 +30,11 @@ pub record Meets (heard : Option Saying) (old new : Seen) : Type 0 where
   pub right : AllByRecursion (IsRight old.lines heard written) pushed
   pub lines : LinesGo pushed old.lines new.lines
 
--- what the host at a place said was met; nobody said anything
-abbrev pub MeetsSaid : {D : Type 0} → ℕ → Said → Switch D → Switch D → Type 0
-MeetsSaid place said old new = Meets (Some (record { place = place; said = said })) (seen old) (seen new)
+-- the same, by which this passed between the devices and the user
+pub record MeetsWith (passed : List Passed) (heard : Option Saying) (old new : Seen) : Type 0 where
+  pub meets : Meets heard old new
+  pub passes : passed_by_calls meets.called ≡ passed
 
-abbrev pub MeetsNone : {D : Type 0} → Switch D → Switch D → Type 0
-MeetsNone old new = Meets None (seen old) (seen new)
+-- what the host at a place said was met
+abbrev pub MeetsSaid : {D : Type 0} → List Passed → ℕ → Said → Switch D → Switch D → Type 0
+MeetsSaid passed place said old new = MeetsWith passed (Some (record { place = place; said = said })) (seen old) (seen new)

@@ -1,5 +1,5 @@
 -- What the calls of the switch are in the law of processes.
-use Rattle.std.specs.Prelude.{◌≡◌, ◌<◌, ◌≤◌, ◌⊎◌, ℕ, List, [], Some, Option}
+use Rattle.std.specs.Prelude.{◌≡◌, ◌<◌, ◌≤◌, ◌⊎◌, ℕ, List, [], ◌++◌, Some, Option}
 use Rattle.guest_lockstep.specs.Machine.{Machine}
 use Rattle.host_law.specs.Frame.{Came, Frame}
 use Rattle.host_law.specs.Outside.{Outside, at_first}
@@ -8,9 +8,11 @@ use Rattle.outside_devices.specs.Held.{Held, at_boot}
 use Rattle.outside_devices.specs.Ran.{OutsideRan}
 use Rattle.outside_devices.specs.Shown.{IsDisk, Shows}
 use Rattle.outside_switch.specs.Goes as goes
-use Rattle.outside_switch.specs.Goes.{Goes, Moves}
+use Rattle.outside_switch.specs.Goes.{Goes, Moves, passed_by}
 use Rattle.outside_switch.specs.Lines.{AreApart, Pushed, number_at}
 use Rattle.outside_switch.specs.Meets.{Seen}
+use Rattle.outside_switch.specs.Passing.{Passed, shown_at, typed_at}
+use Rattle.pair_protocol.specs.World.{accepted_in, terminal_in}
 use Rattle.outside_switch.specs.Says.{Brings}
 
 -- the frames of the law that a move took in, those that it sent, and the frames that it pushed to hosts
@@ -44,18 +46,25 @@ MoveBrings drives frames (goes.Drops place body takes) = Unit {0}
 MoveBrings drives frames (goes.Closes place closes) = Unit {0}
 MoveBrings drives frames (goes.Names begun place generation may begins names) = Unit {0}
 
+-- what was shown is what terminals of the law have accepted, in order and each once, and what was typed was typed at them
+abbrev pub HasPassed : List Passed → Outside → Outside → Type 0
+HasPassed passed o p = (port : ℕ) →
+    (accepted_in p.terminals port ≡ accepted_in o.terminals port ++ shown_at port passed)
+    × ((terminal_in p.terminals port).typed ≡ (terminal_in o.terminals port).typed ++ typed_at port passed)
+
 -- The devices came here by a run of the law's outside, which took in only what the host that was heard has said, and sent
--- what the hosts are told.
+-- what the hosts are told; and this passed between its terminals and the user.
 pub record MoveRan {S : Type 0} (M : Machine S) (drives : ℕ) (frames : List Frame) (o : Outside)
-    (read written : List Frame) (new : Held) : Type 0 where
+    (read written : List Frame) (passed : List Passed) (new : Held) : Type 0 where
   pub ran : OutsideRan M drives o read written new
   pub came : Came read frames
+  pub passes : HasPassed passed o ran.last
 
 -- each move is a run of whatever outside the devices show that counts all hosts which are there after it
 abbrev pub SwitchRuns : (S : Type 0) → Type 0
 SwitchRuns S = (M : Machine S) (drives : ℕ) (frames : List Frame) (old new : Seen) (move : Moves old new) (o : Outside) →
     Shows M drives old.devices o → new.devices.hosts ≤ o.hosts → MoveBrings drives frames move →
-    MoveRan M drives frames o (read_by move) (written_by move) new.devices
+    MoveRan M drives frames o (read_by move) (written_by move) (passed_by move) new.devices
 
 -- a switch begins with nothing, over a disk on which nothing is written
 abbrev pub SwitchBegins : (S : Type 0) → Type 0

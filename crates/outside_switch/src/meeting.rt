@@ -6,9 +6,9 @@ ghost use Rattle.host_frames.specs.Frames.{Packet, Said, Tells, Transfers, said_
 ghost use Rattle.host_frames.specs.Meaning.{covered_at};
 ghost use Rattle.host_frames.specs.declared.frame.Notice.TheVariants as of_notice;
 ghost use Rattle.host_frames.specs.declared.frame.Transfer.TheVariants as of_transfer;
-ghost use Rattle.outside_switch.specs.Calls.{Called};
 ghost use Rattle.outside_switch.specs.Lines.{number_at};
 ghost use Rattle.outside_switch.specs.Meets.{MeetsSaid};
+ghost use Rattle.outside_switch.specs.Passing.{CalledWith, passed_of};
 ghost use Rattle.outside_switch.specs.Says.{IsPassed};
 
 use crate::heard::Heard;
@@ -30,7 +30,7 @@ impl<D: SectorStore> Switch<D> {
         frame: Frame<'_>,
         rooms: [bool; PORTS],
     ) -> Heard
-        ensures meets { MeetsSaid place (said_by frame.entry) self.old self.new }
+        ensures meets { MeetsSaid (passed_of result) place (said_by frame.entry) self.old self.new }
         ensures heeds { HeedsAt place rooms (said_by frame.entry) self.old.lines.items self.old.devices self.new.devices result }
     {
         match frame {
@@ -51,7 +51,7 @@ impl<D: SectorStore> Switch<D> {
         transfer: Transfer,
         rooms: [bool; PORTS],
     ) -> Heard
-        ensures meets { MeetsSaid place (Transfers transfer) self.old self.new }
+        ensures meets { MeetsSaid (passed_of result) place (Transfers transfer) self.old self.new }
         ensures heeds { HeedsTransfer rooms transfer self.old.devices self.new.devices result }
     {
         match transfer {
@@ -67,7 +67,7 @@ impl<D: SectorStore> Switch<D> {
     // What is said to the arbiter or the switch.
     #[tactic(auto, using(crate::proofs::Acting::still_met))]
     fn meet_notice(&mut self, alloc: Global, place: u8, notice: Notice) -> Heard
-        ensures meets { MeetsSaid place (Tells notice) self.old self.new }
+        ensures meets { MeetsSaid (passed_of result) place (Tells notice) self.old self.new }
         ensures heeds { HeedsNotice (length self.old.lines.items) (number_at self.old.lines.items place) notice self.old.devices self.new.devices result }
     {
         match notice {
@@ -100,7 +100,7 @@ impl<D: SectorStore> Switch<D> {
     fn pass(&mut self, alloc: Global, host: u8, frame: &Frame<'_>) -> Heard
         ensures meets { (place : ℕ) (heard : Said)
             → IsPassed place host (number_at self.old.lines.items host) heard (said_by frame.now)
-            → MeetsSaid place heard self.old self.new }
+            → MeetsSaid (passed_of result) place heard self.old self.new }
         ensures heeds { Stays self.old.devices self.new.devices result (passed_if (length self.old.lines.items) host) }
     {
         if usize::from(host) >= self.lines.len() {
@@ -121,7 +121,7 @@ impl<D: SectorStore> Switch<D> {
         byte: u8,
         room: bool,
     ) -> Heard
-        ensures meets { MeetsSaid place (Transfers (of_transfer.Byte port number byte)) self.old self.new }
+        ensures meets { MeetsSaid (passed_of result) place (Transfers (of_transfer.Byte port number byte)) self.old self.new }
         ensures heeds { (self.new.devices ≡ record self.old.devices { terminals = arrived_after self.old.devices.terminals port number room })
             × (result ≡ shown_if (is_accepted self.old.devices.terminals port number room) port byte) }
     {
@@ -138,7 +138,7 @@ impl<D: SectorStore> Switch<D> {
     // A released write arrives at the disk.
     #[tactic(auto, using(crate::proofs::Acting::written_met, crate::proofs::Acting::unwritten_met))]
     fn meet_write(&mut self, alloc: Global, place: u8, write: &SectorWrite) -> Heard
-        ensures meets { MeetsSaid place (Transfers (of_transfer.Write write.now)) self.old self.new }
+        ensures meets { MeetsSaid (passed_of result) place (Transfers (of_transfer.Write write.now)) self.old self.new }
         ensures heeds { Writes write.now self.old.devices self.new.devices result }
     {
         match self.devices.put(write) {
@@ -158,7 +158,7 @@ impl<D: SectorStore> Switch<D> {
     // A sector is read.
     #[tactic(auto, using(crate::proofs::Acting::sector_met, crate::proofs::Acting::unread_met))]
     fn meet_get(&mut self, alloc: Global, place: u8, address: SectorAddress) -> Heard
-        ensures meets { MeetsSaid place (Transfers (of_transfer.Get address)) self.old self.new }
+        ensures meets { MeetsSaid (passed_of result) place (Transfers (of_transfer.Get address)) self.old self.new }
         ensures heeds { HeedsTransfer [] (of_transfer.Get address) self.old.devices self.new.devices result }
     {
         let Ok(read) = self.devices.read(address) else {
@@ -172,7 +172,7 @@ impl<D: SectorStore> Switch<D> {
     // The arbiter is asked, in the name of the host that is at the place.
     #[tactic(auto, using(crate::proofs::Acting::won_met, crate::proofs::Acting::lost_met, crate::proofs::Acting::forgot_met, crate::proofs::Acting::still_met))]
     fn meet_suspect(&mut self, alloc: Global, place: u8, generation: u32) -> Heard
-        ensures meets { MeetsSaid place (Tells (of_notice.Suspect generation)) self.old self.new }
+        ensures meets { MeetsSaid (passed_of result) place (Tells (of_notice.Suspect generation)) self.old self.new }
         ensures heeds { Asked (number_at self.old.lines.items place) generation self.old.devices self.new.devices result }
     {
         let Some(host) = places::number_at(&self.lines, place) else {
@@ -196,7 +196,7 @@ impl<D: SectorStore> Switch<D> {
     // Keys that are covered are told to the terminals, and the report is kept.
     #[tactic(auto, using(crate::proofs::Acting::report_met))]
     fn meet_report(&mut self, place: u8, report: &Report) -> Heard
-        ensures meets { MeetsSaid place (Tells (of_notice.Report report.now)) self.old self.new }
+        ensures meets { MeetsSaid (passed_of result) place (Tells (of_notice.Report report.now)) self.old self.new }
         ensures heeds { HeedsNotice 0 None (of_notice.Report report.now) self.old.devices self.new.devices result }
     {
         let [first, second] = report.covered;
@@ -211,7 +211,7 @@ impl<D: SectorStore> Switch<D> {
     // Tells a terminal how many of its keys are covered, unless none are.
     #[tactic(auto, using(crate::proofs::Acting::told_covered, crate::proofs::Acting::told_none))]
     fn tell(&mut self, port: u8, keys: u64)
-        ensures called { Called self.old.devices (covered_at port keys) [] self.new.devices }
+        ensures called { CalledWith [] self.old.devices (covered_at port keys) [] self.new.devices }
         ensures told { self.new.devices
             ≡ record self.old.devices { terminals = told_unless self.old.devices.terminals port keys } }
         ensures lines { self.new.lines ≡ self.old.lines }
@@ -232,7 +232,7 @@ impl<D: SectorStore> Switch<D> {
         drives: u8,
         count: u64,
     ) -> Heard
-        ensures meets { MeetsSaid place (Tells (of_notice.Join generation host drives count)) self.old self.new }
+        ensures meets { MeetsSaid (passed_of result) place (Tells (of_notice.Join generation host drives count)) self.old self.new }
         ensures heeds { Stays self.old.devices self.new.devices result (passed_if (length self.old.lines.items) host) }
     {
         if usize::from(host) >= self.lines.len() {

@@ -6,10 +6,11 @@ ghost use Rattle.outside_switch.specs.declared.line.HostLine.{HostLine};
 ghost use Rattle.host_frames.specs.Frames.{said_by};
 ghost use Rattle.outside_devices.specs.Held.{at_boot};
 ghost use Rattle.outside_devices.specs.Calls.{key_answer, typed_after, typed_answer};
-ghost use Rattle.outside_switch.specs.Goes.{Adds, BeginsSo, BegunSo, Goes, HearsBody, HearsFrame, HearsNext, Lines, NextSo, SendsKey, first_number};
-ghost use Rattle.outside_switch.specs.Heeds.{HeedsAt, HeedsBody, open_in};
+ghost use Rattle.outside_switch.specs.Goes.{Adds, BeginsSo, BegunSo, GoesWith, HearsBody, HearsFrame, HearsNext, Lines, NextSo, SendsKey, first_number};
+ghost use Rattle.outside_switch.specs.Heeds.{HasRoomFor, HeedsAt, HeedsBody, open_in};
 ghost use Rattle.outside_switch.specs.Lines.{IsClosed, IsNamed, PostsAll};
 ghost use Rattle.outside_switch.specs.Meets.{seen};
+ghost use Rattle.outside_switch.specs.Passing.{passed_of, typed_of};
 
 use crate::heard::Heard;
 use crate::line::HostLine;
@@ -19,7 +20,7 @@ use host_frames::{Frame, Notice, Transfer, frame_of};
 use i8080_words::{Fault, R};
 use outside_devices::OutsideDevices;
 use rtrb::{Consumer, Producer};
-use shared_disk::SectorStore;
+use shared_disk::{SectorStore, SharedDisk};
 use std::alloc::Global;
 use std::sync::Arc;
 use std::thread::Parker;
@@ -79,9 +80,10 @@ impl<D: SectorStore> Switch<D> {
     /// Takes the next body of the host at a place, and does what it asks for. The screen of each port may have room. A host that has
     /// failed is cut off, and what comes from one that was cut off is dropped.
     pub fn hear(&mut self, alloc: Global, place: u8, rooms: [bool; PORTS]) -> Heard
-        ensures goes { Goes (seen self.old) (seen self.new) }
+        ensures goes { GoesWith (passed_of result) (seen self.old) (seen self.new) }
         ensures hears { HearsNext place rooms (seen self.old) (seen self.new) result }
         ensures cut { result ≡ of_heard.Failed → open_in (slice_get self.new.lines.items place) ≡ false }
+        ensures room { HasRoomFor rooms result }
     {
         match self.next(place) {
             Some(body) => self.hear_body(alloc, place, &body, rooms),
@@ -91,7 +93,7 @@ impl<D: SectorStore> Switch<D> {
 
     // Does what a body asks for that came from the host at a place.
     fn hear_body(&mut self, alloc: Global, place: u8, body: &[u8], rooms: [bool; PORTS]) -> Heard
-        ensures goes { HearsBody place body.now (seen self.old) (seen self.new) }
+        ensures goes { HearsBody (passed_of result) place body.now (seen self.old) (seen self.new) }
         ensures heeds { HeedsBody place rooms body.now self.old.lines.items self.old.devices self.new.devices result }
         ensures cut { result ≡ of_heard.Failed → open_in (slice_get self.new.lines.items place) ≡ false }
     {
@@ -122,7 +124,7 @@ impl<D: SectorStore> Switch<D> {
         frame: Frame<'_>,
         rooms: [bool; PORTS],
     ) -> Heard
-        ensures goes { HearsFrame place (said_by frame.entry) (seen self.old) (seen self.new) }
+        ensures goes { HearsFrame (passed_of result) place (said_by frame.entry) (seen self.old) (seen self.new) }
         ensures heeds { HeedsAt place rooms (said_by frame.entry) self.old.lines.items self.old.devices self.new.devices result }
         ensures cut { result ≡ of_heard.Failed → open_in (slice_get self.new.lines.items place) ≡ false }
     {
@@ -137,7 +139,7 @@ impl<D: SectorStore> Switch<D> {
 
     /// Whether the stream from the host at a place has ended now: it was not cut off before.
     pub fn has_ended(&mut self, place: u8) -> bool
-        ensures { Goes (seen self.old) (seen self.new) }
+        ensures { GoesWith [] (seen self.old) (seen self.new) }
     {
         if !places::is_open(&self.lines, place) {
             return false;
@@ -146,9 +148,9 @@ impl<D: SectorStore> Switch<D> {
     }
 
     /// The host at a place is gone: it is cut off, and all others are told.
-    #[tactic(auto, using(crate::proofs::Acting::gone_met, crate::proofs::Going::acts, crate::proofs::Going::closes, crate::proofs::Going::and_then))]
+    #[tactic(auto, using(crate::proofs::Acting::gone_met, crate::proofs::Going::acts, crate::proofs::Going::closes, crate::proofs::Going::then_with))]
     pub fn gone(&mut self, alloc: Global, place: u8)
-        ensures goes { Goes (seen self.old) (seen self.new) }
+        ensures goes { GoesWith [] (seen self.old) (seen self.new) }
         ensures devices { self.new.devices ≡ self.old.devices }
         ensures cut { open_in (slice_get self.new.lines.items place) ≡ false }
     {
@@ -177,14 +179,14 @@ impl<D: SectorStore> Switch<D> {
         ensures answer { result ≡ typed_answer self.old.devices.terminals port }
         ensures after { self.new.devices
             ≡ record self.old.devices { terminals = typed_after self.old.devices.terminals port byte } }
-        ensures goes { Goes (seen self.old) (seen self.new) }
+        ensures goes { GoesWith (typed_of result port byte) (seen self.old) (seen self.new) }
     {
         self.devices.type_key(port, byte)
     }
 
     /// Sends the key of an index to the host at a place. Returns false if it is not kept, or if the frame is lost.
     pub fn send_key(&mut self, alloc: Global, place: u8, port: u8, index: u64) -> bool
-        ensures goes { Goes (seen self.old) (seen self.new) }
+        ensures goes { GoesWith [] (seen self.old) (seen self.new) }
         ensures sends { SendsKey (key_answer self.old.devices.terminals port index) place port index result
             self.old.lines.items self.new.lines.items }
     {
@@ -199,7 +201,7 @@ impl<D: SectorStore> Switch<D> {
     /// generation's number from now on. Returns false, and nobody has another number, if that place has no spare, if another place
     /// has the number, if a generation before it has no host yet, or if the frame is lost.
     pub fn send_begin(&mut self, alloc: Global, place: u8, generation: u32, spare: u8) -> bool
-        ensures goes { Goes (seen self.old) (seen self.new) }
+        ensures goes { GoesWith [] (seen self.old) (seen self.new) }
         ensures begun { BegunSo spare generation result (seen self.old) (seen self.new) }
     {
         if !places::may_be_given(&self.lines, generation, spare) {
@@ -237,7 +239,7 @@ impl<D: SectorStore> Switch<D> {
     /// Tells all hosts that the switch is there.
     #[tactic(auto, using(crate::proofs::Acting::tick_met, crate::proofs::Going::acts))]
     pub fn tick(&mut self, alloc: Global)
-        ensures { Goes (seen self.old) (seen self.new) }
+        ensures { GoesWith [] (seen self.old) (seen self.new) }
     {
         self.post_all(alloc, &Frame::Notice(Notice::Tick));
     }
@@ -245,9 +247,17 @@ impl<D: SectorStore> Switch<D> {
     /// Tells all hosts to stop.
     #[tactic(auto, using(crate::proofs::Acting::stop_met, crate::proofs::Going::acts))]
     pub fn stop(&mut self, alloc: Global)
-        ensures { Goes (seen self.old) (seen self.new) }
+        ensures { GoesWith [] (seen self.old) (seen self.new) }
     {
         self.post_all(alloc, &Frame::Notice(Notice::Stop));
+    }
+
+    /// The disk, as it is now.
+    pub fn into_disk(self) -> SharedDisk<D>
+        ensures { D.records result ≡ self.devices.records }
+    {
+        let Switch { devices, .. } = self;
+        devices.into_disk()
     }
 }
 

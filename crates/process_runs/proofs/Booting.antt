@@ -14,6 +14,7 @@ use Rattle.host_node.specs.Hosts.{HasJoined, HasNode}
 use Rattle.host_node.specs.declared.host.HostNode.{HostNode}
 use Rattle.host_node.specs.declared.host.Hosted.TheVariants as hosted
 use Rattle.outside_devices.specs.Shown.{Shows}
+use Rattle.outside_switch.proofs.Passing.{none_passed}
 use Rattle.outside_switch.proofs.Running.{begins}
 use Rattle.outside_switch.specs.Lines.{number_at}
 use Rattle.pair_protocol.proofs.Traces.Lists.{get-at, get-longer, le-cases}
@@ -126,7 +127,7 @@ module _ {B S : Type 0} {H : Type 0} (state : B → S) (M : Machine S) (copied :
         spare_stands (num (suc (suc place))) h is.begins.0 (past_first place there) (low (suc (suc place)) there) is.begins.1
         is.drives_are is.gone
 
-    pub boot_stands : Stands drives num state M copied C (booted M Shared spares) (length (booted M Shared spares).hosts) p
+    pub boot_stands : Stands drives num state M copied C (booted M Shared spares) (length (booted M Shared spares).hosts) [] p
     boot_stands = record {
       deeds = [];
       fleet = booted M Shared spares;
@@ -135,6 +136,7 @@ module _ {B S : Type 0} {H : Type 0} (state : B → S) (M : Machine S) (copied :
           (begins S M drives b.outside.records b.outside.may_fail (length (booted M Shared spares).hosts) b.outside.disk
           (let many = spares_many M spares (opening M Shared) in omega (arith, many)));
       counts = refl;
+      passes = none_passed (booted M Shared spares).outside (booted M Shared spares).outside refl;
       hosts = λ place h at. at_boot place h (slice_get_within p.hosts place h at) (b.hosts place h at);
       pushed = λ x among. absurd (subst (λ l. Among x l) b.pushed among);
     }

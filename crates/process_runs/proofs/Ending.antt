@@ -6,6 +6,7 @@ use Rattle.clone_state.specs.Copies.{CopiesAs}
 use Rattle.ft_node.specs.declared.node.Node as code
 use Rattle.ft_node.specs.declared.node.Node.TheVariants as node
 use Rattle.guest_lockstep.specs.Machine.{Machine}
+use Rattle.guest_lockstep.specs.Reach.{keys, output}
 use Rattle.guest_lockstep.specs.declared.reads.Reads.TheVariants.{Shared}
 use Rattle.guest_parts.specs.Guest.{Guest}
 use Rattle.host_calls.proofs.Straying.{is-the-laws}
@@ -20,13 +21,15 @@ use Rattle.host_node.specs.Hosts.{HasNode}
 use Rattle.host_node.specs.declared.host.HostNode.{HostNode}
 use Rattle.host_node.specs.declared.host.Hosted.TheVariants as hosted
 use Rattle.pair_protocol.specs.Copying.{Copying, IsCopying}
+use Rattle.outside_switch.specs.Passing.{Passed}
+use Rattle.pair_protocol.specs.Faithful.{IsAllBut, IsPrefix}
 use Rattle.pair_protocol.specs.Lawful.{Lawful}
 use Rattle.pair_protocol.specs.Node.{Node, Alone, Backup, Draining}
 use Rattle.pair_protocol.specs.World.{World, opening}
 use Rattle.process_runs.proofs.Running.{are_fleet}
 use Rattle.process_runs.specs.Laws.{AreFleet, AreKept, HasAlone, IsNodeOf}
 use Rattle.process_runs.specs.Processes.{HaveBooted, Processes}
-use Rattle.process_runs.specs.Runs.{Runs}
+use Rattle.process_runs.specs.Runs.{Runs, passed_on}
 
 -- the last fleet shows the last world
 shown_last : {S : Type 0} (M : Machine S) (C : Copying S) (f last : Fleet S) (w new : World S) (deeds : List Deed) →
@@ -46,7 +49,7 @@ alone_too M x y (inr lags) alone =
     ]
 
 module _ {B S : Type 0} {H : Type 0} (state : B → S) (M : Machine S) (C : Copying S) (drives : ℕ) (laws : Lawful M)
-    (copying : IsCopying M C) (p : Processes B H) (are : AreFleet state M C drives p) where
+    (copying : IsCopying M C) (passed : List Passed) (p : Processes B H) (are : AreFleet state M C drives passed p) where
   course : IsCourse M C (booted M Shared are.spares) (with_spares M are.spares (opening M Shared)) are.deeds are.fleet
   course = runs-faithful M C laws copying Shared are.spares are.deeds are.fleet are.happened
 
@@ -76,14 +79,21 @@ module _ {B S : Type 0} {H : Type 0} (state : B → S) (M : Machine S) (C : Copy
       (kept.kept.one_live (are.host_at m) (are.host_at n) x.x y.x x.there y.there
       (alone_too M x.x x.y x.same x.is.role) (alone_too M y.x y.y y.same y.is.role))
 
-  all_kept : AreKept state M C drives p
-  all_kept = record { are = are; kept = kept; nodes = node_of; one_live = live }
+  all_kept : AreKept state M C drives passed p
+  all_kept = record {
+    are = are;
+    kept = kept;
+    shown = λ port. subst (λ l. IsAllBut M.window_size l (output port kept.trace)) (are.shown port) (kept.kept.output port);
+    typed = λ port. subst (λ l. IsPrefix (keys port kept.list) l) (are.typed port) (kept.kept.typed port);
+    nodes = node_of;
+    one_live = live;
+  }
 
 pub are_kept : {B S : Type 0} {H : Type 0} (state : B → S) (M : Machine S) (copied : B → Guest) (C : Copying S) (drives : ℕ) →
     Lawful M → IsCopying M C → CopiesAs state copied drives C.parts C.part_count C.assemble → (first last : Processes B H) →
-    HaveBooted state M C drives first → Runs state M copied first last → AreKept state M C drives last
+    HaveBooted state M C drives first → (way : Runs state M copied first last) → AreKept state M C drives (passed_on way) last
 are_kept state M copied C drives laws copying copies first last booted way =
-    all_kept state M C drives laws copying last (are_fleet state M copied C drives copies first last booted way)
+    all_kept state M C drives laws copying (passed_on way) last (are_fleet state M copied C drives copies first last booted way)
 
 -- the image of an Altair is its copy
 pub copied_so : {B : Type 0} (guest : B → Guest) (drives : ℕ) →

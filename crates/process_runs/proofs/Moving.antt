@@ -7,11 +7,13 @@ use Rattle.host_frames.specs.Meaning.{IsTold}
 use Rattle.host_law.specs.Fleet.{Fleet}
 use Rattle.host_law.specs.Frame.{Act, Came, Frame, sent}
 use Rattle.outside_switch.proofs.Numbers.{numbers_stay, same_numbers}
+use Rattle.outside_switch.proofs.Passing.{passed_both}
 use Rattle.outside_switch.proofs.Running.{move_runs}
 use Rattle.outside_switch.specs.Goes as goes
-use Rattle.outside_switch.specs.Goes.{Moves}
+use Rattle.outside_switch.specs.Goes.{Moves, passed_by}
 use Rattle.outside_switch.specs.Lines.{LinesGo, Pushed}
 use Rattle.outside_switch.specs.Meets.{Seen}
+use Rattle.outside_switch.specs.Passing.{Passed}
 use Rattle.outside_switch.specs.Runs.{MoveBrings, MoveRan, pushed_by, read_by, written_by}
 use Rattle.pair_protocol.proofs.Traces.Lists.{among-split}
 use Rattle.pair_protocol.specs.Copying.{Copying}
@@ -64,7 +66,8 @@ module _ (drives : ℕ) (num : ℕ → ℕ) where
       begins.meets.read begins.meets.written frames begins.meets.called None begins.meets.pushed tt begins.meets.right
 
   module _ {B S : Type 0} {H : Type 0} (state : B → S) (M : Machine S) (copied : B → Guest) (C : Copying S)
-      (first : Fleet S) (count : ℕ) (p : Processes B H) (st : Stands drives num state M copied C first count p) where
+      (first : Fleet S) (count : ℕ) (passed : List Passed) (p : Processes B H)
+      (st : Stands drives num state M copied C first count passed p) where
     heard : (new : Seen) (move : Moves p.outside new) → TakesDelivered p.hosts move → MoveTold st.fleet.sent move
     heard new (goes.Acts meets) delivered = tt
     heard new (goes.Hears taken place body said takes is meets) delivered =
@@ -78,7 +81,7 @@ module _ (drives : ℕ) (num : ℕ → ℕ) where
 
     pub outside_moved : (new : Seen) (move : Moves p.outside new) → TakesDelivered p.hosts move →
         Fits drives num new.lines → new.devices.hosts ≤ count →
-        Stands drives num state M copied C first count
+        Stands drives num state M copied C first count (passed ++ passed_by move)
         (record { hosts = p.hosts; outside = new; pushed = p.pushed ++ pushed_by move })
     outside_moved new move delivered fits few = record {
       deeds = st.deeds ++ outside_deeds acts;
@@ -87,6 +90,7 @@ module _ (drives : ℕ) (num : ℕ → ℕ) where
           (outside_happened M C f r.ran.last acts r.ran.run (subst (λ l. Came l f.sent) (sym r.ran.took) r.came));
       shows = r.ran.shows;
       counts = r.ran.hosts ∙ st.counts;
+      passes = passed_both first.outside f.outside r.ran.last passed (passed_by move) st.passes r.passes;
       hosts = λ place h at.
           host_later drives num state M copied C f g (num place) h (sent acts) refl refl (st.hosts place h at);
       pushed = λ x among. elim (among-split x p.pushed (pushed_by move) among) [
@@ -102,7 +106,7 @@ module _ (drives : ℕ) (num : ℕ → ℕ) where
         told : MoveTold f.sent move
         told = heard new move delivered
 
-        r : MoveRan M drives f.sent f.outside (read_by move) (written_by move) new.devices
+        r : MoveRan M drives f.sent f.outside (read_by move) (written_by move) (passed_by move) new.devices
         r = move_runs M drives f.sent p.outside new move f.outside st.shows
             (subst (λ k. new.devices.hosts ≤ k) (sym st.counts) few) (brings f.sent p.outside new move fits told)
 

@@ -21,6 +21,8 @@ use Rattle.outside_devices.specs.Held.{Held}
 use Rattle.outside_devices.specs.Shown.{Shows}
 use Rattle.outside_switch.specs.Calls.{Called}
 use Rattle.outside_switch.specs.Lines.{Pushed, number_at, pushed_to}
+use Rattle.outside_switch.specs.Passing.{Passed}
+use Rattle.outside_switch.specs.Runs.{HasPassed}
 use Rattle.outside_switch.specs.Says as says
 use Rattle.outside_switch.specs.Says.{IsHost, IsPassed, IsRight, Saying}
 use Rattle.outside_switch.specs.declared.line.HostLine.{HostLine}
@@ -226,13 +228,14 @@ module _ (drives : ℕ) (num : ℕ → ℕ) where
       pub number : IsNumber n h
       pub said : AllSaid drives n f.sent h.mail.gone
 
-    -- all are a fleet that counts so many hosts
-    pub record Stands (first : Fleet S) (count : ℕ) (p : Processes B H) : Type 0 where
+    -- all are a fleet that counts so many hosts, and this passed so far
+    pub record Stands (first : Fleet S) (count : ℕ) (passed : List Passed) (p : Processes B H) : Type 0 where
       pub deeds : List Deed
       pub fleet : Fleet S
       pub happened : Happened M C first deeds fleet
       pub shows : Shows M drives p.outside.devices fleet.outside
       pub counts : fleet.outside.hosts ≡ count
+      pub passes : HasPassed passed first.outside fleet.outside
       pub hosts : (place : ℕ) (h : HostNode B H) → slice_get p.hosts place ≡ Some h → HostStands fleet (num place) h
       pub pushed : (x : Pushed) → Among x p.pushed → WasPushed fleet.sent x
 
@@ -251,17 +254,18 @@ module _ (drives : ℕ) (num : ℕ → ℕ) where
 
     module _ (copies : CopiesAs state copied drives C.parts C.part_count C.assemble)
         (apart : (m n : ℕ) → num m ≡ num n → m ≡ n) where
-      pub host_moved : (first : Fleet S) (count : ℕ) (p : Processes B H) (place : ℕ) (h new : HostNode B H) →
-          Stands first count p → slice_get p.hosts place ≡ Some h → host.Moves state M copied h new →
+      pub host_moved : (first : Fleet S) (count : ℕ) (passed : List Passed) (p : Processes B H) (place : ℕ) (h new : HostNode B H) →
+          Stands first count passed p → slice_get p.hosts place ≡ Some h → host.Moves state M copied h new →
           Delivered new.mail.came (contents_of (pushed_to place p.pushed)) →
-          Stands first count (record p { hosts = slice_set p.hosts place new })
-      host_moved first count p place h new st at move delivered = record {
+          Stands first count passed (record p { hosts = slice_set p.hosts place new })
+      host_moved first count passed p place h new st at move delivered = record {
         deeds = st.deeds ++ host_deeds n acts;
         fleet = g;
         happened = then_happened M C first f g st.deeds (host_deeds n acts) st.happened
             (host_happened M C f n s.x to.y acts s.there to.ran.run to.ran.came);
         shows = st.shows;
         counts = st.counts;
+        passes = st.passes;
         hosts = λ other k there. elim (same_or_not other place) [
           | inl same ↦
               subst (λ i. HostStands g i k) (ap num (sym same))

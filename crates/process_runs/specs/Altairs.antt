@@ -7,13 +7,14 @@ use Rattle.guest_board.specs.declared.setup.Setup.{Setup}
 use Rattle.guest_parts.specs.Guest.{Guest}
 use Rattle.process_runs.specs.Laws.{AreKept}
 use Rattle.process_runs.specs.Processes.{HaveBooted, Processes}
-use Rattle.process_runs.specs.Runs.{Runs}
+use Rattle.process_runs.specs.Runs.{Runs, passed_on}
 
--- whatever they do, the devices at the outside have what one never-failing Altair gives; `guest` is the Altair of a board
+-- whatever they do, the devices at the outside have what one never-failing Altair gives, and so have the screens; `guest` is the
+-- Altair of a board
 abbrev pub AltairProcessesAreKept : (B H : Type 0) → Type 0
 AltairProcessesAreKept B H =
     (guest : B → Guest) (setup : Setup) (sectors : SectorAddress → List ℕ) → IsSetup setup sectors →
     (first last : Processes B H) →
     HaveBooted guest (altair setup sectors) (image_copy setup.drives) setup.drives first →
-    Runs guest (altair setup sectors) guest first last →
-    AreKept guest (altair setup sectors) (image_copy setup.drives) setup.drives last
+    (way : Runs guest (altair setup sectors) guest first last) →
+    AreKept guest (altair setup sectors) (image_copy setup.drives) setup.drives (passed_on way) last

@@ -1,5 +1,5 @@
 -- What the processes of a pair do together: one moves after another, in any order, and streams deliver only what was written.
-use Rattle.std.specs.Prelude.{◌≡◌, ℕ, Some, List, ◌++◌, slice_get, slice_set}
+use Rattle.std.specs.Prelude.{◌≡◌, ℕ, Some, List, [], ◌++◌, slice_get, slice_set}
 use Rattle.frame_streams.specs.Reading.{contents_of}
 use Rattle.guest_lockstep.specs.Machine.{Machine}
 use Rattle.guest_parts.specs.Guest.{Guest}
@@ -8,6 +8,7 @@ use Rattle.host_node.specs.declared.host.HostNode.{HostNode}
 use Rattle.outside_switch.specs.Goes as outside
 use Rattle.outside_switch.specs.Lines.{pushed_to}
 use Rattle.outside_switch.specs.Meets.{Seen}
+use Rattle.outside_switch.specs.Passing.{Passed}
 use Rattle.outside_switch.specs.Runs.{pushed_by}
 use Rattle.process_runs.specs.Processes.{Delivered, IsFromHost, Processes}
 
@@ -38,6 +39,18 @@ pub data Runs {B S : Type 0} {H : Type 0} (state : B → S) (M : Machine S) (cop
   Next : {mid : Processes B H} (new : Processes B H) → Runs state M copied first mid → Turns state M copied mid new →
       Runs state M copied first new
 
+-- ---- what passes between the outside and its user meanwhile: bytes that are shown, and keys that are typed
+
+abbrev pub passed_by_turn : {B S : Type 0} {H : Type 0} {state : B → S} {M : Machine S} {copied : B → Guest}
+    {old new : Processes B H} → Turns state M copied old new → List Passed
+passed_by_turn (HostMoves place h next at move delivered) = []
+passed_by_turn (OutsideMoves seen move delivered) = outside.passed_by move
+
+abbrev pub passed_on : {B S : Type 0} {H : Type 0} {state : B → S} {M : Machine S} {copied : B → Guest}
+    {first last : Processes B H} → Runs state M copied first last → List Passed
+passed_on Rests = []
+passed_on (Next new before turn) = passed_on before ++ passed_by_turn turn
+
 -- ---- each process does what its loop promises, and nothing else
 
 -- the host at a place went there by its moves
@@ -49,6 +62,7 @@ pub record HostWent {B S : Type 0} {H : Type 0} (state : B → S) (M : Machine S
 
 abbrev pub EachHasGone : (B H S : Type 0) → Type 0
 EachHasGone B H S =
-    (state : B → S) (M : Machine S) (copied : B → Guest) (first last : Processes B H) → Runs state M copied first last →
+    (state : B → S) (M : Machine S) (copied : B → Guest) (first last : Processes B H)
+    (way : Runs state M copied first last) →
     ((place : ℕ) (h : HostNode B H) → slice_get first.hosts place ≡ Some h → HostWent state M copied place h last)
-    × outside.Goes first.outside last.outside
+    × outside.GoesWith (passed_on way) first.outside last.outside

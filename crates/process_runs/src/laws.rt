@@ -7,14 +7,16 @@ ghost use Rattle.process_runs.specs.Streams.{StreamsDeliver};
 use altair_copies::the_image_copies;
 use altair_laws::altairs_are_lawful;
 
-/// The processes of a pair do what their loops promise, one after another in any order.
+/// The processes of a pair do what their loops promise, one after another in any order; what passed between the outside and its user
+/// meanwhile is what passed by the moves of its loop.
 pub fn processes_go<B, H, S>()
     ensures { EachHasGone B H S }
 {}
 
 /// Whatever the processes of a pair do, interleaved in any order, over streams that deliver only what was written to them: together
-/// they are a fleet of the law of processes. So the devices of the outside have what one never-failing machine gives, and at most
-/// one host is alone.
+/// they are a fleet of the law of processes. So the devices of the outside have what one never-failing machine gives; what was shown
+/// is what that one puts out, but for the last bytes of a window, from the first of the keys that were typed; and at most one host
+/// is alone.
 pub fn processes_are_a_fleet<B, H, S>()
     ensures fleet { ProcessesAreAFleet B H S }
     ensures kept { ProcessesAreKept B H S }

@@ -12,5 +12,6 @@ returns g c = record {
   none_came = ap (λ m. m.came) c.in_ok-host.ensures.mail ∙ c.in_ok-mail.ensures.came ∙ ap contents_of c.in_ok-bodies.ensures;
   none_gone = ap (λ m. m.gone) c.in_ok-host.ensures.mail ∙ c.in_ok-mail.ensures.gone
       ∙ ap contents_of c.in_ok-frames.ensures;
-  went = c.serve-host.ensures;
+  went = c.serve-host.ensures.goes;
+  why = c.serve-host.ensures.why;
 }

@@ -1,5 +1,5 @@
 use Rattle.host_node.specs.Goes.{Goes}
 use Rattle.host_node.proofs.serving.Serving.release_writes.Given as goal
 
-abbrev pub invariant-loop-ahead : goal.invariant-loop-ahead
-invariant-loop-ahead g l = Goes g.B.Lockstep.state g.B.Lockstep.machine g.B.Copies.copied l.fn.self.host l.self.host
+abbrev pub invariant-loop : goal.invariant-loop
+invariant-loop g l = Goes g.B.Lockstep.state g.B.Lockstep.machine g.B.Copies.copied l.fn.self.host l.self.host

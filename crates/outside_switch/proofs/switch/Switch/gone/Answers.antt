@@ -1,8 +1,8 @@
 -- The host is cut off, and the others are told.
 use Rattle.outside_switch.specs.Meets.{seen}
 use Rattle.outside_switch.proofs.Acting.{gone_met}
-use Rattle.outside_switch.proofs.Going.{acts, and_then, closes}
-use Rattle.std.proofs.Common.{◌∙◌}
+use Rattle.outside_switch.proofs.Going.{acts, closes, then_with}
+use Rattle.std.proofs.Common.{[], ◌∙◌}
 use Rattle.outside_switch.proofs.Lines.{closed_now, still_open}
 use Rattle.outside_switch.proofs.switch.Switch.gone.Goals as goal
 
@@ -10,8 +10,8 @@ pub returns-clause-goes : goal.returns-clause-goes
 returns-clause-goes g c =
     let mid = seen c.close.new.self in
     let new = seen c.post_all.new.self in
-    and_then (seen c.args.self.now) mid new (closes (seen c.args.self.now) mid c.args.place c.close.ensures)
-    (acts mid new (gone_met c.args.place mid new c.post_all.ensures.devices c.post_all.ensures.posts))
+    then_with (seen c.args.self.now) mid new [] [] (closes (seen c.args.self.now) mid c.args.place c.close.ensures)
+    (acts mid new [] (gone_met c.args.place mid new c.post_all.ensures.devices c.post_all.ensures.posts))
 
 pub returns-clause-cut : goal.returns-clause-cut
 returns-clause-cut g c =

@@ -1,20 +1,22 @@
 -- The body that came was heard.
-use Rattle.std.proofs.Common.{None, Some, refl, subst}
+use Rattle.std.proofs.Common.{[], None, Some, refl, subst}
 use Rattle.outside_switch.specs.Goes.{HearsBody}
 use Rattle.outside_switch.specs.Heeds.{HeedsBody}
 use Rattle.outside_switch.specs.Meets.{seen}
+use Rattle.outside_switch.specs.Passing.{passed_of}
+use Rattle.outside_switch.proofs.Rooms.{room_for}
 use Rattle.outside_switch.proofs.Going.{acts, heard_body}
 use Rattle.outside_switch.proofs.switch.Switch.hear.Goals as goal
 
 pub returns-in-Some-clause-goes : goal.returns-in-Some-clause-goes
 returns-in-Some-clause-goes g c =
-    heard_body (seen c.args.self.now) (seen c.next.new.self) (seen c.hear_body.new.self) c.args.place c.in-Some.body
+    heard_body (seen c.args.self.now) (seen c.next.new.self) (seen c.hear_body.new.self) (passed_of c.hear_body.result) c.args.place c.in-Some.body
     c.in-Some.ensures
-    (subst (λ l. HearsBody c.args.place l (seen c.next.new.self) (seen c.hear_body.new.self)) c.deref.ensures.value
+    (subst (λ l. HearsBody (passed_of c.hear_body.result) c.args.place l (seen c.next.new.self) (seen c.hear_body.new.self)) c.deref.ensures.value
     c.hear_body.ensures.goes)
 
 pub returns-in-None-clause-goes : goal.returns-in-None-clause-goes
-returns-in-None-clause-goes g c = acts (seen c.args.self.now) (seen c.next.new.self) c.in-None.ensures.0
+returns-in-None-clause-goes g c = acts (seen c.args.self.now) (seen c.next.new.self) [] c.in-None.ensures.0
 
 pub returns-in-Some-clause-hears : goal.returns-in-Some-clause-hears
 returns-in-Some-clause-hears g c = record {
@@ -34,3 +36,12 @@ returns-in-None-clause-hears g c = record {
   next = c.in-None.ensures;
   heeds = (refl, refl);
 }
+
+pub returns-in-Some-clause-room : goal.returns-in-Some-clause-room
+returns-in-Some-clause-room g c =
+    room_for c.args.rooms c.args.place (Some c.in-Some.body) (seen c.next.new.self) (seen c.hear_body.new.self)
+    c.hear_body.result
+    (subst
+    (λ l. HeedsBody c.args.place c.args.rooms l c.next.new.self.lines.items c.next.new.self.devices
+    c.hear_body.new.self.devices c.hear_body.result)
+    c.deref.ensures.value c.hear_body.ensures.heeds)

@@ -1,16 +1,16 @@
 -- The host begins, and the spare has the number.
 use Rattle.outside_switch.specs.Meets.{seen}
-use Rattle.std.proofs.Common.{None, subst}
+use Rattle.std.proofs.Common.{None, [], subst}
 use Rattle.outside_switch.specs.Lines.{MayBeGiven}
 use Rattle.outside_switch.proofs.Acting.{still_met}
-use Rattle.outside_switch.proofs.Going.{acts, names, nothing_yet}
+use Rattle.outside_switch.proofs.Going.{acts, names, still}
 use Rattle.outside_switch.proofs.switch.Switch.send_begin.Goals as goal
 
 pub returns-then-not-may_be_given-clause-goes : goal.returns-then-not-may_be_given-clause-goes
-returns-then-not-may_be_given-clause-goes g c = nothing_yet (seen c.args.self.now)
+returns-then-not-may_be_given-clause-goes g c = still (seen c.args.self.now)
 
 pub returns-then-not-begin-clause-goes : goal.returns-then-not-begin-clause-goes
-returns-then-not-begin-clause-goes g c = acts (seen c.args.self.now) (seen c.begin.new.self) c.if-not-begin.ensures
+returns-then-not-begin-clause-goes g c = acts (seen c.args.self.now) (seen c.begin.new.self) [] c.if-not-begin.ensures
 
 pub returns-clause-goes : goal.returns-clause-goes
 returns-clause-goes g c =
