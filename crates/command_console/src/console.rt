@@ -199,7 +199,8 @@ fn greet<R, W, N: Write>(
     (streams, greeted)
 }
 
-fn write_greeting<N: Write>(alloc: Global, escape: u8, notes: &mut N) -> Result<(), Failure>
+/// Says what this is, and which key opens a command line.
+pub fn write_greeting<N: Write>(alloc: Global, escape: u8, notes: &mut N) -> Result<(), Failure>
     ensures greeted { OnOk result (Appends (N.contents notes.old) (N.contents notes.new) (greeting_of escape)) }
     ensures failed { IfErr result IsOfRun }
 {
@@ -226,7 +227,8 @@ fn save<B: Drop, D: SectorStore, R, W: Write + Drop, N>(
         notes,
     } = streams;
     let Standing { disk, .. } = standing;
-    let saved = write_disks(alloc, order, disk, &mut writer);
+    let (mark, saved) = (order.mark.as_str(), order.saved.as_slice());
+    let saved = write_disks(alloc, mark, saved, disk, &mut writer);
     let streams = Streams {
         reader,
         writer,
@@ -235,22 +237,24 @@ fn save<B: Drop, D: SectorStore, R, W: Write + Drop, N>(
     (streams, saved)
 }
 
-fn write_disks<D: SectorStore, W: Write + Drop>(
+/// Writes a mark, and after it the images of these drives of a disk.
+pub fn write_disks<D: SectorStore, W: Write + Drop>(
     alloc: Global,
-    order: &ConsoleOrder,
+    mark: &str,
+    saved: &[u8],
     mut disk: SharedDisk<D>,
     writer: &mut W,
 ) -> Result<(), Failure>
     ensures saved { OnOk result (Appends (W.contents writer.old) (W.contents writer.new)
-        (string_bytes order.now.mark ++ images_of (D.records disk) order.now.saved.items)) }
+        (string_bytes mark.now ++ images_of (D.records disk) saved.now)) }
     ensures failed { IfErr result IsOfRun }
 {
-    let images = match images_of(alloc, &mut disk, &order.saved) {
+    let images = match images_of(alloc, &mut disk, saved) {
         Ok(images) => images,
         Err(Fault::Unknown) => return Err(Failure::InputOrOutput),
         Err(_) => return Err(Failure::OutOfMemory),
     };
-    write_after(order.mark.as_bytes(), &images, writer)
+    write_after(mark.as_bytes(), &images, writer)
 }
 
 // Writes a mark, and the images that come after it.
