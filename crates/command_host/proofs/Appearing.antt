@@ -1,15 +1,18 @@
 -- All that was shown is written.
-use Rattle.std.proofs.Common.{ℕ, ◌≡◌, Bool, true, false, Option, Some, None, List, [], ◌∷◌, ◌++◌, cond, eqb-true, eq-eqb, map, ne_eqb, refl, sym, ap, ◌∙◌, subst}
-use Rattle.std.specs.Prelude.{◌==◌, IfSome}
+use Rattle.std.proofs.Common.{ℕ, ◌≡◌, Bool, true, false, Option, Some, None, Result, Ok, Err, List, [], ◌∷◌, ◌++◌, cond, eqb-true, eq-eqb, map, ne_eqb, refl, sym, ap, ◌∙◌, subst}
+use Rattle.std.specs.Prelude.{◌==◌, IfSome, OnOk}
 use Rattle.std.proofs.lemmas.Bool.{eqb-false}
 use Rattle.std.specs.Global.{Global}
+use Rattle.std.proofs.KnownBytes.{Appends-trans}
 use Rattle.std.specs.Io.KnownBytes.{Appends}
+use Rattle.command_host.specs.Saving.{IsSaved}
 use Rattle.command_host.specs.Serving.{HasEnded}
 use Rattle.command_host.specs.Showing.{AllIsWritten, BeginsInto, GoesInto, HasFinished, Shows}
 use Rattle.command_host.specs.declared.screen.ScreenWriter.{ScreenWriter}
 use Rattle.command_hosts.specs.Runs.{Ended}
 use Rattle.command_hosts.specs.declared.session.HostsEnd.{HostsEnd}
 use Rattle.command_hosts.specs.declared.session.Session.{Session}
+use Rattle.command_live.specs.Saving.{images_of}
 use Rattle.outside_switch.specs.Passing as passing
 use Rattle.pair_lines.proofs.Same.{same_start_on}
 use Rattle.pair_lines.specs.Lines.{HasGone, HasShown, IsSameStart, gone_by, shown_at}
@@ -20,6 +23,7 @@ use Rattle.rtrb.specs.declared.AnyItems.{AnyItems}
 use Rattle.rtrb.specs.declared.consumer.Consumer.{Consumer}
 use Rattle.rtrb.specs.declared.finished.Finished.{Finished}
 use Rattle.rtrb.specs.declared.producer.Producer.{Producer}
+use Rattle.shared_disk.specs.declared.store.Record.{Record}
 
 -- ---- the ends of one ring
 
@@ -47,11 +51,12 @@ finished_of screen finished old new f g r =
 
 pub all_written : {W : Type 0} (contents : W → Option (List ℕ)) (old new : ScreenWriter W) (screen : Screen)
     (finished : Finished Shown Global AnyItems) → HasFinished screen finished → Shows contents old new →
-    received new.shown ≡ all_sent finished → AllIsWritten contents old screen
+    received new.shown ≡ all_sent finished → AllIsWritten contents old screen new.sink
 all_written contents old new screen finished f shows all = record {
   new = new;
   shows = shows;
   all = ap (λ r. gone_by r) f.ring ∙ sym f.finishes.1 ∙ sym all;
+  left = refl;
 }
 
 -- ---- the bytes of the first terminal
@@ -87,9 +92,12 @@ gone_at None new to at bytes is same gone = absurd (cc)
 gone_at (Some a) None to at bytes is same gone = absurd same
 gone_at (Some a) (Some b) to at bytes is same gone = gone
 
-module _ {D N W : Type 0} (contents : W → Option (List ℕ)) (end : HostsEnd) (first last : Session D N) (old : ScreenWriter W)
-    (begins : BeginsInto first.first.screen old.shown) (ended : Ended end first last)
-    (all : AllIsWritten contents old last.first.screen) where
+module _ {D N W : Type 0} (contents : W → Option (List ℕ)) (mark drives : List ℕ) (end : HostsEnd) (first last : Session D N)
+    (old : ScreenWriter W) (begins : BeginsInto first.first.screen old.shown) (ended : Ended end first last)
+    (saved : IsSaved contents mark drives last old) where
+  abbrev all : AllIsWritten contents old last.first.screen saved.shown
+  all = saved.all
+
   abbrev mid : Session D N
   mid = ended.last
 
@@ -119,12 +127,17 @@ module _ {D N W : Type 0} (contents : W → Option (List ℕ)) (end : HostsEnd) 
       (sym (all.all ∙ all.shows.came ∙ ap (λ l. l ++ all.shows.bytes) begins.none_came))
       ∙ only_first (gone_by last.first.screen.ring) others ∙ gone 0
 
-  pub appeared : HasEnded contents end first old.sink
+  shown_is : Appends (contents old.sink) (contents saved.shown) (one ++ two)
+  shown_is = subst (λ s. Appends (contents old.sink) (contents s) (one ++ two)) all.left
+      (subst (λ l. Appends (contents old.sink) (contents all.new.sink) l) bytes_are all.shows.written)
+
+  pub appeared : HasEnded contents mark drives end first old.sink
   appeared = record {
     last = last;
     ended = ended;
-    filled = all.new.sink;
-    written = subst (λ l. Appends (contents old.sink) (contents all.new.sink) l) bytes_are all.shows.written;
+    filled = saved.filled;
+    written = Appends-trans (contents old.sink) (contents saved.shown) (contents saved.filled) (one ++ two)
+        (mark ++ images_of last.switch.devices.records drives) shown_is saved.saved;
   }
 
 -- ---- a session
@@ -137,21 +150,33 @@ same_screen end first last ended =
     ended.stopped.first.shows.same
 
 pub goes_then : {D N W : Type 0} (end : HostsEnd) (first last : Session D N) (from : Consumer Shown Global AnyItems)
-    (screen : Screen) (old : ScreenWriter W) → BeginsInto first.first.screen from → Ended end first last →
-    screen ≡ last.first.screen → old.shown ≡ from → GoesInto screen old.shown
-goes_then end first last from screen old begins ended is shown =
-    subst (λ s. GoesInto s old.shown) (sym is)
-    (subst (λ f. GoesInto last.first.screen f) (sym shown)
-    (goes_later first.first.screen last.first.screen from begins (same_screen end first last ended)))
+    (old : ScreenWriter W) → BeginsInto first.first.screen from → Ended end first last → old.shown ≡ from →
+    GoesInto last.first.screen old.shown
+goes_then end first last from old begins ended shown =
+    subst (λ f. GoesInto last.first.screen f) (sym shown)
+    (goes_later first.first.screen last.first.screen from begins (same_screen end first last ended))
 
-pub ended_so : {D N W : Type 0} (contents : W → Option (List ℕ)) (end : HostsEnd) (first last : Session D N)
-    (from : Consumer Shown Global AnyItems) (sink : W) (screen : Screen) (old : ScreenWriter W) →
-    BeginsInto first.first.screen from → Ended end first last → screen ≡ last.first.screen →
-    old ≡ record { sink = sink; shown = from } → AllIsWritten contents old screen → HasEnded contents end first sink
-ended_so contents end first last from sink screen old begins ended is same all =
-    appeared contents end first last (record { sink = sink; shown = from }) begins ended
-    (subst (λ (w : ScreenWriter _). AllIsWritten contents w last.first.screen) same
-    (subst (λ s. AllIsWritten contents old s) is all))
+pub ended_so : {D N W : Type 0} (contents : W → Option (List ℕ)) (mark drives : List ℕ) (end : HostsEnd)
+    (first last : Session D N) (from : Consumer Shown Global AnyItems) (sink : W) (old : ScreenWriter W) →
+    BeginsInto first.first.screen from → Ended end first last → old ≡ record { sink = sink; shown = from } →
+    IsSaved contents mark drives last old → HasEnded contents mark drives end first sink
+ended_so contents mark drives end first last from sink old begins ended same saved =
+    appeared contents mark drives end first last (record { sink = sink; shown = from }) begins ended
+    (subst (λ (w : ScreenWriter _). IsSaved contents mark drives last w) same saved)
+
+-- what its screen has shown was written, and then its disk was saved, if that went well
+pub saved_so : {D N W E : Type 0} (contents : W → Option (List ℕ)) (mark drives : List ℕ) (session : Session D N)
+    (old : ScreenWriter W) (screen : Screen) (records : List Record) (shown filled : W) (result : Result (Unit {0}) E) →
+    screen ≡ session.first.screen → records ≡ session.switch.devices.records → AllIsWritten contents old screen shown →
+    OnOk result (Appends (contents shown) (contents filled) (mark ++ images_of records drives)) →
+    OnOk result (IsSaved contents mark drives session old)
+saved_so contents mark drives session old screen records shown filled (Ok done) screen_is records_are all written = record {
+  shown = shown;
+  all = subst (λ s. AllIsWritten contents old s shown) screen_is all;
+  filled = filled;
+  saved = subst (λ r. Appends (contents shown) (contents filled) (mark ++ images_of r drives)) records_are written;
+}
+saved_so contents mark drives session old screen records shown filled (Err e) screen_is records_are all written = tt
 
 pub finishes : (screen : Screen) (to : Producer Shown Global AnyItems) (o : Option (Finished Shown Global AnyItems)) →
     screen.ring ≡ Some to → IfSome o (λ f. Finishes to f) → IfSome o (HasFinished screen)

@@ -1,6 +1,6 @@
 -- An outside opens: its places have their first numbers, and nothing else has happened.
 use Rattle.std.proofs.Common.{ℕ, zero, suc, ◌≡◌, ◌⊎◌, ◌<◌, Option, Some, Ok, Err, List, [], ◌∷◌, ◌++◌, length, arith, refl, sym, ap, ◌∙◌, subst, inl, inr}
-use Rattle.std.specs.Prelude.{IfOk, Result}
+use Rattle.std.specs.Prelude.{IfOk, Result, string_bytes}
 use Rattle.command_ending.specs.declared.failure.Failure.{Failure}
 use Rattle.command_host.specs.Serving.{AddsPlaces, HasEnded, HasFirstNumbers, HasRun, IsUntouched, OpensFor}
 use Rattle.command_hosts.specs.declared.port.PortEnd.{PortEnd}
@@ -8,6 +8,7 @@ use Rattle.command_hosts.specs.declared.session.HostsEnd.{HostsEnd}
 use Rattle.command_hosts.specs.declared.session.Session.{Session}
 use Rattle.command_input.specs.Inputs.{IsInput}
 use Rattle.command_input.specs.declared.input.Input.{Input}
+use Rattle.command_line.specs.declared.hosts_order.HostsOrder.{HostsOrder}
 use Rattle.outside_switch.specs.Goes.{Adds, first_number}
 use Rattle.outside_switch.specs.Lines.{number_at}
 use Rattle.outside_switch.specs.Meets.{Seen, seen}
@@ -72,11 +73,12 @@ module _ {N : Type 0} where
     second_port = subst (λ (e : PortEnd). IsUntouched e) (sym p.second_port) o.second_port;
   }
 
-  pub ran : {W : Type 0} (contents : W → Option (List ℕ)) (images drives : List ℕ) (read : Option (List ℕ)) (input : Input)
-      (a b : Session (List Record) N) (sink : W) (result : Result HostsEnd Failure) →
-      drives ≡ images → IsInput live_script_of drives read input → OpensFor input a → AddsPlaces a b →
-      IfOk result (λ end. HasEnded contents end b sink) → IfOk result (λ end. HasRun N contents images end sink)
-  ran contents images drives read input a b sink (Ok end) same reads opens adds ended = record {
+  pub ran : {W : Type 0} (contents : W → Option (List ℕ)) (order : HostsOrder) (drives : List ℕ) (read : Option (List ℕ))
+      (input : Input) (a b : Session (List Record) N) (sink : W) (result : Result HostsEnd Failure) →
+      drives ≡ order.images.items → IsInput live_script_of drives read input → OpensFor input a → AddsPlaces a b →
+      IfOk result (λ end. HasEnded contents (string_bytes order.mark) order.saved.items end b sink) →
+      IfOk result (λ end. HasRun N contents order end sink)
+  ran contents order drives read input a b sink (Ok end) same reads opens adds ended = record {
     read = read;
     input = input;
     reads = subst (λ l. IsInput live_script_of l read input) same reads;
@@ -84,4 +86,4 @@ module _ {N : Type 0} where
     opens = opens_later input a b opens adds;
     ended = ended;
   }
-  ran contents images drives read input a b sink (Err why) same reads opens adds ended = ended
+  ran contents order drives read input a b sink (Err why) same reads opens adds ended = ended

@@ -1,2 +1,3 @@
 pub mod Serving
 pub mod Showing
+pub mod Saving

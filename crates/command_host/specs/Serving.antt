@@ -1,5 +1,5 @@
 -- What a host boots with, and what it does from then on.
-use Rattle.std.specs.Prelude.{◌≡◌, ◌++◌, ◌<◌, ℕ, [], List, length, Option, Some, None}
+use Rattle.std.specs.Prelude.{◌≡◌, ◌++◌, ◌<◌, ℕ, [], List, length, Option, Some, None, string_bytes}
 use Rattle.std.specs.Io.KnownBytes.{Appends}
 use Rattle.command_host.specs.declared.booting.Booted.{Booted}
 use Rattle.command_host.specs.declared.booting.Booted.TheVariants as booted
@@ -9,6 +9,8 @@ use Rattle.command_hosts.specs.Runs.{Ended}
 use Rattle.command_hosts.specs.declared.port.PortEnd.{PortEnd}
 use Rattle.command_hosts.specs.declared.session.HostsEnd.{HostsEnd}
 use Rattle.command_hosts.specs.declared.session.Session.{Session}
+use Rattle.command_line.specs.declared.hosts_order.HostsOrder.{HostsOrder}
+use Rattle.command_live.specs.Saving.{images_of}
 use Rattle.ft_node.specs.AnyNode.{IsNode}
 use Rattle.ft_node.specs.Calls.{Begins}
 use Rattle.ft_node.specs.declared.node.Node as code
@@ -60,14 +62,15 @@ pub record HasServed {B S : Type 0} {H : Type 0} (state : B → S) (M : Machine 
   pub why : IsEnd state M copied end first last
 
 -- An outside went on to its end, for this reason. All that its first terminal has accepted on the way was written, each byte once
--- and in order, and nothing else was.
-pub record HasEnded {D N W : Type 0} (contents : W → Option (List ℕ)) (end : HostsEnd) (first : Session D N) (sink : W)
-    : Type 0 where
+-- and in order; after it the mark, and the images of these drives, of the records that its disk has at the end; and nothing else was.
+pub record HasEnded {D N W : Type 0} (contents : W → Option (List ℕ)) (mark drives : List ℕ) (end : HostsEnd) (first : Session D N)
+    (sink : W) : Type 0 where
   pub last : Session D N
   pub ended : Ended end first last
   pub filled : W
   pub written : Appends (contents sink) (contents filled)
-      (shown_at 0 ended.went.passed ++ shown_at 0 ended.stopped.passed)
+      ((shown_at 0 ended.went.passed ++ shown_at 0 ended.stopped.passed)
+      ++ (mark ++ images_of last.switch.devices.records drives))
 
 -- ---- an outside from the words that ask for it
 
@@ -97,11 +100,13 @@ pub record AddsPlaces {D N : Type 0} (old new : Session D N) : Type 0 where
   pub first_port : new.first ≡ old.first
   pub second_port : new.second ≡ old.second
 
--- An outside has opened for what it read first, images of these drives and a script for threads, and went on to its end.
-pub record HasRun (N : Type 0) {W : Type 0} (contents : W → Option (List ℕ)) (images : List ℕ) (end : HostsEnd) (sink : W) : Type 0 where
+-- An outside has opened for what it read first, images of the drives that are ordered and a script for threads, and went on to its
+-- end, with the mark and the drives to save that are ordered.
+pub record HasRun (N : Type 0) {W : Type 0} (contents : W → Option (List ℕ)) (order : HostsOrder) (end : HostsEnd) (sink : W)
+    : Type 0 where
   pub read : Option (List ℕ)
   pub input : Input
-  pub reads : IsInput live_script_of images read input
+  pub reads : IsInput live_script_of order.images.items read input
   pub first : Session (List Record) N
   pub opens : OpensFor input first
-  pub ended : HasEnded contents end first sink
+  pub ended : HasEnded contents (string_bytes order.mark) order.saved.items end first sink

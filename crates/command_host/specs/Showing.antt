@@ -42,8 +42,9 @@ pub record HasFinished (screen : Screen) (finished : Finished Shown Global AnyIt
   pub ring : screen.ring ≡ Some to
   pub finishes : Finishes to finished
 
--- all that a screen has shown was written, each byte once and in order, and nothing else was
-pub record AllIsWritten {W : Type 0} (contents : W → Option (List ℕ)) (old : ScreenWriter W) (screen : Screen) : Type 0 where
+-- all that a screen has shown was written, each byte once and in order, and nothing else was; this is the stream after that
+pub record AllIsWritten {W : Type 0} (contents : W → Option (List ℕ)) (old : ScreenWriter W) (screen : Screen) (sink : W) : Type 0 where
   pub new : ScreenWriter W
   pub shows : Shows contents old new
   pub all : gone_by screen.ring ≡ received new.shown
+  pub left : new.sink ≡ sink

@@ -9,6 +9,7 @@ mod keys;
 mod opening;
 mod outside;
 mod places;
+mod saving;
 mod screen;
 mod writing;
 

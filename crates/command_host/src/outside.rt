@@ -1,14 +1,15 @@
 //! The outside in a process: what its machine boots with and then keys come on one stream, what its terminal accepts goes on
 //! another, and its hosts are at the ends of named pipes.
-ghost use Rattle.std.specs.Prelude.{IfOk};
+ghost use Rattle.std.specs.Prelude.{IfOk, string_bytes};
 ghost use Rattle.command_host.specs.Serving.{HasEnded, HasRun, OpensFor};
 ghost use Rattle.command_host.specs.Showing.{BeginsInto};
 
 use crate::keys::{KeyReader, read_keys};
 use crate::opening::read_opening;
 use crate::places::{Pipes, add_places};
+use crate::saving::end_session;
 use crate::screen::ScreenWriter;
-use crate::writing::{end_showing, start_showing};
+use crate::writing::start_showing;
 use command_ending::Failure;
 use command_hosts::{HostsEnd, PortEnd, Quit, Session, run_hosts};
 use command_input::{Input, Language, read_input};
@@ -33,14 +34,15 @@ const BYTES: usize = 4_096;
 pub struct OutsideStreams<R, W, N> {
     /// What its machine boots with, and then keys.
     pub reader: R,
-    /// The bytes that terminal 0 has accepted.
+    /// The bytes that terminal 0 has accepted, and then the disks that are saved.
     pub writer: W,
     /// What becomes of the hosts.
     pub notes: N,
 }
 
-/// Runs the outside until there is a reason to end, which is returned: then all that terminal 0 has accepted is written. What
-/// terminal 1 accepts is not shown.
+/// Runs the outside until there is a reason to end, which is returned: then all that terminal 0 has accepted is written, and after
+/// it the mark and the images of the drives that are saved, as the disk is at the end, for whatever reason. `InputOrOutput` if a
+/// write has failed, or if the disk lacks one of these drives. What terminal 1 accepts is not shown.
 pub fn run_outside<
     H: Threads + Wait + Clock + Copy + Drop + Send + Sync + 'static,
     R: Read + IsTerminal + Drop + Send + 'static,
@@ -53,7 +55,7 @@ pub fn run_outside<
     order: &HostsOrder,
     streams: OutsideStreams<R, W, N>,
 ) -> Result<HostsEnd, Failure>
-    ensures { IfOk result (λ end. HasRun N W.contents order.now.images.items end streams.writer) }
+    ensures { IfOk result (λ end. HasRun N W.contents order.now end streams.writer) }
 {
     let OutsideStreams {
         mut reader,
@@ -81,7 +83,7 @@ pub fn run_outside<
     run_session(
         rt,
         alloc,
-        order.quit,
+        order,
         session,
         ends,
         lines,
@@ -130,7 +132,7 @@ fn session_of<N: Write + Drop>(
     Ok((session, ends))
 }
 
-// Hears keys, shows what appears, and serves the hosts between them.
+// Hears keys, shows what appears, and serves the hosts between them; then saves disks.
 fn run_session<
     H: Threads + Wait + Clock + Copy + Drop + Send + Sync + 'static,
     R: Read + IsTerminal + Drop + Send + 'static,
@@ -139,7 +141,7 @@ fn run_session<
 >(
     rt: H,
     alloc: Global,
-    quit: u8,
+    order: &HostsOrder,
     mut session: Session<MemoryStore, N>,
     ends: Ends,
     lines: Vec<Line>,
@@ -147,7 +149,7 @@ fn run_session<
     mine: Arc<Parker>,
 ) -> Result<HostsEnd, Failure>
     requires { BeginsInto session.first.screen ends.shown }
-    ensures { IfOk result (λ end. HasEnded W.contents end session streams.1) }
+    ensures { IfOk result (λ end. HasEnded W.contents (string_bytes order.now.mark) order.now.saved.items end session streams.1) }
 {
     let (source, sink) = streams;
     let Ends {
@@ -158,7 +160,7 @@ fn run_session<
     } = ends;
     let mut keys = KeyReader {
         source: TerminalKeys::new(source),
-        quit,
+        quit: order.quit,
         first,
         second,
         quits,
@@ -170,6 +172,6 @@ fn run_session<
     }
     let showing = start_showing(rt, ScreenWriter { sink, shown })?;
     let end = run_hosts(&rt, alloc, &mut session, &mine);
-    end_showing(rt, showing, session.into_screen())?;
+    end_session(rt, alloc, order, session, showing)?;
     Ok(end)
 }

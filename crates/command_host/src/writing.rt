@@ -37,14 +37,15 @@ pub(crate) fn start_showing<
     }
 }
 
-/// Shows nothing more on a screen, and waits until all that it has shown is written. `InputOrOutput` if a write has failed.
+/// Shows nothing more on a screen, waits until all that it has shown is written, and gives back the stream on which it is.
+/// `InputOrOutput` if a write has failed.
 #[tactic(auto, using(crate::proofs::Appearing::finished_of))]
 pub(crate) fn end_showing<
     H: Threads + Clock + Copy + Drop + Send + Sync + 'static,
     W: Write + Drop + Send + 'static,
->(rt: H, showing: Showing<W>, screen: Screen) -> Result<(), Failure>
+>(rt: H, showing: Showing<W>, screen: Screen) -> Result<W, Failure>
     requires { GoesInto screen showing.promise.0.value.shown }
-    ensures { OnOk result (AllIsWritten W.contents showing.promise.0.value screen) }
+    ensures { IfOk result (AllIsWritten W.contents showing.promise.0.value screen) }
 {
     let finished = finish(screen);
     let (writer, written) = showing.join(&rt);
@@ -54,11 +55,11 @@ pub(crate) fn end_showing<
     let Ok(()) = written else {
         return Err(Failure::InputOrOutput);
     };
-    let ScreenWriter { shown, .. } = writer;
+    let ScreenWriter { sink, shown } = writer;
     if !is_all(finished, shown) {
         return Err(Failure::InputOrOutput);
     }
-    Ok(())
+    Ok(sink)
 }
 
 // Nothing more goes into the ring of a screen. None if nobody takes anything out of it any more.

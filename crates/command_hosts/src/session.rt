@@ -104,20 +104,18 @@ impl<D: SectorStore, N: Write + Drop> Session<D, N> {
         self.switch.add(from, to, wake)
     }
 
-    /// The screen of the first port, on which nothing more is shown.
-    pub fn into_screen(self) -> Screen
-        ensures { result ≡ self.first.screen }
+    /// The screen of the first port, on which nothing more is shown, the disk, as it is now, and the notes.
+    pub fn into_parts(self) -> (Screen, SharedDisk<D>, N)
+        ensures screen { result.0 ≡ self.first.screen }
+        ensures disk { D.records result.1 ≡ self.switch.devices.records }
+        ensures notes { result.2 ≡ self.notes }
     {
-        let Session { first, .. } = self;
-        first.into_screen()
-    }
-
-    /// The disk, as it is now, and the notes.
-    pub fn into_parts(self) -> (SharedDisk<D>, N)
-        ensures disk { D.records result.0 ≡ self.switch.devices.records }
-        ensures notes { result.1 ≡ self.notes }
-    {
-        let Session { switch, notes, .. } = self;
-        (switch.into_disk(), notes)
+        let Session {
+            switch,
+            first,
+            notes,
+            ..
+        } = self;
+        (first.into_screen(), switch.into_disk(), notes)
     }
 }

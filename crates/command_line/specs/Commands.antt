@@ -71,6 +71,8 @@ hosts_options = by_default (codes ".") (text_option (codes "folder"))
     ∷ by_default (codes "5") (number_option (codes "quit") 0 255)
     ∷ by_default (codes "0") (number_option (codes "before") 0 1099511627776)
     ∷ text_option (codes "images")
+    ∷ text_option (codes "saved")
+    ∷ text_option (codes "mark")
     ∷ []
 
 -- a command with these options

@@ -251,7 +251,9 @@ fn hosts_command<'a>(alloc: Global, lists: Lists) -> Result<Command<'a>, AllocEr
         .arg(places(alloc))?
         .arg(quit(alloc))?
         .arg(before(alloc))?
-        .arg(images(alloc, lists))
+        .arg(images(alloc, lists))?
+        .arg(saved(alloc, lists))?
+        .arg(mark(alloc))
 }
 
 // The command with its options that say for how many turns, and when somebody asks.

@@ -33,4 +33,8 @@ pub struct HostsOrder {
     pub before: u64,
     /// The drives whose images come before the script.
     pub images: Vec<u8>,
+    /// The drives whose images are written after the guest's output.
+    pub saved: Vec<u8>,
+    /// What is written between the guest's output and these images.
+    pub mark: String,
 }

@@ -293,12 +293,16 @@ fn hosts_order(
     let places = number(matches, "places").unwrap_or(PLACES);
     let quit = byte(matches, "quit").unwrap_or(QUIT);
     let before = number(matches, "before").unwrap_or(0);
+    let saved = saved_in(alloc, matches)?;
+    let mark = text(alloc, matches, "mark")?;
     Ok(HostsOrder {
         folder,
         places,
         quit,
         before,
         images,
+        saved,
+        mark,
     })
 }
 
