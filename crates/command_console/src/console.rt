@@ -13,14 +13,13 @@ use crate::sitting::Machine;
 use command_ending::Failure;
 use command_input::{Input, Language, read_input};
 use command_line::ConsoleOrder;
-use command_live::{TRIES, drafted, images_of, sizes};
+use command_live::{TRIES, drafted, save_disks, sizes};
 use console_terminal::greeting;
 use event_callbacks::{Completes, plain_completions};
 use guest_lockstep::Reads;
-use i8080_words::Fault;
 use pair_generations::{Limits, altairs_may_go_on};
 use pair_standing::Standing;
-use shared_disk::{SectorStore, SharedDisk};
+use shared_disk::SectorStore;
 use std::alloc::Global;
 use std::io::{IsTerminal, Read, Write};
 use std::thread::Threads;
@@ -210,6 +209,7 @@ pub fn write_greeting<N: Write>(alloc: Global, escape: u8, notes: &mut N) -> Res
 }
 
 // Writes the disks that are saved.
+#[tactic(auto, using(crate::proofs::Served::of_unsaved))]
 fn save<B: Drop, D: SectorStore, R, W: Write + Drop, N>(
     alloc: Global,
     order: &ConsoleOrder,
@@ -227,43 +227,17 @@ fn save<B: Drop, D: SectorStore, R, W: Write + Drop, N>(
         notes,
     } = streams;
     let Standing { disk, .. } = standing;
-    let (mark, saved) = (order.mark.as_str(), order.saved.as_slice());
-    let saved = write_disks(alloc, mark, saved, disk, &mut writer);
+    let saved = save_disks(
+        alloc,
+        disk,
+        &order.saved,
+        order.mark.as_bytes(),
+        &mut writer,
+    );
     let streams = Streams {
         reader,
         writer,
         notes,
     };
     (streams, saved)
-}
-
-/// Writes a mark, and after it the images of these drives of a disk.
-pub fn write_disks<D: SectorStore, W: Write + Drop>(
-    alloc: Global,
-    mark: &str,
-    saved: &[u8],
-    mut disk: SharedDisk<D>,
-    writer: &mut W,
-) -> Result<(), Failure>
-    ensures saved { OnOk result (Appends (W.contents writer.old) (W.contents writer.new)
-        (string_bytes mark.now ++ images_of (D.records disk) saved.now)) }
-    ensures failed { IfErr result IsOfRun }
-{
-    let images = match images_of(alloc, &mut disk, saved) {
-        Ok(images) => images,
-        Err(Fault::Unknown) => return Err(Failure::InputOrOutput),
-        Err(_) => return Err(Failure::OutOfMemory),
-    };
-    write_after(mark.as_bytes(), &images, writer)
-}
-
-// Writes a mark, and the images that come after it.
-fn write_after<W: Write + Drop>(mark: &[u8], images: &[u8], writer: &mut W) -> Result<(), Failure>
-    ensures written { OnOk result (Appends (W.contents writer.old) (W.contents writer.new) (mark.now ++ images.now)) }
-    ensures failed { IfErr result IsOfRun }
-{
-    writer.write_all(mark)?;
-    writer.write_all(images)?;
-    writer.flush()?;
-    Ok(())
 }

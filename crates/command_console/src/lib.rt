@@ -17,7 +17,7 @@ mod spares;
 mod speed;
 mod steward;
 
-pub use console::{Streams, run_console, write_disks, write_greeting};
+pub use console::{Streams, run_console, write_greeting};
 pub use frame::{answer, wish};
 pub use mirror::{Mirrored, Shelf};
 pub use prepared::mirrored_store;

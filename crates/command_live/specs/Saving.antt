@@ -1,6 +1,8 @@
 -- The images of disks: 77 tracks of 32 sectors of 137 bytes each.
-use Rattle.std.specs.Prelude.{◌≡◌, ℕ, ◌*◌, ◌/◌, ◌%◌, ◌<◌, Bool, List, length, nat_lt}
+use Rattle.std.specs.Prelude.{◌≡◌, ◌⊎◌, ℕ, ◌*◌, ◌/◌, ◌%◌, ◌<◌, Bool, List, length, nat_lt}
 use Rattle.std.specs.List.{flat_map, list_all, range_with_len}
+use Rattle.command_ending.specs.declared.failure.Failure.{Failure}
+use Rattle.command_ending.specs.declared.failure.Failure.TheVariants.{InputOrOutput, OutOfMemory}
 use Rattle.disk_dcdd.specs.declared.address.SectorAddress.{SectorAddress}
 use Rattle.shared_disk.specs.Records.{IsThere, bytes_in}
 use Rattle.shared_disk.specs.declared.store.Record.{Record}
@@ -36,3 +38,7 @@ HasDrive records drive = HasPlaces records drive 2464
 -- each of these drives is one of so many
 abbrev pub are_attached : ℕ → List ℕ → Bool
 are_attached attached drives = list_all (λ drive. nat_lt drive attached) drives
+
+-- why disks are not saved
+abbrev pub IsUnsaved : Failure → Type 0
+IsUnsaved failure = (failure ≡ OutOfMemory) ⊎ (failure ≡ InputOrOutput)

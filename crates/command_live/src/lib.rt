@@ -18,7 +18,7 @@ pub use command::run_live;
 pub use generations::{TRIES, drafted, sizes};
 pub use line::{Line, first_line, line_of};
 pub use roles::Roles;
-pub use saving::images_of;
+pub use saving::{images_of, save_disks};
 pub use takeover::{Replay, Takeover, Unruled};
 pub use watch::Watch;
 pub use watcher::Watcher;

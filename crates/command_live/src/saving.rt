@@ -1,12 +1,15 @@
-//! The disks of a pair on threads, as images.
-ghost use Rattle.std.specs.Prelude.{◌≡◌, ◌++◌, ◌+◌, ◌<◌, All, length, IfOk, OnOk};
-ghost use Rattle.command_live.specs.Saving.{AreWhole, HasDrive, address_at, are_attached, image_of, images_of};
+//! The disks of a pair, as images, and what is written of them at the end.
+ghost use Rattle.std.specs.Prelude.{◌≡◌, ◌++◌, ◌+◌, ◌<◌, All, length, IfErr, IfOk, OnOk};
+ghost use Rattle.std.specs.Io.KnownBytes.{Appends};
+ghost use Rattle.command_live.specs.Saving.{AreWhole, HasDrive, IsUnsaved, address_at, are_attached, image_of, images_of};
 ghost use Rattle.shared_disk.specs.Records.{IsThere, bytes_in};
 
+use command_ending::Failure;
 use disk_dcdd::{DRIVE_SECTORS, SECTORS, SectorAddress};
-use i8080_words::R;
+use i8080_words::{Fault, R};
 use shared_disk::{SectorStore, SharedDisk};
 use std::alloc::Global;
+use std::io::Write;
 
 /// Whether each of these drives is one of so many.
 pub(crate) fn are_attached(drives: &[u8], attached: u8) -> bool
@@ -30,6 +33,40 @@ pub fn images_of<D: SectorStore>(
         put_image(disk, *drive, &mut images)?;
     }
     Ok(images)
+}
+
+/// Writes a mark, and after it the images of these drives, of the records that the disk has. `InputOrOutput` if the disk lacks one
+/// of the drives, or if a write fails.
+pub fn save_disks<D: SectorStore, W: Write + Drop>(
+    alloc: Global,
+    disk: SharedDisk<D>,
+    drives: &[u8],
+    mark: &[u8],
+    writer: &mut W,
+) -> Result<(), Failure>
+    ensures saved { OnOk result (Appends (W.contents writer.old) (W.contents writer.new)
+        (mark.now ++ images_of (D.records disk) drives.now)) }
+    ensures there { OnOk result (All (HasDrive (D.records disk)) drives.now) }
+    ensures failed { IfErr result IsUnsaved }
+{
+    let mut disk = disk;
+    let images = match images_of(alloc, &mut disk, drives) {
+        Ok(images) => images,
+        Err(Fault::Unknown) => return Err(Failure::InputOrOutput),
+        Err(_) => return Err(Failure::OutOfMemory),
+    };
+    write_after(mark, &images, writer)
+}
+
+// Writes a mark, and the images that come after it.
+fn write_after<W: Write + Drop>(mark: &[u8], images: &[u8], writer: &mut W) -> Result<(), Failure>
+    ensures written { OnOk result (Appends (W.contents writer.old) (W.contents writer.new) (mark.now ++ images.now)) }
+    ensures failed { IfErr result IsUnsaved }
+{
+    writer.write_all(mark)?;
+    writer.write_all(images)?;
+    writer.flush()?;
+    Ok(())
 }
 
 // Adds the image of a drive.

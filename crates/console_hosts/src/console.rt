@@ -7,12 +7,13 @@ use crate::seats::Seats;
 use crate::session::{Desktop, Ends, Left, sit};
 use crate::supervisor::Supervisor;
 use crate::teller::Teller;
-use command_console::{Mirrored, mirrored_store, write_disks, write_greeting};
+use command_console::{Mirrored, mirrored_store, write_greeting};
 use command_ending::Failure;
 use command_host::{Pipes, add_places, read_opening};
 use command_hosts::{HostsEnd, PortEnd, Session};
 use command_input::{Input, Language, read_input};
 use command_line::HostsOrder;
+use command_live::save_disks;
 use console_terminal::Signs;
 use i8080_words::R;
 use pair_lines::{Keyboard, Screen};
@@ -131,8 +132,13 @@ fn run_input<
         mut writer,
         notes: _notes,
     } = sit(rt, alloc, session, ends, desktop, streams)?;
-    let (mark, saved) = (order.mark.as_str(), order.saved.as_slice());
-    write_disks(alloc, mark, saved, disk, &mut writer)?;
+    save_disks(
+        alloc,
+        disk,
+        &order.saved,
+        order.mark.as_bytes(),
+        &mut writer,
+    )?;
     Ok(end)
 }
 
