@@ -4,7 +4,7 @@ use outside_switch::{Fate, HostLine};
 use pair_events::Role;
 
 /// What becomes of the host at a place.
-#[derive(Debug, Clone, Copy, PartialEq, Eq)]
+#[derive(Clone, Copy, PartialEq, Eq)]
 pub enum HostEvent {
     /// It reports another role than before, in this generation; none if it is a spare.
     Became(u32, Option<Role>),

@@ -247,11 +247,12 @@ fn hosts_command<'a>(alloc: Global, lists: Lists) -> Result<Command<'a>, AllocEr
     let hosts = plain_command(alloc, "hosts", HOSTS).arg(folder(alloc))?;
     hosts
         .arg(places(alloc))?
-        .arg(quit(alloc))?
+        .arg(escape(alloc))?
         .arg(before(alloc))?
         .arg(images(alloc, lists))?
         .arg(saved(alloc, lists))?
-        .arg(mark(alloc))
+        .arg(mark(alloc))?
+        .arg(apart(alloc))
 }
 
 // The command with its options that say for how many turns, and when somebody asks.

@@ -1,9 +1,8 @@
 -- The threads beside the loop of a console: how they begin, and what is known once they have ended.
-use Rattle.std.specs.Prelude.{◌≡◌, ◌×◌, ℕ, List, [], Option, Some, None, if◌then◌else◌}
+use Rattle.std.specs.Prelude.{◌≡◌, ◌×◌, ℕ, List, [], Option, Some, None}
 use Rattle.command_console.specs.Rings.{ComesOutOf, GoesInto}
 use Rattle.command_hosts.specs.declared.session.HostsEnd.{HostsEnd}
 use Rattle.command_hosts.specs.declared.session.HostsEnd.TheVariants.{NoHosts, Settled, Stopped, UserQuit}
-use Rattle.command_hosts.specs.declared.session.Quit.{Quit}
 use Rattle.command_hosts.specs.declared.session.SessionParts.{SessionParts}
 use Rattle.console_hosts.specs.Hearing.{HasHeard}
 use Rattle.console_hosts.specs.declared.console.Streams.{Streams}
@@ -24,10 +23,7 @@ use Rattle.console_terminal.specs.declared.port.Port.{Port}
 use Rattle.pair_lines.specs.Lines.{came_by, gone_by}
 use Rattle.pair_lines.specs.declared.keyboard.Keyboard.{Keyboard}
 use Rattle.pair_protocol.specs.Faithful.{IsPrefix}
-use Rattle.rtrb.specs.Ring.{IsPair, received, sent}
-use Rattle.rtrb.specs.declared.AnyItems.{AnyItems}
-use Rattle.rtrb.specs.declared.consumer.Consumer.{Consumer}
-use Rattle.std.specs.Global.{Global}
+use Rattle.rtrb.specs.Ring.{received, sent}
 
 -- one sits at port 0 with no command line open, over these streams and rings
 pub record Hears {R : Type 0} (ends : Ends) (desktop : Desktop) (reader : R)
@@ -38,7 +34,6 @@ pub record Hears {R : Type 0} (ends : Ends) (desktop : Desktop) (reader : R)
   pub closed : line_of h.listener.desk ≡ None
   pub first : h.listener.first ≡ ends.first
   pub second : h.listener.second ≡ ends.second
-  pub quits : h.quits ≡ ends.quits
   pub lines : h.lines ≡ desktop.lines
 
 pub record Shows {W N : Type 0} (ends : Ends) (writer : W) (notes : N) (d : Display W N) : Type 0 where
@@ -56,31 +51,27 @@ pub record HaveBegun {R W N : Type 0} (ends : Ends) (desktop : Desktop) (streams
 -- ---- the end
 
 -- the keyboards are at the other ends of what hears
-pub record MayHear {S I : Type 0} (h : Hearing S I) (keyboards : Keyboard × Keyboard) (quits : Consumer Quit Global AnyItems) :
-    Type 0 where
+pub record MayHear {S I : Type 0} (h : Hearing S I) (keyboards : Keyboard × Keyboard) : Type 0 where
   pub first : ComesOutOf h.listener.first keyboards.0.ring
   pub second : ComesOutOf h.listener.second keyboards.1.ring
-  pub quits_are : IsPair h.quits quits
 
--- it was heard until an ending, and what came from the keyboards is the first of what was sent to them
-pub record WereHeard {S I : Type 0} (left : S → Option (List ℕ)) (given : I → Option (List Command)) (old : Hearing S I)
-    (keyboards : Keyboard × Keyboard) (quits : Consumer Quit Global AnyItems) : Type 0 where
-  pub ending : Ending
+-- it was heard until this ending, and what came from the keyboards is the first of what was sent to them
+pub record WasHeard {S I : Type 0} (left : S → Option (List ℕ)) (given : I → Option (List Command)) (ending : Ending)
+    (old : Hearing S I) (keyboards : Keyboard × Keyboard) : Type 0 where
   pub new : Hearing S I
   pub heard : HasHeard left given ending old new
   pub came0 : IsPrefix (came_by keyboards.0.ring) (sent new.listener.first)
   pub came1 : IsPrefix (came_by keyboards.1.ring) (sent new.listener.second)
-  pub quits_came : IsPrefix (received quits) (sent new.quits)
 
-abbrev pub WereHeardIf : {S I : Type 0} → HostsEnd → (S → Option (List ℕ)) → (I → Option (List Command)) → Hearing S I →
-    Keyboard × Keyboard → Consumer Quit Global AnyItems → Type 0
-WereHeardIf NoHosts left given old keyboards quits = Unit {0}
-WereHeardIf Stopped left given old keyboards quits = ⊥
-WereHeardIf UserQuit left given old keyboards quits = WereHeard left given old keyboards quits
-WereHeardIf Settled left given old keyboards quits = WereHeard left given old keyboards quits
+abbrev pub WasHeardIf : {S I : Type 0} → HostsEnd → (S → Option (List ℕ)) → (I → Option (List Command)) → Hearing S I →
+    Keyboard × Keyboard → Type 0
+WasHeardIf NoHosts left given old keyboards = Unit {0}
+WasHeardIf Stopped left given old keyboards = ⊥
+WasHeardIf UserQuit left given old keyboards = WasHeard left given Ending.Quit old keyboards
+WasHeardIf Settled left given old keyboards = (ending : Ending) × WasHeard left given ending old keyboards
 
 pub record MayLeave {D S K I W N : Type 0} (parts : SessionParts D S) (b : Beside K I W N) : Type 0 where
-  pub hears : MayHear b.hearing.promise.0.value parts.keyboards parts.quits
+  pub hears : MayHear b.hearing.promise.0.value parts.keyboards
   pub shows : GoesInto parts.screen.ring b.showing.promise.0.value.shown
 
 -- and all that went to the screen came out, and was written or kept
@@ -89,7 +80,7 @@ pub record HasLeft {D S K I W N : Type 0} (left : K → Option (List ℕ)) (give
     (b : Beside K I W N) (l : Left W N) : Type 0 where
   pub end_is : l.end ≡ end
   pub disk_is : l.disk ≡ parts.disk
-  pub heard : WereHeardIf end left given b.hearing.promise.0.value parts.keyboards parts.quits
+  pub heard : WasHeardIf end left given b.hearing.promise.0.value parts.keyboards
   pub display : Display W N
   pub wrote : Wrote contents notes b.showing.promise.0.value display
   pub all : received display.shown ≡ gone_by parts.screen.ring

@@ -21,7 +21,7 @@ use Rattle.outside_switch.specs.Passing.{Passed, typed_at}
 use Rattle.pair_lines.specs.Lines.{shown_at}
 use Rattle.pair_lines.specs.declared.screen.Shown.{Shown}
 use Rattle.pair_protocol.specs.Faithful.{IsPrefix}
-use Rattle.rtrb.specs.Ring.{IsPair, known_free, received, sent}
+use Rattle.rtrb.specs.Ring.{known_free}
 use Rattle.script_language.specs.declared.line.Line.{Line}
 use Rattle.shared_disk.specs.declared.store.Record.{Record}
 
@@ -31,8 +31,6 @@ pub record AreOpen {D S : Type 0} (session : Session D S) (ends : Ends) : Type 0
   pub keyboard1 : IsKeyboardOf ends.second session.second.keyboard
   pub none_waits : (session.first.waiting ≡ None) × (session.second.waiting ≡ None)
   pub screen : IsScreenOf ends.shown session.screen
-  pub quits : IsPair ends.quits session.quits
-  pub no_quits : (sent ends.quits ≡ []) × (received session.quits ≡ [])
   pub notes : 3 ≤ known_free ends.notes.0
 
 -- what passed between the devices and the user on the way to the end

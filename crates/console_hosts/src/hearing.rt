@@ -1,8 +1,8 @@
 //! The thread that hears what is typed, from its start to its end.
-ghost use Rattle.std.specs.Prelude.{◌≡◌, ◌++◌, ◌≤◌, ◌<◌, ◌∷◌, [], IfOk, IfSome, IsTrue, Some};
-ghost use Rattle.console_hosts.specs.Hearing.{HasHeard, HasPressed, HasTyped, LinesType, presses};
-ghost use Rattle.console_terminal.specs.declared.listener.Ending.TheVariants as ending;
-ghost use Rattle.rtrb.specs.Ring.{SameProducer, known_free, sent};
+ghost use Rattle.std.specs.Prelude.{◌≡◌, ◌≤◌, ◌<◌, ◌∷◌, [], IfOk, IfSome, IsTrue};
+ghost use Rattle.command_live.specs.Living.{typed_by};
+ghost use Rattle.console_hosts.specs.Hearing.{HasHeard, HasPressed, LinesType};
+ghost use Rattle.rtrb.specs.Ring.{ProducerLooked, known_free};
 
 use command_ending::Failure;
 use command_hosts::Quit;
@@ -89,15 +89,20 @@ fn hear<C: Clock, S: KeySource + Drop, I: Interpreter + Drop>(
         return (hearing, None);
     }
     let (listener, ending) = listen(clock, listener, signs);
-    if ending == Ending::Quit {
-        let _ = quits.push(Quit).is_ok();
-    }
+    tell_quit(&mut quits, ending);
     let hearing = Hearing {
         listener,
         lines,
         quits,
     };
     (hearing, Some(ending))
+}
+
+// Tells that the user wants all to end, if the console has ended by a command to quit.
+fn tell_quit(quits: &mut Producer<Quit>, ending: Ending) {
+    if matches!(ending, Ending::Quit) {
+        let _ = quits.push(Quit).is_ok();
+    }
 }
 
 // Types what some lines type, as there is room. Returns false if it was stopped.
@@ -130,24 +135,52 @@ fn type_line<C: Clock>(
 ) -> bool
     ensures { IsTrue result → LinesType (line.now ∷ []) first.old second.old first.new second.new }
 {
+    if !press(clock, first, typed_by(0, line), signs) {
+        return false;
+    }
+    press(clock, second, typed_by(1, line), signs)
+}
+
+// The key that a line types at a port.
+fn typed_by(port: u8, line: &Line) -> Option<u8>
+    ensures { result ≡ typed_by port line.now }
+{
     match line {
-        Line::Event(Event::TypeByte { port: 0, byte }) => press(clock, first, *byte, signs),
-        Line::Event(Event::TypeByte { port: 1, byte }) => press(clock, second, *byte, signs),
-        _ => true,
+        Line::Event(Event::TypeByte { port: at, byte }) if *at == port => Some(*byte),
+        _ => None,
     }
 }
 
-// Hands a key on, once there is room. Returns false if it was stopped.
-fn press<C: Clock>(clock: &C, ring: &mut Producer<Stroke>, byte: u8, signs: &Signs) -> bool
-    ensures { HasPressed byte result ring.old ring.new }
+// Hands a key on, if there is one, once there is room. Returns false if it was stopped.
+fn press<C: Clock>(
+    clock: &C,
+    ring: &mut Producer<Stroke>,
+    key: Option<u8>,
+    signs: &Signs,
+) -> bool
+    ensures { HasPressed key result ring.old ring.new }
+{
+    let Some(byte) = key else {
+        return true;
+    };
+    if !has_room(clock, ring, signs) {
+        return false;
+    }
+    ring.push_reserved(Stroke::Key(byte));
+    true
+}
+
+// Waits until there is room for one more key. Returns false if it was stopped.
+fn has_room<C: Clock>(clock: &C, ring: &mut Producer<Stroke>, signs: &Signs) -> bool
+    ensures looked { ProducerLooked ring.old ring.new }
+    ensures room { IsTrue result → 0 < known_free ring.new }
 {
     for _ in 0..u64::MAX {
-        if signs.is_stopped() {
-            break;
-        }
-        if ring.slots() > 0 {
-            ring.push_reserved(Stroke::Key(byte));
+        if !ring.is_full() {
             return true;
+        }
+        if signs.is_stopped() {
+            return false;
         }
         thread::sleep(clock, Duration::from_millis(1));
     }

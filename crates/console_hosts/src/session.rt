@@ -1,6 +1,6 @@
 //! One sitting: the threads that hear and show, and the loop that serves the hosts between them.
 ghost use Rattle.std.specs.Prelude.{◌≡◌, ◌≤◌, IfOk, OnOk};
-ghost use Rattle.console_hosts.specs.Leaving.{HasLeft, HaveBegun, MayHear, MayLeave, WereHeard};
+ghost use Rattle.console_hosts.specs.Leaving.{HasLeft, HaveBegun, MayHear, MayLeave, WasHeard, WasHeardIf};
 ghost use Rattle.console_hosts.specs.Sitting.{AreOpen, HasSat};
 ghost use Rattle.rtrb.specs.Ring.{known_free};
 
@@ -10,11 +10,11 @@ use crate::showing::{Showing, finish, is_all, start_showing};
 use crate::supervisor::Supervisor;
 use crate::teller::Teller;
 use crate::waking::WakingKeys;
-use command_console::{Mirrored, compare, compare_keys};
+use command_console::{Mirrored, compare_keys};
 use command_ending::Failure;
 use command_hosts::{HostsEnd, Quit, Session, SessionParts, run_hosts};
 use console_terminal::{
-    Desk, Display, Interpreter, KeySource, Listener, Note, Port, Signs, TerminalKeys,
+    Desk, Display, Ending, Interpreter, KeySource, Listener, Note, Port, Signs, TerminalKeys,
 };
 use pair_lines::{Keyboard, Shown, Stroke};
 use rtrb::{Consumer, Producer};
@@ -64,7 +64,7 @@ pub(crate) struct Left<W, N> {
 }
 
 // The threads beside the loop.
-struct Beside<S, I, W, N> {
+struct Beside<S: KeySource, I: Interpreter, W: Write, N: Write> {
     hearing: HearingThread<S, I>,
     showing: Showing<W, N>,
 }
@@ -179,16 +179,12 @@ fn leave<
         disk,
         keyboards,
         screen,
-        quits,
+        quits: _quits,
         steward: _steward,
     } = parts;
     let Beside { hearing, showing } = beside;
     let finished = finish(screen);
-    if end != HostsEnd::NoHosts {
-        await_keys(rt, hearing, keyboards, quits)?;
-    } else {
-        signs.hear_all();
-    }
+    await_hearing(rt, end, hearing, keyboards, signs)?;
     signs.show_all();
     let (display, written) = showing.join(&rt);
     written?;
@@ -196,7 +192,7 @@ fn leave<
     let Some(finished) = finished else {
         return Err(Failure::InputOrOutput);
     };
-    if !is_all(finished, shown) || end == HostsEnd::Stopped {
+    if !is_all(finished, shown) {
         return Err(Failure::InputOrOutput);
     }
     Ok(Left {
@@ -205,6 +201,38 @@ fn leave<
         writer,
         notes,
     })
+}
+
+// Waits for the thread that hears, unless no host is left: then it may wait for a key.
+fn await_hearing<
+    H: Threads + Clock + Copy + Drop + Send + Sync + 'static,
+    S: KeySource + Drop + Send + 'static,
+    I: Interpreter + Drop + Send + 'static,
+>(
+    rt: H,
+    end: HostsEnd,
+    hearing: HearingThread<S, I>,
+    keyboards: (Keyboard, Keyboard),
+    signs: &Signs,
+) -> Result<(), Failure>
+    requires { MayHear hearing.promise.0.value keyboards }
+    ensures { OnOk result (WasHeardIf end S.left I.given hearing.promise.0.value keyboards) }
+{
+    match end {
+        HostsEnd::NoHosts => {
+            signs.hear_all();
+            Ok(())
+        }
+        HostsEnd::Settled => {
+            let _ending = await_keys(rt, hearing, keyboards)?;
+            Ok(())
+        }
+        HostsEnd::UserQuit => match await_keys(rt, hearing, keyboards)? {
+            Ending::Quit => Ok(()),
+            _ => Err(Failure::Stalled),
+        },
+        HostsEnd::Stopped => Err(Failure::InputOrOutput),
+    }
 }
 
 // Waits for the thread that hears, which has ended or does so soon: the user has quit, or no more keys can come.
@@ -216,24 +244,18 @@ fn await_keys<
     rt: H,
     hearing: HearingThread<S, I>,
     keyboards: (Keyboard, Keyboard),
-    mut quits: Consumer<Quit>,
-) -> Result<(), Failure>
-    requires { MayHear hearing.promise.0.value keyboards quits }
-    ensures { OnOk result (WereHeard S.left I.given hearing.promise.0.value keyboards quits) }
+) -> Result<Ending, Failure>
+    requires { MayHear hearing.promise.0.value keyboards }
+    ensures { IfOk result (λ e. WasHeard S.left I.given e hearing.promise.0.value keyboards) }
 {
     let (heard, ending) = hearing.join(&rt);
-    let Some(_) = ending else {
+    let Some(ending) = ending else {
         return Err(Failure::Stalled);
     };
-    let Hearing {
-        listener,
-        quits: mut quits_to,
-        ..
-    } = heard;
-    compare(&mut quits_to, &mut quits);
+    let Hearing { listener, .. } = heard;
     let Listener { first, second, .. } = listener;
     let (keyboard0, keyboard1) = keyboards;
     compare_keys(first, keyboard0);
     compare_keys(second, keyboard1);
-    Ok(())
+    Ok(ending)
 }
