@@ -1,6 +1,6 @@
 -- All that was shown is written.
 use Rattle.std.proofs.Common.{ℕ, ◌≡◌, Bool, true, false, Option, Some, None, Result, Ok, Err, List, [], ◌∷◌, ◌++◌, cond, eqb-true, eq-eqb, map, ne_eqb, refl, sym, ap, ◌∙◌, subst}
-use Rattle.std.specs.Prelude.{◌==◌, IfSome, OnOk}
+use Rattle.std.specs.Prelude.{◌==◌, All, IfSome, OnOk}
 use Rattle.std.proofs.lemmas.Bool.{eqb-false}
 use Rattle.std.specs.Global.{Global}
 use Rattle.std.proofs.KnownBytes.{Appends-trans}
@@ -12,7 +12,7 @@ use Rattle.command_host.specs.declared.screen.ScreenWriter.{ScreenWriter}
 use Rattle.command_hosts.specs.Runs.{Ended}
 use Rattle.command_hosts.specs.declared.session.HostsEnd.{HostsEnd}
 use Rattle.command_hosts.specs.declared.session.Session.{Session}
-use Rattle.command_live.specs.Saving.{images_of}
+use Rattle.command_live.specs.Saving.{HasDrive, images_of}
 use Rattle.outside_switch.specs.Passing as passing
 use Rattle.pair_lines.proofs.Same.{same_start_on}
 use Rattle.pair_lines.specs.Lines.{HasGone, HasShown, IsSameStart, gone_by, shown_at}
@@ -138,6 +138,7 @@ module _ {D N W : Type 0} (contents : W → Option (List ℕ)) (mark drives : Li
     filled = saved.filled;
     written = Appends-trans (contents old.sink) (contents saved.shown) (contents saved.filled) (one ++ two)
         (mark ++ images_of last.switch.devices.records drives) shown_is saved.saved;
+    there = saved.there;
   }
 
 -- ---- a session
@@ -169,14 +170,15 @@ pub saved_so : {D N W E : Type 0} (contents : W → Option (List ℕ)) (mark dri
     (old : ScreenWriter W) (screen : Screen) (records : List Record) (shown filled : W) (result : Result (Unit {0}) E) →
     screen ≡ session.first.screen → records ≡ session.switch.devices.records → AllIsWritten contents old screen shown →
     OnOk result (Appends (contents shown) (contents filled) (mark ++ images_of records drives)) →
-    OnOk result (IsSaved contents mark drives session old)
-saved_so contents mark drives session old screen records shown filled (Ok done) screen_is records_are all written = record {
+    OnOk result (All (HasDrive records) drives) → OnOk result (IsSaved contents mark drives session old)
+saved_so contents mark drives session old screen records shown filled (Ok done) screen_is records_are all written there = record {
   shown = shown;
   all = subst (λ s. AllIsWritten contents old s shown) screen_is all;
   filled = filled;
   saved = subst (λ r. Appends (contents shown) (contents filled) (mark ++ images_of r drives)) records_are written;
+  there = subst (λ r. All (HasDrive r) drives) records_are there;
 }
-saved_so contents mark drives session old screen records shown filled (Err e) screen_is records_are all written = tt
+saved_so contents mark drives session old screen records shown filled (Err e) screen_is records_are all written there = tt
 
 pub finishes : (screen : Screen) (to : Producer Shown Global AnyItems) (o : Option (Finished Shown Global AnyItems)) →
     screen.ring ≡ Some to → IfSome o (λ f. Finishes to f) → IfSome o (HasFinished screen)

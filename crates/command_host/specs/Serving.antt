@@ -1,5 +1,5 @@
 -- What a host boots with, and what it does from then on.
-use Rattle.std.specs.Prelude.{◌≡◌, ◌++◌, ◌<◌, ℕ, [], List, length, Option, Some, None, string_bytes}
+use Rattle.std.specs.Prelude.{◌≡◌, ◌++◌, ◌<◌, ℕ, [], All, List, length, Option, Some, None, string_bytes}
 use Rattle.std.specs.Io.KnownBytes.{Appends}
 use Rattle.command_host.specs.declared.booting.Booted.{Booted}
 use Rattle.command_host.specs.declared.booting.Booted.TheVariants as booted
@@ -10,7 +10,7 @@ use Rattle.command_hosts.specs.declared.port.PortEnd.{PortEnd}
 use Rattle.command_hosts.specs.declared.session.HostsEnd.{HostsEnd}
 use Rattle.command_hosts.specs.declared.session.Session.{Session}
 use Rattle.command_line.specs.declared.hosts_order.HostsOrder.{HostsOrder}
-use Rattle.command_live.specs.Saving.{images_of}
+use Rattle.command_live.specs.Saving.{HasDrive, images_of}
 use Rattle.ft_node.specs.AnyNode.{IsNode}
 use Rattle.ft_node.specs.Calls.{Begins}
 use Rattle.ft_node.specs.declared.node.Node as code
@@ -63,6 +63,7 @@ pub record HasServed {B S : Type 0} {H : Type 0} (state : B → S) (M : Machine 
 
 -- An outside went on to its end, for this reason. All that its first terminal has accepted on the way was written, each byte once
 -- and in order; after it the mark, and the images of these drives, of the records that its disk has at the end; and nothing else was.
+-- The disk has each of these drives.
 pub record HasEnded {D N W : Type 0} (contents : W → Option (List ℕ)) (mark drives : List ℕ) (end : HostsEnd) (first : Session D N)
     (sink : W) : Type 0 where
   pub last : Session D N
@@ -71,6 +72,7 @@ pub record HasEnded {D N W : Type 0} (contents : W → Option (List ℕ)) (mark 
   pub written : Appends (contents sink) (contents filled)
       ((shown_at 0 ended.went.passed ++ shown_at 0 ended.stopped.passed)
       ++ (mark ++ images_of last.switch.devices.records drives))
+  pub there : All (HasDrive last.switch.devices.records) drives
 
 -- ---- an outside from the words that ask for it
 

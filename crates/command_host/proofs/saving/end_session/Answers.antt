@@ -13,4 +13,4 @@ returns g c =
     saved_so g.W.Write.contents _ c.args.order.now.saved.items c.args.session c.args.showing.promise.0.value
     c.into_parts-screen.result.0 (g.D.SectorStore.records c.into_parts-screen.result.1) c.in_ok-sink.sink c.save_disks.new.writer
     c.save_disks.result c.into_parts-screen.ensures.screen c.into_parts-screen.ensures.disk c.in_ok-sink.ensures
-    c.save_disks.ensures.saved
+    c.save_disks.ensures.saved c.save_disks.ensures.there
