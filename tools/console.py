@@ -74,6 +74,8 @@ class Asked:
     """What the words of a command line ask for: words for the program, what comes before the keys, and disks to be saved."""
 
     command, handed_on = "console", HANDED_ON
+    # The statuses with which the program has written the disks that are to be saved.
+    well = (0,)
 
     def __init__(self, words):
         self.own, self.images, self.saves = [], {}, {}
@@ -121,8 +123,22 @@ class Asked:
         """The words that the program is given."""
         words = ["console", "--before", str(len(self.opening())), *self.own]
         words += ["--images", drives_in(self.images)] * bool(self.images)
-        words += ["--saved", drives_in(self.saves)] * bool(self.saves)
-        return [*words, "--apart", "--mark", mark]
+        return [*words, "--apart", *self.saving(mark)]
+
+    def saving(self, mark):
+        """The words that say which disks the program writes at its end, and what it writes before them."""
+        return [*["--saved", drives_in(self.saves)] * bool(self.saves), "--mark", mark]
+
+    def end(self, status, screens):
+        """Ends the command if what its program wrote could not be passed on; else the disks are saved if it ended well. Gives its status."""
+        for screen in screens:
+            if screen.error:
+                complain(f"the output is not written: {screen.error.strerror}", 5)
+        if self.saves and status not in self.well:
+            complain(f"{', '.join(self.saves.values())}: not written, since `pair {self.command}` did not end well", status)
+        if self.saves:
+            self.save(bytes(screens[0].kept or b""))
+        return status
 
     def save(self, images):
         """Writes each disk that is to be saved."""
@@ -215,9 +231,7 @@ class Run:
         self.screens = [Screen(self.program, pipe, output, mark, self.heard) for pipe, output in ends if pipe]
         showing = [begin(threading.Thread(target=screen.pass_on)) for screen in self.screens]
         self.await_program()
-        for it in showing:
-            while it.is_alive() and not self.ended_by:
-                it.join(0.1)
+        await_all(showing, lambda: self.ended_by)
 
     def await_program(self):
         """Waits until the program has ended. A signal that comes just before a wait is heard only after it, so no wait is long."""
@@ -253,11 +267,23 @@ def refuse(path, words):
         sys.exit(asked.returncode)
 
 
+def new_mark():
+    """A byte that guests seldom send, FS, and what nobody can guess."""
+    return f"\x1c{secrets.token_hex(16)}"
+
+
 def begin(thread):
     """Starts a thread that does not keep the command from ending."""
     thread.daemon = True
     thread.start()
     return thread
+
+
+def await_all(threads, is_over):
+    """Waits until these threads have ended, or it is over."""
+    for it in threads:
+        while it.is_alive() and not is_over():
+            it.join(0.1)
 
 
 def saved_as(handed):
@@ -329,8 +355,7 @@ def main(path, command, *words):
         os.execv(path, [path, command, "--help"])
     asked = Asked(words)
     refuse(path, asked.own)
-    # A byte that guests seldom send, FS, and what nobody can guess.
-    mark = f"\x1c{secrets.token_hex(16)}"
+    mark = new_mark()
     run = Run()
     run.heed()
     with raw_terminal(), row_for(asked.lines) as run.row, run.program_at(path, asked, mark):
@@ -339,14 +364,7 @@ def main(path, command, *words):
     if status and os.isatty(0) and os.isatty(2):
         # What was said last may not end where a line begins.
         os.write(2, b"\r\n")
-    for screen in run.screens:
-        if screen.error:
-            complain(f"the output is not written: {screen.error.strerror}", 5)
-    if status and asked.saves:
-        complain(f"{', '.join(asked.saves.values())}: not written, since the console did not end well", status)
-    if asked.saves:
-        asked.save(bytes(run.screens[0].kept or b""))
-    return status
+    return asked.end(status, run.screens)
 
 
 if __name__ == "__main__":

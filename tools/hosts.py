@@ -11,6 +11,8 @@ of it. Any of them may be killed or stopped from elsewhere. When one has ended a
 
 A terminal gives each key as it is typed, Ctrl-C among them, and is set back as it was however the command ends. The key --quit ends all.
 When the outside has ended, so do all hosts, since their streams do; one that is stopped is killed.
+
+Disks are saved as tools/console.py saves them, if the outside ends well or no host is left that has the machine: the outside has the disk.
 """
 
 import contextlib
@@ -26,9 +28,10 @@ import threading
 
 sys.path.insert(0, os.path.dirname(os.path.realpath(__file__)))
 import console
-from console import ENDINGS, HELP, LONGEST_WAIT, OF_TERMINALS, Keys, begin, raw_terminal
+from console import ENDINGS, HELP, LONGEST_WAIT, OF_TERMINALS, Keys, await_all, begin, new_mark, raw_terminal
 from options import complain, count_in, drives_in, key_in, numbered
 from output import Output
+from screen import Screen
 
 # How many processes begin, how many more may, and how many places there are at most.
 HOSTS, LATER, MOST = 3, 8, 99
@@ -39,12 +42,15 @@ PATIENCE = 2
 # If the outside goes on for so many seconds after a host has ended, it was not the end of all.
 MOMENT = 0.2
 PR_SET_PDEATHSIG = 1
+# The status of an outside that has no host left with the machine.
+NO_HOSTS = 6
 
 
 class Asked(console.Asked):
     """What the words of a command line ask for: how many hosts there are, and what each process is given."""
 
     command, handed_on = "hosts", {"--quit": lambda word: key_in("--quit", word)}
+    well = (0, NO_HOSTS)
 
     def __init__(self, words):
         self.hosts, self.later, self.remote, self.of_hosts = HOSTS, LATER, {}, []
@@ -73,9 +79,10 @@ class Asked(console.Asked):
         """The words that say what comes before the first key, or before the first frame."""
         return ["--before", str(len(self.opening())), *["--images", drives_in(self.images)] * bool(self.images)]
 
-    def words(self, folder):
+    def words(self, folder, mark):
         """The words that the outside is given."""
-        return ["hosts", "--folder", folder, "--places", str(self.places()), *self.first(), *self.own]
+        words = ["hosts", "--folder", folder, "--places", str(self.places()), *self.first(), *self.own]
+        return [*words, *(self.saving(mark) if self.saves else [])]
 
     def host_words(self, program, host):
         """The words of the command that runs a host."""
@@ -139,6 +146,8 @@ class Run:
 
     def __init__(self):
         self.outside = self.ended_by = None
+        # What the outside writes, if disks come after it.
+        self.screens = []
         self.ending = "\r\n" if os.isatty(2) else "\n"
         self.lock = threading.Lock()
 
@@ -167,10 +176,14 @@ class Run:
 
     def run(self, program, asked, folder):
         """Runs all until the outside has ended."""
-        hosts = Hosts(program, asked, folder, self.say)
+        hosts, mark = Hosts(program, asked, folder, self.say), new_mark()
         how = {"stdin": subprocess.PIPE, "stderr": subprocess.PIPE, "preexec_fn": end_with_this_command}
-        self.outside = subprocess.Popen([program, *asked.words(folder)], **how)
+        how["stdout"] = subprocess.PIPE if asked.saves else None
+        self.outside = subprocess.Popen([program, *asked.words(folder, mark)], **how)
         self.say(f"the outside is process {self.outside.pid}")
+        if asked.saves:
+            self.screens = [Screen(self.outside, self.outside.stdout, Output(1), mark.encode(), lambda handed: handed)]
+        showing = [begin(threading.Thread(target=screen.pass_on)) for screen in self.screens]
         try:
             for _ in range(asked.hosts):
                 hosts.start()
@@ -182,6 +195,7 @@ class Run:
                 with contextlib.suppress(subprocess.TimeoutExpired):
                     self.outside.wait(LONGEST_WAIT)
             notes.join(PATIENCE)
+            await_all(showing, lambda: self.ended_by)
         finally:
             self.outside.kill()
             hosts.end()
@@ -211,7 +225,7 @@ def main(path, command, *words):
             run.run(path, asked, folder)
     finally:
         shutil.rmtree(folder, ignore_errors=True)
-    return run.status()
+    return asked.end(run.status(), run.screens)
 
 
 if __name__ == "__main__":

@@ -5,7 +5,7 @@ usage: tools/options.py [COMMAND]     prints those of a command; without one, al
 
   --load FILE           for all commands but `host`: a program in Intel HEX, in memory at boot, as lines `mem` before the input
   --disk D=FILE         for all commands but `lint` and `host`: the image of a disk in drive D, before the input
-  --save-disk D=FILE    for `live`, `shell` and `console`: at the end the disk of drive D is written to a file
+  --save-disk D=FILE    for `live`, `shell`, `console` and `hosts`: at the end the disk of drive D is written to a file
   --type P=TEXT         for `live` and `console`: keys typed at port P, after those of the script; \\r is Enter, and \\xHH any byte
   --stop HOST@TURN      for `live`: a host fails at this turn of its generation, and the other one continues; one for each generation
   --spares K            for `live`: how many spare hosts there are to copy the guest to; without it as many as there are --stop
@@ -31,7 +31,7 @@ import sys
 OPTIONS = {
     "--load": ("script", "check", "picture", "lint", "live", "shell", "console", "hosts"),
     "--disk": ("script", "check", "picture", "live", "shell", "console", "hosts"),
-    "--save-disk": ("live", "shell", "console"),
+    "--save-disk": ("live", "shell", "console", "hosts"),
     "--type": ("live", "console"),
     "--stop": ("live",),
     "--spares": ("live",),

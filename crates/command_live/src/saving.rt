@@ -52,8 +52,8 @@ pub fn save_disks<D: SectorStore, W: Write + Drop>(
     let mut disk = disk;
     let images = match images_of(alloc, &mut disk, drives) {
         Ok(images) => images,
-        Err(Fault::Unknown) => return Err(Failure::InputOrOutput),
-        Err(_) => return Err(Failure::OutOfMemory),
+        Err(Fault::OutOfMemory) => return Err(Failure::OutOfMemory),
+        Err(_) => return Err(Failure::InputOrOutput),
     };
     write_after(mark, &images, writer)
 }
