@@ -214,8 +214,7 @@ class Run:
         """The program, as long as it runs. What it writes is passed on by this command, which takes out what is handed over, and ends the
         program if it cannot be written. What it says beside that comes with it, if both go to one place."""
         how = {"stdout": subprocess.PIPE, "stderr": subprocess.STDOUT if is_one_place() else subprocess.PIPE}
-        how["preexec_fn"] = lambda: [signal.signal(it, signal.SIG_IGN) for it in OF_TERMINALS]
-        self.program = subprocess.Popen([path, *asked.words(mark)], stdin=subprocess.PIPE, **how)
+        self.program = subprocess.Popen([path, *asked.words(mark)], stdin=subprocess.PIPE, preexec_fn=self.prepare, **how)
         try:
             self.keys = Keys(self.program, asked.opening())
             if self.ended_by:
@@ -223,6 +222,12 @@ class Run:
             yield self.program
         finally:
             self.program.kill()
+
+    @staticmethod
+    def prepare():
+        """In the program's process, before it begins: the program hears no signal of this command's terminal."""
+        for it in OF_TERMINALS:
+            signal.signal(it, signal.SIG_IGN)
 
     def pass_on(self, mark):
         """Passes on keys, and what the program writes, until it ends."""
@@ -247,10 +252,14 @@ class Run:
             return drawn_as(path_in(handed[len(WISH) :]), self.story.picture())
         if not handed.startswith(LINE):
             return saved_as(handed)
-        self.story.hear(handed[len(LINE) :].decode())
+        return self.told(handed[len(LINE) :])
+
+    def told(self, line):
+        """A line about the pair: it is shown on the last row, or is what is written."""
+        self.story.hear(line.decode())
         if self.row is None:
-            return b"\r\n" + handed + b"\r\n"
-        self.row.say(handed[len(LINE) :])
+            return b"\r\n" + LINE + line + b"\r\n"
+        self.row.say(line)
         return b""
 
     def status(self):
@@ -259,9 +268,9 @@ class Run:
         return 128 + number if number else self.program.returncode
 
 
-def refuse(path, words):
+def refuse(path, command, words):
     """Ends this command as the program ends if it does not take these words. It says so before it gives its help, which is asked for too."""
-    asked = subprocess.run([path, "console", *words, "--help"], stdin=subprocess.DEVNULL, capture_output=True)
+    asked = subprocess.run([path, command, *words, "--help"], stdin=subprocess.DEVNULL, capture_output=True)
     if asked.stderr.startswith(b"error: "):
         os.write(2, asked.stderr)
         sys.exit(asked.returncode)
@@ -353,10 +362,13 @@ def raw_terminal():
 def main(path, command, *words):
     if not HELP.isdisjoint(words):
         os.execv(path, [path, command, "--help"])
-    asked = Asked(words)
-    refuse(path, asked.own)
+    return sit(path, Asked(words), Run())
+
+
+def sit(path, asked, run):
+    """Lets one sit at a program until it ends; gives its status."""
+    refuse(path, asked.command, asked.own)
     mark = new_mark()
-    run = Run()
     run.heed()
     with raw_terminal(), row_for(asked.lines) as run.row, run.program_at(path, asked, mark):
         run.pass_on(mark.encode())

@@ -38,7 +38,7 @@ abbrev pub line_of : ℕ → HostEvent → Story → Option Line
 line_of place (Became generation (Some Primary)) s = begins (story_after place (Became generation (Some Primary)) s)
 line_of place (Became generation (Some Backup)) s = begins (story_after place (Became generation (Some Backup)) s)
 line_of place (Won generation) s = Some (Line.Won place None)
-line_of place (Joins generation) s = Some (Line.Copies place)
+line_of place (Joins generation) s = if is_at place s.joining then None else Some (Line.Copies place)
 line_of place Gone s = if is_at place s.joining then Some (Line.Lost place) else None
 line_of place Alone s = if s.is_alone then None else Some (Line.Alone place)
 line_of place event s = None

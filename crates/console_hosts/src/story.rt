@@ -91,7 +91,7 @@ impl Story {
             HostEvent::Became(_, Some(Role::Primary)) => self.after(place, event).begins(),
             HostEvent::Became(_, Some(Role::Backup)) => self.after(place, event).begins(),
             HostEvent::Won(_) => Some(Line::Won { host, replay: None }),
-            HostEvent::Joins(_) => Some(Line::Copies { host }),
+            HostEvent::Joins(_) if self.joining != Some(place) => Some(Line::Copies { host }),
             HostEvent::Gone if self.joining == Some(place) => Some(Line::Lost { host }),
             HostEvent::Alone if !self.is_alone => Some(Line::Alone { host }),
             _ => None,

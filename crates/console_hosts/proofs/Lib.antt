@@ -1,0 +1,4 @@
+pub mod Typing
+pub mod Showing
+pub mod Sitting
+pub mod Leaving
