@@ -1,7 +1,7 @@
 -- Which hosts have the machine, by what becomes of them, and the lines that tell of it.
 use Rattle.std.specs.Prelude.{ℕ, ◌==◌, Bool, true, false, not, if◌then◌else◌, Option, Some, None}
 use Rattle.command_hosts.specs.declared.steward.HostEvent.{HostEvent}
-use Rattle.command_hosts.specs.declared.steward.HostEvent.TheVariants.{Alone, Became, Gone, Joins, Won}
+use Rattle.command_hosts.specs.declared.steward.HostEvent.TheVariants.{Alone, Became, Failed, Gone, Joins, Won}
 use Rattle.command_live.specs.declared.line.Line.{Line}
 use Rattle.console_hosts.specs.declared.story.Story.{Story}
 use Rattle.pair_events.specs.declared.reply.Role.TheVariants.{Backup, Primary}
@@ -39,6 +39,7 @@ line_of place (Became generation (Some Primary)) s = begins (story_after place (
 line_of place (Became generation (Some Backup)) s = begins (story_after place (Became generation (Some Backup)) s)
 line_of place (Won generation) s = Some (Line.Won place None)
 line_of place (Joins generation) s = if is_at place s.joining then None else Some (Line.Copies place)
+line_of place Failed s = Some (Line.CutOff place)
 line_of place Gone s = if is_at place s.joining then Some (Line.Lost place) else None
 line_of place Alone s = if s.is_alone then None else Some (Line.Alone place)
 line_of place event s = None

@@ -92,6 +92,7 @@ impl Story {
             HostEvent::Became(_, Some(Role::Backup)) => self.after(place, event).begins(),
             HostEvent::Won(_) => Some(Line::Won { host, replay: None }),
             HostEvent::Joins(_) if self.joining != Some(place) => Some(Line::Copies { host }),
+            HostEvent::Failed => Some(Line::CutOff { host }),
             HostEvent::Gone if self.joining == Some(place) => Some(Line::Lost { host }),
             HostEvent::Alone if !self.is_alone => Some(Line::Alone { host }),
             _ => None,
