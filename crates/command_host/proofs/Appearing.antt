@@ -12,7 +12,7 @@ use Rattle.command_host.specs.declared.screen.ScreenWriter.{ScreenWriter}
 use Rattle.command_hosts.specs.Runs.{Ended}
 use Rattle.command_hosts.specs.declared.session.HostsEnd.{HostsEnd}
 use Rattle.command_hosts.specs.declared.session.Session.{Session}
-use Rattle.command_live.specs.Saving.{HasDrive, images_of}
+use Rattle.command_saving.specs.Saving.{HasDrive, images_of}
 use Rattle.outside_switch.specs.Passing as passing
 use Rattle.pair_lines.proofs.Same.{same_start_on}
 use Rattle.pair_lines.specs.Lines.{HasGone, HasShown, IsSameStart, gone_by, shown_at}
@@ -166,19 +166,24 @@ ended_so contents mark drives end first last from sink old begins ended same sav
     (subst (λ (w : ScreenWriter _). IsSaved contents mark drives last w) same saved)
 
 -- what its screen has shown was written, and then its disk was saved, if that went well
-pub saved_so : {D N W E : Type 0} (contents : W → Option (List ℕ)) (mark drives : List ℕ) (session : Session D N)
+pub saved_so : {D N W E : Type 0} (contents : W → Option (List ℕ)) (mark drives mark' drives' : List ℕ) (session : Session D N)
     (old : ScreenWriter W) (screen : Screen) (records : List Record) (shown filled : W) (result : Result (Unit {0}) E) →
     screen ≡ session.first.screen → records ≡ session.switch.devices.records → AllIsWritten contents old screen shown →
-    OnOk result (Appends (contents shown) (contents filled) (mark ++ images_of records drives)) →
-    OnOk result (All (HasDrive records) drives) → OnOk result (IsSaved contents mark drives session old)
-saved_so contents mark drives session old screen records shown filled (Ok done) screen_is records_are all written there = record {
+    mark' ≡ mark → drives' ≡ drives →
+    OnOk result (Appends (contents shown) (contents filled) (mark' ++ images_of records drives')) →
+    OnOk result (All (HasDrive records) drives') → OnOk result (IsSaved contents mark drives session old)
+saved_so contents mark drives mark' drives' session old screen records shown filled (Ok done) of_screen of_disk all of_mark of_drives
+    written there = record {
   shown = shown;
-  all = subst (λ s. AllIsWritten contents old s shown) screen_is all;
+  all = subst (λ s. AllIsWritten contents old s shown) of_screen all;
   filled = filled;
-  saved = subst (λ r. Appends (contents shown) (contents filled) (mark ++ images_of r drives)) records_are written;
-  there = subst (λ r. All (HasDrive r) drives) records_are there;
+  saved = subst (λ r. Appends (contents shown) (contents filled) (mark ++ images_of r drives)) of_disk
+      (subst (λ l. Appends (contents shown) (contents filled) (mark ++ images_of records l)) of_drives
+      (subst (λ l. Appends (contents shown) (contents filled) (l ++ images_of records drives')) of_mark written));
+  there = subst (λ r. All (HasDrive r) drives) of_disk (subst (λ l. All (HasDrive records) l) of_drives there);
 }
-saved_so contents mark drives session old screen records shown filled (Err e) screen_is records_are all written there = tt
+saved_so contents mark drives mark' drives' session old screen records shown filled (Err e) of_screen of_disk all of_mark of_drives
+    written there = tt
 
 pub finishes : (screen : Screen) (to : Producer Shown Global AnyItems) (o : Option (Finished Shown Global AnyItems)) →
     screen.ring ≡ Some to → IfSome o (λ f. Finishes to f) → IfSome o (HasFinished screen)

@@ -4,7 +4,7 @@ use Rattle.std.specs.Io.KnownBytes.{Appends}
 use Rattle.command_host.specs.Showing.{AllIsWritten}
 use Rattle.command_host.specs.declared.screen.ScreenWriter.{ScreenWriter}
 use Rattle.command_hosts.specs.declared.session.Session.{Session}
-use Rattle.command_live.specs.Saving.{HasDrive, images_of}
+use Rattle.command_saving.specs.Saving.{HasDrive, images_of}
 
 -- all that the first screen has shown was written, each byte once and in order; after it the mark, and the images of these drives, of
 -- the records that the disk has; and nothing else was. The disk has each of these drives.

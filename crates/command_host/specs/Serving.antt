@@ -10,7 +10,7 @@ use Rattle.command_hosts.specs.declared.port.PortEnd.{PortEnd}
 use Rattle.command_hosts.specs.declared.session.HostsEnd.{HostsEnd}
 use Rattle.command_hosts.specs.declared.session.Session.{Session}
 use Rattle.command_line.specs.declared.hosts_order.HostsOrder.{HostsOrder}
-use Rattle.command_live.specs.Saving.{HasDrive, images_of}
+use Rattle.command_saving.specs.Saving.{HasDrive, images_of}
 use Rattle.ft_node.specs.AnyNode.{IsNode}
 use Rattle.ft_node.specs.Calls.{Begins}
 use Rattle.ft_node.specs.declared.node.Node as code

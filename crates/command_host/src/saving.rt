@@ -7,7 +7,7 @@ use crate::writing::{Showing, end_showing};
 use command_ending::Failure;
 use command_hosts::Session;
 use command_line::HostsOrder;
-use command_live::save_disks;
+use command_saving::save_disks;
 use shared_disk::SectorStore;
 use std::alloc::Global;
 use std::io::Write;
@@ -16,6 +16,7 @@ use std::time::Clock;
 
 /// Writes all that the first screen of a session has shown, and after it the mark and the images of the drives that are saved, as
 /// the disk is now. `InputOrOutput` if a write fails, or if the disk lacks one of the drives.
+#[tactic(auto, using(crate::proofs::Appearing::saved_so))]
 pub(crate) fn end_session<
     H: Threads + Clock + Copy + Drop + Send + Sync + 'static,
     D: SectorStore,
