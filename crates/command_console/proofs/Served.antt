@@ -11,7 +11,7 @@ use Rattle.command_ending.specs.declared.failure.Failure.TheVariants as failure
 use Rattle.command_input.specs.declared.input.Input.{Input}
 use Rattle.command_line.specs.declared.console_order.ConsoleOrder.{ConsoleOrder}
 use Rattle.command_live.specs.Living.{BeginsAs, typed_in}
-use Rattle.command_live.specs.Saving.{IsUnsaved, images_of}
+use Rattle.command_saving.specs.Saving.{IsUnsaved, images_of}
 use Rattle.command_live.proofs.Living.{are_booted}
 use Rattle.console_terminal.specs.Greeting.{greeting_of}
 use Rattle.console_terminal.specs.Screen.{Piece, bytes_of, texts_of}

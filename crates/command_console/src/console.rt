@@ -2,7 +2,7 @@
 ghost use Rattle.std.specs.Prelude.{◌≡◌, ◌++◌, IfErr, IfOk, OnOk, string_bytes};
 ghost use Rattle.std.specs.Io.KnownBytes.{Appends};
 ghost use Rattle.command_console.specs.Console.{HasServed, IsAtConsole, IsOfRun, Opens, Refuses};
-ghost use Rattle.command_live.specs.Saving.{images_of};
+ghost use Rattle.command_saving.specs.Saving.{images_of};
 ghost use Rattle.console_terminal.specs.Greeting.{greeting_of};
 ghost use Rattle.event_callbacks.specs.Keeping.{Keeps};
 ghost use Rattle.event_callbacks.specs.declared.devices.TheConstants.{SECTOR, SENT, WRITTEN};
@@ -13,7 +13,8 @@ use crate::sitting::Machine;
 use command_ending::Failure;
 use command_input::{Input, Language, read_input};
 use command_line::ConsoleOrder;
-use command_live::{TRIES, drafted, save_disks, sizes};
+use command_live::{TRIES, drafted, sizes};
+use command_saving::save_disks;
 use console_terminal::greeting;
 use event_callbacks::{Completes, plain_completions};
 use guest_lockstep::Reads;

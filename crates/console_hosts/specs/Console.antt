@@ -9,7 +9,7 @@ use Rattle.command_hosts.specs.declared.session.Session.{Session}
 use Rattle.command_input.specs.Inputs.{IsInput}
 use Rattle.command_input.specs.declared.input.Input.{Input}
 use Rattle.command_line.specs.declared.hosts_order.HostsOrder.{HostsOrder}
-use Rattle.command_live.specs.Saving.{images_of}
+use Rattle.command_saving.specs.Saving.{images_of}
 use Rattle.console_hosts.specs.Sitting.{HasAppeared, WasHeard, passed_to}
 use Rattle.console_hosts.specs.declared.console.Streams.{Streams}
 use Rattle.console_hosts.specs.declared.teller.Teller.{Teller}

@@ -13,7 +13,7 @@ use command_host::{Pipes, add_places, read_opening};
 use command_hosts::{HostsEnd, PortEnd, Session};
 use command_input::{Input, Language, read_input};
 use command_line::HostsOrder;
-use command_live::save_disks;
+use command_saving::save_disks;
 use console_terminal::Signs;
 use i8080_words::R;
 use pair_lines::{Keyboard, Screen};

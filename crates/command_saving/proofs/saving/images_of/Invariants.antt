@@ -1,9 +1,9 @@
 -- The images of the drives so far.
 use Rattle.std.specs.Prelude.{◌*◌, All, take}
 use Rattle.std.specs.List.{flat_map}
-use Rattle.command_live.specs.Saving.{HasDrive, image_of}
-use Rattle.command_live.proofs.Places.{AreSaved}
-use Rattle.command_live.proofs.saving.images_of.Given as goal
+use Rattle.command_saving.specs.Saving.{HasDrive, image_of}
+use Rattle.command_saving.proofs.Places.{AreSaved}
+use Rattle.command_saving.proofs.saving.images_of.Given as goal
 
 abbrev pub invariant-loop-drive : goal.invariant-loop-drive
 invariant-loop-drive g l =

@@ -1,7 +1,7 @@
 -- One sector more.
 use Rattle.std.proofs.Common.{arith}
-use Rattle.command_live.proofs.Places.{no_place, place_more, place_there}
-use Rattle.command_live.proofs.saving.put_image.Goals as goal
+use Rattle.command_saving.proofs.Places.{no_place, place_more, place_there}
+use Rattle.command_saving.proofs.saving.put_image.Goals as goal
 
 pub loop-place-init : goal.loop-place-init
 loop-place-init g c = (

@@ -1,8 +1,8 @@
 -- The sectors so far.
 use Rattle.std.specs.Prelude.{◌++◌, ◌+◌, ◌*◌, length}
-use Rattle.command_live.specs.Saving.{HasPlaces, image_to}
-use Rattle.command_live.proofs.Places.{AreSaved}
-use Rattle.command_live.proofs.saving.put_image.Given as goal
+use Rattle.command_saving.specs.Saving.{HasPlaces, image_to}
+use Rattle.command_saving.proofs.Places.{AreSaved}
+use Rattle.command_saving.proofs.saving.put_image.Given as goal
 
 abbrev pub invariant-loop-place : goal.invariant-loop-place
 invariant-loop-place g l =

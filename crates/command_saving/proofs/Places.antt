@@ -7,7 +7,7 @@ use Rattle.std.proofs.lemmas.Grind.{flat_map-append}
 use Rattle.std.proofs.lemmas.List.Elements.{All-more}
 use Rattle.std.proofs.lemmas.List.{flat_map_more, take_more}
 use Rattle.std.proofs.lemmas.List.FromFn.{map-range_with_len_more}
-use Rattle.command_live.specs.Saving.{HasDrive, HasPlaces, address_at, image_of, image_to}
+use Rattle.command_saving.specs.Saving.{HasDrive, HasPlaces, address_at, image_of, image_to}
 use Rattle.disk_dcdd.specs.declared.address.SectorAddress.{SectorAddress}
 use Rattle.shared_disk.specs.Records.{IsThere, bytes_in}
 use Rattle.shared_disk.specs.declared.store.Record.{Record}

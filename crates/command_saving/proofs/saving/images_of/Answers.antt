@@ -1,7 +1,7 @@
 -- One drive more.
 use Rattle.std.proofs.Common.{refl}
-use Rattle.command_live.proofs.Places.{drive_more, drive_there}
-use Rattle.command_live.proofs.saving.images_of.Goals as goal
+use Rattle.command_saving.proofs.Places.{drive_more, drive_there}
+use Rattle.command_saving.proofs.saving.images_of.Goals as goal
 
 pub loop-drive-preserved : goal.loop-drive-preserved
 loop-drive-preserved g c =

@@ -1,7 +1,7 @@
 //! The disks of a pair, as images, and what is written of them at the end.
 ghost use Rattle.std.specs.Prelude.{◌≡◌, ◌++◌, ◌+◌, ◌<◌, All, length, IfErr, IfOk, OnOk};
 ghost use Rattle.std.specs.Io.KnownBytes.{Appends};
-ghost use Rattle.command_live.specs.Saving.{AreWhole, HasDrive, IsUnsaved, address_at, are_attached, image_of, images_of};
+ghost use Rattle.command_saving.specs.Saving.{AreWhole, HasDrive, IsUnsaved, address_at, are_attached, image_of, images_of};
 ghost use Rattle.shared_disk.specs.Records.{IsThere, bytes_in};
 
 use command_ending::Failure;
@@ -12,7 +12,7 @@ use std::alloc::Global;
 use std::io::Write;
 
 /// Whether each of these drives is one of so many.
-pub(crate) fn are_attached(drives: &[u8], attached: u8) -> bool
+pub fn are_attached(drives: &[u8], attached: u8) -> bool
     ensures { result ≡ are_attached attached drives.now }
 {
     drives.iter().all(|drive| *drive < attached)
