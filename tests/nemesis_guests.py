@@ -1,0 +1,194 @@
+"""The guests of `tests/nemesis`, each with its keys and with all that it shows if its machine never fails; and a seat at a pair that runs one:
+it types as the guest allows, compares each byte as it comes, and reaches the hosts that are behind relays."""
+import itertools
+import os
+import pathlib
+import signal
+import socket
+from collections import namedtuple
+
+from cases import Differs, expect
+from console_sitting import ECHO, holds
+from hosts_pair import LETTERS, QUIT, WRITER, Pair, dumped, has_ended, letters, monitor_memory, remote
+
+RELAY = pathlib.Path(__file__).with_name("nemesis_relay.py")
+
+# A guest that shows each letter twice. The letter depends on how often the guest has asked port 0, until then, whether it sends: so on when
+# each byte was accepted, which no two machines agree upon that do not share a log. At 0000 MVI A,03; OUT 10; MVI A,15; OUT 10; MVI B,00; at
+# 000A it counts how often it asks (INR B; IN 10; ANI 02; JZ 000A), and sends one of sixteen letters (MOV A,B; ANI 0F; ADI 41; MOV C,A;
+# OUT 11); at 001A it waits until port 0 sends again (IN 10; ANI 02; JZ 001A), and sends the same letter (MOV A,C; OUT 11; JMP 000A).
+TWICE = """\
+mem 0000 3E 03 D3 10 3E 15 D3 10 06 00
+mem 000A 04 DB 10 E6 02 CA 0A 00 78 E6 0F C6 41 4F D3 11
+mem 001A DB 10 E6 02 CA 1A 00 79 D3 11 C3 0A 00
+"""
+
+# A key, and how many bytes are shown before it may be typed.
+Key = namedtuple("Key", "byte after")
+
+# A guest: its name, its setup (none for the monitor), its keys, all that it shows (none if that is only known in part), and up to how many
+# bytes it is watched.
+Guest = namedtuple("Guest", "name setup keys shows length")
+
+# Where the monitor is asked to dump: its code, and what it has filled.
+PLACES = [*range(0, 0x70, 0x10), *range(0x2000, 0x2040, 8)]
+
+# After how many bytes at most an echo must have come until the guest is given more keys.
+AHEAD = 100
+
+
+def monitor_of(chance, count):
+    """The monitor, asked to fill memory and to dump it. It has room for one key: each is typed when the one before is echoed."""
+    memory, shows, keys = bytearray(monitor_memory()), b"MONITOR\r\n*", []
+    while len(shows) < count:
+        if chance.random() < 0.3:
+            first, byte = chance.randrange(0x2000, 0x2030), chance.randrange(256)
+            last = first + chance.randrange(16)
+            line, answer = b"F %04X %04X %02X" % (first, last, byte), b""
+            memory[first : last + 1] = bytes([byte]) * (last + 1 - first)
+        else:
+            place = chance.choice(PLACES)
+            line, answer = b"D %04X" % place, dumped(memory, place)
+        keys += [Key(it, len(shows) + at) for at, it in enumerate(line)]
+        shows += line + b"\r\n" + answer + b"*"
+    return Guest("monitor", None, keys, shows, len(shows))
+
+
+def echo_of(chance, count):
+    """A guest that echoes keys, which come as fast as it takes them."""
+    some = bytes(chance.choice([it for it in range(256) if it != QUIT[0]]) for _ in range(count))
+    return Guest("echo", ECHO, [Key(it, max(0, at - AHEAD)) for at, it in enumerate(some)], some, count)
+
+
+def letters_of(_chance, count):
+    return Guest("letters", LETTERS, [], letters(count + 5_000), count)
+
+
+def writer_of(_chance, count):
+    """A guest that writes sectors, reads them back, and shows what it has read."""
+    count = max(20, count // 20)
+    return Guest("writer", WRITER, [], bytes(itertools.islice(itertools.cycle(range(256)), count + 5_000)), count)
+
+
+def twice_of(_chance, count):
+    return Guest("twice", TWICE, [], None, count)
+
+
+KINDS = {"monitor": monitor_of, "echo": echo_of, "letters": letters_of, "writer": writer_of, "twice": twice_of}
+
+
+class Seat(Pair):
+    """A pair that runs a guest, at which somebody sits who types on whatever happens to its hosts."""
+
+    def __init__(self, program, guest, room, is_relayed, hosts, later, *words):
+        self.program, self.guest, self.room, self.is_relayed = program, guest, room, is_relayed
+        self.typed = self.compared = 0
+        # The hosts to which something was done, and the processes behind the relays.
+        self.hurt, self.behind = set(), {}
+        words = [*words, "--hosts", str(hosts), "--later", str(later)]
+        if guest.setup:
+            (room / "guest.setup").write_text(guest.setup)
+            words += ["--setup", room / "guest.setup"]
+        for place in range(hosts + later if is_relayed else 0):
+            words += remote(place, RELAY, self.socket(place), self.program)
+        super().__init__(*words)
+
+    def socket(self, host):
+        return self.room / f"{host}.socket"
+
+    def hear(self, within):
+        """Types what may be typed, and compares what comes."""
+        self.type_due()
+        has_come = super().hear(within)
+        self.compare()
+        return has_come
+
+    def type_due(self):
+        """Types the keys that may be typed now, as far as they are taken."""
+        first = last = self.typed
+        while last < len(self.guest.keys) and self.guest.keys[last].after <= len(self.shown):
+            last += 1
+        if first == last:
+            return
+        os.set_blocking(self.keyboard, False)
+        try:
+            self.typed += os.write(self.keyboard, bytes(it.byte for it in self.guest.keys[first:last]))
+        except BlockingIOError:
+            pass
+        except OSError as error:
+            raise Differs(f"no more keys are taken: {self.said[-300:]!r}") from error
+
+    def compare(self):
+        """Compares what has come since with what a machine shows that never fails."""
+        first, some = self.compared, self.shown[self.compared :]
+        if self.guest.shows is not None:
+            self.expect_at(first, some, self.guest.shows[first : first + len(some)])
+            self.compared = len(self.shown)
+            return
+        for at in range(first, len(self.shown) - 1, 2):
+            self.expect_at(at, self.shown[at : at + 2], self.shown[at : at + 1] * 2)
+            self.compared = at + 2
+
+    def expect_at(self, at, some, wanted):
+        if some != wanted:
+            at += next((it for it, byte in enumerate(some) if wanted[it : it + 1] != bytes([byte])), 0)
+            raise Differs(f"byte {at} differs; before it is {self.shown[max(0, at - 20) : at]!r}, and then {self.shown[at : at + 20]!r}")
+
+    def process(self, host):
+        """The process of a host, also of one behind a relay."""
+        process = super().process(host)
+        if not self.is_relayed:
+            return process
+        if host not in self.behind:
+            children = pathlib.Path(f"/proc/{process}/task/{process}/children")
+            self.await_that(lambda: children.read_text().split(), f"the process of host {host}")
+            self.behind[host] = int(children.read_text().split()[0])
+        return self.behind[host]
+
+    def command(self, host, *words):
+        """Says something to the relay of a host."""
+        with socket.socket(socket.AF_UNIX, socket.SOCK_DGRAM) as control:
+            control.sendto(" ".join(map(str, words)).encode(), str(self.socket(host)))
+
+    def await_shown_since(self, count):
+        """Waits until so many bytes more have appeared, or all."""
+        wanted = min(len(self.shown) + count, self.guest.length)
+        self.count_shown(wanted)
+
+    def await_still(self):
+        """Waits until nothing appears any more, for a moment."""
+        before = -1
+        while before != len(self.shown):
+            before = len(self.shown)
+            self.hear_for(0.3)
+
+    def await_stopped(self, host):
+        """Waits until a host has been stopped."""
+        process = self.process(host)
+        expect(holds(lambda: has_stopped(process), 30), True, f"that host {host} has stopped")
+
+    def endings(self):
+        """Why hosts have ended to which nothing was done, by their places."""
+        lines = (it.partition(b" has ended: ") for it in self.said.splitlines() if b" has ended: " in it)
+        every = {int(head.split()[-1]): why.decode(errors="replace") for head, _, why in lines}
+        return {host: why for host, why in every.items() if host not in self.hurt}
+
+    def nobody_is_left(self):
+        super().nobody_is_left()
+        left = [it for it in self.behind.values() if not holds(lambda it=it: has_ended(it), 10)]
+        expect(left, [], "the processes that are left behind relays")
+
+    def close(self):
+        super().close()
+        for process in self.behind.values():
+            if not has_ended(process):
+                os.kill(process, signal.SIGKILL)
+
+
+def has_stopped(process):
+    """Whether a process is stopped, or has ended."""
+    try:
+        status = pathlib.Path(f"/proc/{process}/stat").read_text()
+    except OSError:
+        return True
+    return status.rpartition(")")[2].split()[0] in "TtZ"
