@@ -1,4 +1,7 @@
-"""Programs with a mistake, built without proofs from copies of this repository's sources, to see that `tests/nemesis` finds it."""
+"""Programs with a mistake, built without proofs from copies of this repository's sources, to see that `tests/nemesis` finds it.
+
+A file of tests/nemesis_mistakes says what is done wrong, with which guest and which deed it is looked for, and the edit that does it.
+"""
 import glob
 import hashlib
 import os
@@ -6,7 +9,6 @@ import pathlib
 import shutil
 import subprocess
 import sys
-from concurrent.futures import ThreadPoolExecutor
 
 from cases import Differs
 from console_sitting import TOP
@@ -17,16 +19,14 @@ from edits import edited
 
 EDITS = TOP / "tests/nemesis_mistakes"
 
-# How many programs are built side by side: each build takes a processor, and more than a gigabyte.
-BUILDS = 3
-
 
 class Mistake:
-    """A mistake: what it is in a sentence, and the edit that makes it."""
+    """A mistake: what it is in a sentence, how it is looked for, and the edit that makes it."""
 
     def __init__(self, path):
         self.name, self.edit = path.stem, path
-        self.says = path.read_text().splitlines()[0].removeprefix("says: ")
+        rows = dict(line.split(": ", 1) for line in path.read_text().splitlines())
+        self.says, self.guest, self.deed = rows["says"], rows["guest"], rows["deed"]
         self.room = TOP / "out/nemesis" / self.name
         self.program = self.room / "program"
 
@@ -65,9 +65,3 @@ class Mistake:
 def mistakes(names=()):
     """The mistakes of these names, or all."""
     return [Mistake(pathlib.Path(it)) for it in sorted(glob.glob(f"{EDITS}/*.edit")) if not names or pathlib.Path(it).stem in names]
-
-
-def build_all(some):
-    """Builds the programs of some mistakes, a few side by side."""
-    with ThreadPoolExecutor(BUILDS) as builders:
-        list(builders.map(Mistake.build, some))

@@ -2,16 +2,16 @@
 takes the last one that has the machine."""
 import os
 import signal
-import time
 from collections import namedtuple
 
-from cases import Differs, expect
+from cases import expect
 
 # After how many milliseconds a silent peer is suspected: nobody in a patient run, since a killed host is known to be dead at once.
 PATIENT, HASTY = 30_000, 2_000
 
-# A kind of deed: what it does, how its words are drawn, whether it needs peers that are suspected soon, or relays; how many hosts it costs.
-Kind = namedtuple("Kind", "does draw is_hasty is_relayed costs")
+# A kind of deed: what it does, how its words are drawn, the patience that it needs (none if any will do), whether it needs relays, how many
+# hosts it costs, and how often it is chosen.
+Kind = namedtuple("Kind", "does draw patience is_relayed costs weight")
 
 # All kinds, by name, and those that may take the last host that has the machine.
 KINDS, LAST_KINDS = {}, {}
@@ -20,11 +20,11 @@ BOTH = "primary", "backup"
 WAYS = {"in": ("in",), "out": ("out",), "both": ("in", "out")}
 
 
-def deed(draw, is_hasty=False, is_relayed=False, costs=1, among=None):
+def deed(draw, patience=None, is_relayed=False, costs=1, weight=1, among=None):
     """Makes a function a kind of deed."""
 
     def keep(does):
-        (KINDS if among is None else among)[does.__name__] = Kind(does, draw, is_hasty, is_relayed, costs)
+        (KINDS if among is None else among)[does.__name__] = Kind(does, draw, patience, is_relayed, costs, weight)
         return does
 
     return keep
@@ -58,7 +58,7 @@ def peer_of(role):
 # ---- hosts are killed
 
 
-@deed(lambda chance: [chance.choice(["primary", "primary", "backup", "spare"])])
+@deed(lambda chance: [chance.choice(["primary", "primary", "backup", "spare"])], weight=4)
 def kill(seat, role):
     seat.kill(hurt(seat, role))
 
@@ -81,7 +81,7 @@ def kill_the_backup_and_then_the_next_one_amid_its_copy(seat):
     seat.kill(host)
 
 
-@deed(lambda chance: [chance.choice(BOTH)])
+@deed(lambda chance: [chance.choice(BOTH)], patience=PATIENT, weight=2)
 def kill_while_the_peer_is_stopped(seat, role):
     host, peer = hurt(seat, role), host_of(seat, peer_of(role))
     seat.signal(peer, signal.SIGSTOP)
@@ -124,7 +124,7 @@ def pause(seat, role, times):
         seat.signal(host, signal.SIGCONT)
 
 
-@deed(lambda chance: [chance.choice([BOTH[:1], BOTH[1:], BOTH])], costs=0)
+@deed(lambda chance: [chance.choice([BOTH[:1], BOTH[1:], BOTH])], patience=PATIENT, costs=0)
 def stop_until_nothing_appears(seat, roles):
     hosts = [host_of(seat, it) for it in roles]
     for it in hosts:
@@ -144,7 +144,7 @@ def stop_the_outside(seat, milliseconds):
     os.kill(seat.outside(), signal.SIGCONT)
 
 
-@deed(lambda chance: [chance.choice(BOTH), chance.randint(0, 100)], is_hasty=True)
+@deed(lambda chance: [chance.choice(BOTH), chance.randint(0, 100)], patience=HASTY, weight=4)
 def stop_until_replaced(seat, role, count):
     host, peer = hurt(seat, role), host_of(seat, peer_of(role))
     since = len(seat.said)
@@ -155,7 +155,7 @@ def stop_until_replaced(seat, role, count):
     seat.await_ended(host)
 
 
-@deed(lambda chance: [], is_hasty=True)
+@deed(lambda chance: [], patience=HASTY)
 def stop_both_until_each_suspects_the_other(seat):
     hosts, since = [hurt(seat, it) for it in BOTH], len(seat.said)
     for it in hosts:
@@ -175,6 +175,7 @@ def stop_both_until_each_suspects_the_other(seat):
     lambda chance: [chance.choice([*BOTH, "all"]), chance.choice(list(WAYS)), round(chance.uniform(0.002, 0.1), 3), chance.randint(10, 100)],
     is_relayed=True,
     costs=0,
+    weight=2,
 )
 def delay(seat, role, way, seconds, count):
     hosts = [host_of(seat, it) for it in (BOTH if role == "all" else [role])]
@@ -190,7 +191,11 @@ def say_all(seat, hosts, word, way, *more):
             seat.command(host, word, it, *more)
 
 
-@deed(lambda chance: [chance.choice([*BOTH, "spare"]), chance.choice(["in", "out"]), chance.randint(0, 4_000)], is_relayed=True)
+@deed(
+    lambda chance: [chance.choice(["primary", *BOTH, "spare"]), chance.choice(["in", "out", "out"]), chance.randint(0, 2_000)],
+    is_relayed=True,
+    weight=6,
+)
 def cut(seat, role, way, count):
     host = hurt(seat, role)
     seat.command(host, "cut", way, count % 200 if role == "spare" else count)
@@ -205,7 +210,7 @@ def hold_what_a_host_hears_until_nothing_appears(seat, role):
     seat.command(host, "pass", "in")
 
 
-@deed(lambda chance: [chance.choice(BOTH), chance.choice(["out", "both"]), chance.randint(0, 100)], is_hasty=True, is_relayed=True)
+@deed(lambda chance: [chance.choice(BOTH), chance.choice(["out", "both"]), chance.randint(0, 100)], patience=HASTY, is_relayed=True, weight=4)
 def part_until_replaced(seat, role, way, count):
     host, peer = hurt(seat, role), host_of(seat, peer_of(role))
     since = len(seat.said)

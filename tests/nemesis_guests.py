@@ -1,10 +1,11 @@
 """The guests of `tests/nemesis`, each with its keys and with all that it shows if its machine never fails; and a seat at a pair that runs one:
 it types as the guest allows, compares each byte as it comes, and reaches the hosts that are behind relays."""
-import itertools
+import contextlib
 import os
 import pathlib
 import signal
 import socket
+import time
 from collections import namedtuple
 
 from cases import Differs, expect
@@ -26,12 +27,15 @@ mem 001A DB 10 E6 02 CA 1A 00 79 D3 11 C3 0A 00
 # A key, and how many bytes are shown before it may be typed.
 Key = namedtuple("Key", "byte after")
 
-# A guest: its name, its setup (none for the monitor), its keys, all that it shows (none if that is only known in part), and up to how many
-# bytes it is watched.
+# A guest: its name, its setup (none for the monitor), its keys, what it shows from a byte on, so many bytes (none if that is known in part
+# only), and how many bytes a run waits for.
 Guest = namedtuple("Guest", "name setup keys shows length")
 
 # Where the monitor is asked to dump: its code, and what it has filled.
 PLACES = [*range(0, 0x70, 0x10), *range(0x2000, 0x2040, 8)]
+
+# For how many seconds anything is waited for but bytes.
+LONGEST_WAIT = 300
 
 # After how many bytes at most an echo must have come until the guest is given more keys.
 AHEAD = 100
@@ -51,23 +55,32 @@ def monitor_of(chance, count):
             line, answer = b"D %04X" % place, dumped(memory, place)
         keys += [Key(it, len(shows) + at) for at, it in enumerate(line)]
         shows += line + b"\r\n" + answer + b"*"
-    return Guest("monitor", None, keys, shows, len(shows))
+    return Guest("monitor", None, keys, part_of(shows), len(shows))
 
 
 def echo_of(chance, count):
     """A guest that echoes keys, which come as fast as it takes them."""
     some = bytes(chance.choice([it for it in range(256) if it != QUIT[0]]) for _ in range(count))
-    return Guest("echo", ECHO, [Key(it, max(0, at - AHEAD)) for at, it in enumerate(some)], some, count)
+    return Guest("echo", ECHO, [Key(it, max(0, at - AHEAD)) for at, it in enumerate(some)], part_of(some), count)
+
+
+def part_of(text):
+    """What a guest shows whose output has an end."""
+    return lambda first, count: text[first : first + count]
+
+
+def again_and_again(text):
+    """What a guest shows that has no end."""
+    return lambda first, count: bytes(text[(first + it) % len(text)] for it in range(count))
 
 
 def letters_of(_chance, count):
-    return Guest("letters", LETTERS, [], letters(count + 5_000), count)
+    return Guest("letters", LETTERS, [], again_and_again(letters(26)), count)
 
 
 def writer_of(_chance, count):
     """A guest that writes sectors, reads them back, and shows what it has read."""
-    count = max(20, count // 20)
-    return Guest("writer", WRITER, [], bytes(itertools.islice(itertools.cycle(range(256)), count + 5_000)), count)
+    return Guest("writer", WRITER, [], again_and_again(bytes(range(256))), max(20, count // 20))
 
 
 def twice_of(_chance, count):
@@ -77,12 +90,16 @@ def twice_of(_chance, count):
 KINDS = {"monitor": monitor_of, "echo": echo_of, "letters": letters_of, "writer": writer_of, "twice": twice_of}
 
 
+class WrongByte(Differs):
+    """A byte that no machine shows that never fails: nothing excuses it."""
+
+
 class Seat(Pair):
     """A pair that runs a guest, at which somebody sits who types on whatever happens to its hosts."""
 
     def __init__(self, program, guest, room, is_relayed, hosts, later, *words):
         self.program, self.guest, self.room, self.is_relayed = program, guest, room, is_relayed
-        self.typed = self.compared = 0
+        self.typed = self.compared = self.since = 0
         # The hosts to which something was done, and the processes behind the relays.
         self.hurt, self.behind = set(), {}
         words = [*words, "--hosts", str(hosts), "--later", str(later)]
@@ -111,18 +128,15 @@ class Seat(Pair):
         if first == last:
             return
         os.set_blocking(self.keyboard, False)
-        try:
+        # A pair that has ended takes none.
+        with contextlib.suppress(BlockingIOError, BrokenPipeError):
             self.typed += os.write(self.keyboard, bytes(it.byte for it in self.guest.keys[first:last]))
-        except BlockingIOError:
-            pass
-        except OSError as error:
-            raise Differs(f"no more keys are taken: {self.said[-300:]!r}") from error
 
     def compare(self):
         """Compares what has come since with what a machine shows that never fails."""
         first, some = self.compared, self.shown[self.compared :]
         if self.guest.shows is not None:
-            self.expect_at(first, some, self.guest.shows[first : first + len(some)])
+            self.expect_at(first, some, self.guest.shows(first, len(some)))
             self.compared = len(self.shown)
             return
         for at in range(first, len(self.shown) - 1, 2):
@@ -132,7 +146,7 @@ class Seat(Pair):
     def expect_at(self, at, some, wanted):
         if some != wanted:
             at += next((it for it, byte in enumerate(some) if wanted[it : it + 1] != bytes([byte])), 0)
-            raise Differs(f"byte {at} differs; before it is {self.shown[max(0, at - 20) : at]!r}, and then {self.shown[at : at + 20]!r}")
+            raise WrongByte(f"byte {at} differs; before it is {self.shown[max(0, at - 20) : at]!r}, and then {self.shown[at : at + 20]!r}")
 
     def process(self, host):
         """The process of a host, also of one behind a relay."""
@@ -150,6 +164,21 @@ class Seat(Pair):
         with socket.socket(socket.AF_UNIX, socket.SOCK_DGRAM) as control:
             control.sendto(" ".join(map(str, words)).encode(), str(self.socket(host)))
 
+    def await_that(self, fact, of):
+        """Waits until something holds, and not for long, whatever appears meanwhile."""
+        ends = time.monotonic() + LONGEST_WAIT
+
+        def holds_in_time():
+            if time.monotonic() > ends:
+                raise Differs(f"{of} did not come in {LONGEST_WAIT} s; the last that was said is {self.said[-600:]!r}")
+            return fact()
+
+        super().await_that(holds_in_time, of)
+
+    def count_shown(self, count):
+        """Waits until so many bytes have appeared, as long as any appear."""
+        super().await_that(lambda: len(self.shown) >= count, f"byte {count}")
+
     def await_shown_since(self, count):
         """Waits until so many bytes more have appeared, or all."""
         wanted = min(len(self.shown) + count, self.guest.length)
@@ -166,6 +195,11 @@ class Seat(Pair):
         """Waits until a host has been stopped."""
         process = self.process(host)
         expect(holds(lambda: has_stopped(process), 30), True, f"that host {host} has stopped")
+
+    def is_lost_by_mistake(self):
+        """Whether all has ended since a host to which something was done had won before, by a suspicion of its own."""
+        self.run.poll()
+        return self.run.returncode == 6 and any(b"pair: host %d has won" % it in self.said[self.since :] for it in self.hurt)
 
     def endings(self):
         """Why hosts have ended to which nothing was done, by their places."""
