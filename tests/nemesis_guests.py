@@ -14,14 +14,14 @@ from hosts_pair import LETTERS, QUIT, WRITER, Pair, dumped, has_ended, letters, 
 
 RELAY = pathlib.Path(__file__).with_name("nemesis_relay.py")
 
-# A guest that shows each letter twice. The letter depends on how often the guest has asked port 0, until then, whether it sends: so on when
-# each byte was accepted, which no two machines agree upon that do not share a log. At 0000 MVI A,03; OUT 10; MVI A,15; OUT 10; MVI B,00; at
-# 000A it counts how often it asks (INR B; IN 10; ANI 02; JZ 000A), and sends one of sixteen letters (MOV A,B; ANI 0F; ADI 41; MOV C,A;
-# OUT 11); at 001A it waits until port 0 sends again (IN 10; ANI 02; JZ 001A), and sends the same letter (MOV A,C; OUT 11; JMP 000A).
-TWICE = """\
-mem 0000 3E 03 D3 10 3E 15 D3 10 06 00
-mem 000A 04 DB 10 E6 02 CA 0A 00 78 E6 0F C6 41 4F D3 11
-mem 001A DB 10 E6 02 CA 1A 00 79 D3 11 C3 0A 00
+# A guest that draws a number from 0 to 7 for each byte, and shows it with the one that it drew before. What it draws depends on how often the
+# guest has asked port 0, until then, whether it sends: so on when each byte was accepted, which no two machines agree upon that do not share
+# a log. At 0000 MVI A,03; OUT 10; MVI A,15; OUT 10; LXI B,0000; at 000B it counts how often it asks (INR B; IN 10; ANI 02; JZ 000B), draws
+# (MOV A,B; ANI 07; MOV D,A), and sends 40, eight times that, and what it drew before (ADD A; ADD A; ADD A; ADD C; ADI 40; MOV C,D; OUT 11;
+# JMP 000B).
+CHAIN = """\
+mem 0000 3E 03 D3 10 3E 15 D3 10 01 00 00
+mem 000B 04 DB 10 E6 02 CA 0B 00 78 E6 07 57 87 87 87 81 C6 40 4A D3 11 C3 0B 00
 """
 
 # A key, and how many bytes are shown before it may be typed.
@@ -83,11 +83,16 @@ def writer_of(_chance, count):
     return Guest("writer", WRITER, [], again_and_again(bytes(range(256))), max(20, count // 20))
 
 
-def twice_of(_chance, count):
-    return Guest("twice", TWICE, [], None, count)
+def chain_of(_chance, count):
+    return Guest("chain", CHAIN, [], None, count)
 
 
-KINDS = {"monitor": monitor_of, "echo": echo_of, "letters": letters_of, "writer": writer_of, "twice": twice_of}
+def chained(before, some):
+    """The bytes that fit each to the one before, of these and in their place: what was drawn before is right, and what is drawn is free."""
+    return bytes(0x40 | it & 0x38 | last >> 3 & 7 for last, it in zip(before + some, some))
+
+
+KINDS = {"monitor": monitor_of, "echo": echo_of, "letters": letters_of, "writer": writer_of, "chain": chain_of}
 
 
 class WrongByte(Differs):
@@ -135,13 +140,9 @@ class Seat(Pair):
     def compare(self):
         """Compares what has come since with what a machine shows that never fails."""
         first, some = self.compared, self.shown[self.compared :]
-        if self.guest.shows is not None:
-            self.expect_at(first, some, self.guest.shows(first, len(some)))
-            self.compared = len(self.shown)
-            return
-        for at in range(first, len(self.shown) - 1, 2):
-            self.expect_at(at, self.shown[at : at + 2], self.shown[at : at + 1] * 2)
-            self.compared = at + 2
+        before = self.shown[first - 1 : first] or b"@"
+        self.expect_at(first, some, self.guest.shows(first, len(some)) if self.guest.shows else chained(before, some))
+        self.compared = len(self.shown)
 
     def expect_at(self, at, some, wanted):
         if some != wanted:
