@@ -1,4 +1,4 @@
 pub mod Typing
-pub mod Showing
+pub mod Finishing
 pub mod Sitting
 pub mod Leaving

@@ -1,6 +1,6 @@
 -- The ring of the screen is finished.
 use Rattle.std.proofs.Common.{sym}
-use Rattle.console_hosts.proofs.Showing.{finishes}
+use Rattle.console_hosts.proofs.Finishing.{finishes}
 use Rattle.console_hosts.proofs.showing.finish.Goals as goal
 
 pub returns : goal.returns
