@@ -1,5 +1,5 @@
 -- What is known of the thread that hears once it has ended.
-use Rattle.std.proofs.Common.{ℕ, ◌≡◌, ◌×◌, List, Option, Some, None, sym, ◌∙◌}
+use Rattle.std.proofs.Common.{ℕ, ◌≡◌, List, Option, Some, None, sym, ◌∙◌}
 use Rattle.std.specs.Global.{Global}
 use Rattle.command_console.specs.Rings.{ComesOutOf}
 use Rattle.console_hosts.proofs.Typing.{same_ring_on}

@@ -1,5 +1,5 @@
 -- What one has typed and seen, by what the loop and the threads beside it came to.
-use Rattle.std.proofs.Common.{ℕ, ◌≡◌, ◌×◌, List, [], ◌∷◌, ◌++◌, Option, Some, None, true, append-nil, append_assoc, refl, sym, ap, ◌∙◌, subst}
+use Rattle.std.proofs.Common.{ℕ, ◌≡◌, List, [], ◌∷◌, ◌++◌, Option, Some, None, true, append-nil, append_assoc, refl, sym, ap, ◌∙◌, subst}
 use Rattle.std.specs.Global.{Global}
 use Rattle.std.specs.Io.KnownBytes.{Appends, Consumes}
 use Rattle.std.specs.List.{list_any}
@@ -116,20 +116,20 @@ module _ {D S : Type 0} (end : HostsEnd) (first last : Session D S) (ended : End
   shows_all = shows_both ended.went.passed ended.stopped.passed first.screen ended.last.screen last.screen ended.went.screen
       ended.stopped.screen
 
-  module _ (ends : Ends) (open : AreOpen first ends) where
+  module _ (ends : Ends) (begins : AreOpen first ends) where
     pub may_hear : {K I : Type 0} (h : Hearing K I) → h.listener.first ≡ ends.first → h.listener.second ≡ ends.second →
         MayHear h (last.first.keyboard, last.second.keyboard)
     may_hear h is0 is1 = record {
       first = subst (λ to. ComesOutOf to last.first.keyboard.ring) (sym is0)
-          (comes_out ends.first ends.first first.first.keyboard last.first.keyboard open.keyboard0 (same_ring ends.first) types0.same);
+          (comes_out ends.first ends.first first.first.keyboard last.first.keyboard begins.keyboard0 (same_ring ends.first) types0.same);
       second = subst (λ to. ComesOutOf to last.second.keyboard.ring) (sym is1)
-          (comes_out ends.second ends.second first.second.keyboard last.second.keyboard open.keyboard1 (same_ring ends.second)
+          (comes_out ends.second ends.second first.second.keyboard last.second.keyboard begins.keyboard1 (same_ring ends.second)
           types1.same);
     }
 
     pub may_show : {W N : Type 0} (d : Display W N) → d.shown ≡ ends.shown → GoesInto last.screen.ring d.shown
     may_show d is = subst (λ from. GoesInto last.screen.ring from) (sym is)
-        (goes_into ends.shown ends.shown first.screen last.screen open.screen shows_all.same (same_end_ring ends.shown))
+        (goes_into ends.shown ends.shown first.screen last.screen begins.screen shows_all.same (same_end_ring ends.shown))
 
     -- what was typed
     module _ {R : Type 0} (remaining : R → Option (List ℕ)) (given : Supervisor → Option (List Command)) (desktop : Desktop)
@@ -147,14 +147,14 @@ module _ {D S : Type 0} (end : HostsEnd) (first last : Session D S) (ended : End
           record {
             first = subst (λ e. IsPrefix (typed_at 0 passed) (typed_in 0 desktop.lines.items ++ keys_typed Port.Zero e l.bytes)) hears.escape
                 (typed_keys Port.Zero h.listener.desk.escape (place_of h.listener.desk) l.bytes (typed_in 0 desktop.lines.items)
-                (typed_at 0 passed) ending ends.first w.heard.first w.new.listener.first first.first last.first open.keyboard0
-                open.none_waits.0 at types0
+                (typed_at 0 passed) ending ends.first w.heard.first w.new.listener.first first.first last.first begins.keyboard0
+                begins.none_waits.0 at types0
                 (scripted.first_is ∙ ap (λ r. sent r ++ presses (typed_in 0 desktop.lines.items)) hears.first) l.first
                 (subst (λ k. IsPrefix (came_by k.0.ring) (sent w.new.listener.first)) same w.came0));
             second = subst (λ e. IsPrefix (typed_at 1 passed) (typed_in 1 desktop.lines.items ++ keys_typed Port.One e l.bytes)) hears.escape
                 (typed_keys Port.One h.listener.desk.escape (place_of h.listener.desk) l.bytes (typed_in 1 desktop.lines.items)
-                (typed_at 1 passed) ending ends.second w.heard.second w.new.listener.second first.second last.second open.keyboard1
-                open.none_waits.1 at types1
+                (typed_at 1 passed) ending ends.second w.heard.second w.new.listener.second first.second last.second begins.keyboard1
+                begins.none_waits.1 at types1
                 (scripted.second_is ∙ ap (λ r. sent r ++ presses (typed_in 1 desktop.lines.items)) hears.second) l.second
                 (subst (λ k. IsPrefix (came_by k.1.ring) (sent w.new.listener.second)) same w.came1));
           }
@@ -183,7 +183,7 @@ module _ {D S : Type 0} (end : HostsEnd) (first last : Session D S) (ended : End
   pub appeared : {W N : Type 0} (contents : W → Option (List ℕ)) (notes : N → Option (List ℕ)) (ends : Ends) (d d' : Display W N) →
       AreOpen first ends → d.shown ≡ ends.shown → d.look ≡ Some Port.Zero → d.kept.items ≡ [] →
       (wrote : Wrote contents notes d d') → received d'.shown ≡ gone_by last.screen.ring → HasAppeared passed wrote.pieces
-  appeared contents notes ends d d' open is looks empty wrote all = record {
+  appeared contents notes ends d d' begins is looks empty wrote all = record {
     kept = d'.kept.items;
     shown = λ port. wrote.guest port ∙ ap (λ l. shown_at port l ++ shown_at port wrote.accepted) empty
         ∙ ap (shown_at port) (got ∙ all) ∙ gone port;
@@ -192,49 +192,49 @@ module _ {D S : Type 0} (end : HostsEnd) (first last : Session D S) (ended : End
     where
       got : wrote.accepted ≡ received d'.shown
       got = sym (wrote.came ∙ ap (λ l. l ++ wrote.accepted)
-          (subst (λ c. received c ≡ []) (sym is) open.screen.none_came))
+          (subst (λ c. received c ≡ []) (sym is) begins.screen.none_came))
 
       into : GoesInto last.screen.ring ends.shown
-      into = goes_into ends.shown ends.shown first.screen last.screen open.screen shows_all.same (same_end_ring ends.shown)
+      into = goes_into ends.shown ends.shown first.screen last.screen begins.screen shows_all.same (same_end_ring ends.shown)
 
       gone : (port : ℕ) → shown_at port (gone_by last.screen.ring) ≡ passing.shown_at port passed
       gone port = gone_in last.screen.ring port (passing.shown_at port passed) ends.shown into
-          (shows_all.shown port [] (none_shown ends.shown first.screen port open.screen))
+          (shows_all.shown port [] (none_shown ends.shown first.screen port begins.screen))
 
 -- ---- all of it
 
+abbrev left_of : {R : Type 0} → (R → Option (List ℕ)) → WakingKeys (TerminalKeys R) → Option (List ℕ)
+left_of remaining keys = remaining keys.source.reader
+
 module _ {D S R W N : Type 0} (remaining : R → Option (List ℕ)) (given : Supervisor → Option (List Command))
     (contents : W → Option (List ℕ)) (notes : N → Option (List ℕ)) (ends : Ends) (desktop : Desktop) (streams : Streams R W N) where
-  abbrev left_of : WakingKeys (TerminalKeys R) → Option (List ℕ)
-  left_of keys = remaining keys.source.reader
-
   was_heard : (end : HostsEnd) (first last : Session D S) (ended : Ended end first last) → AreOpen first ends →
       (h : Hearing (WakingKeys (TerminalKeys R)) Supervisor) → Hears ends desktop streams.reader h → (keyboards : Keyboard × Keyboard) →
-      keyboards ≡ (last.first.keyboard, last.second.keyboard) → WasHeardIf end left_of given h keyboards →
+      keyboards ≡ (last.first.keyboard, last.second.keyboard) → WasHeardIf end (left_of remaining) given h keyboards →
       WasHeard remaining end desktop.escape desktop.lines.items (passed_to ended) streams.reader
-  was_heard NoHosts first last ended open h hears keyboards same w = tt
-  was_heard Stopped first last ended open h hears keyboards same w = absurd w
-  was_heard UserQuit first last ended open h hears keyboards same w =
-      was_typed UserQuit first last ended ends open remaining given desktop streams.reader h hears keyboards same Ending.Quit w
-      (quits UserQuit first last ended ends open remaining given desktop streams.reader h hears keyboards same w)
-  was_heard Settled first last ended open h hears keyboards same w =
-      was_typed Settled first last ended ends open remaining given desktop streams.reader h hears keyboards same w.0 w.1 tt
+  was_heard NoHosts first last ended begins h hears keyboards same w = tt
+  was_heard Stopped first last ended begins h hears keyboards same w = absurd w
+  was_heard UserQuit first last ended begins h hears keyboards same w =
+      was_typed UserQuit first last ended ends begins remaining given desktop streams.reader h hears keyboards same Ending.Quit w
+      (quits UserQuit first last ended ends begins remaining given desktop streams.reader h hears keyboards same w)
+  was_heard Settled first last ended begins h hears keyboards same w =
+      was_typed Settled first last ended ends begins remaining given desktop streams.reader h hears keyboards same w.0 w.1 tt
 
   pub has_sat : (end : HostsEnd) (first last : Session D S) (ended : Ended end first last) → AreOpen first ends →
       (b : Beside (WakingKeys (TerminalKeys R)) Supervisor W N) → HaveBegun ends desktop streams b →
       (screen : Screen) → screen ≡ last.screen → (keyboards : Keyboard × Keyboard) →
       keyboards ≡ (last.first.keyboard, last.second.keyboard) → (records : List Record) → records ≡ last.switch.devices.records →
-      WasHeardIf end left_of given b.hearing.promise.0.value keyboards → (d : Display W N) →
+      WasHeardIf end (left_of remaining) given b.hearing.promise.0.value keyboards → (d : Display W N) →
       Wrote contents notes b.showing.promise.0.value d → received d.shown ≡ gone_by screen.ring → (writer : W) → writer ≡ d.screen →
       (beside : N) → beside ≡ d.notes →
       HasSat remaining contents notes desktop.escape desktop.lines.items first streams records end writer beside
-  has_sat end first last ended open b begun screen is keyboards same records records_are heard d wrote all writer writer_is beside
+  has_sat end first last ended begins b begun screen is keyboards same records records_are heard d wrote all writer writer_is beside
       beside_is = record {
         last = last;
         ended = ended;
-        heard = was_heard end first last ended open b.hearing.promise.0.value begun.hears keyboards same heard;
+        heard = was_heard end first last ended begins b.hearing.promise.0.value begun.hears keyboards same heard;
         pieces = wrote.pieces;
-        appeared = appeared end first last ended contents notes ends b.showing.promise.0.value d open begun.shows.shown
+        appeared = appeared end first last ended contents notes ends b.showing.promise.0.value d begins begun.shows.shown
             begun.shows.look begun.shows.kept wrote (all ∙ ap (λ (s : Screen). gone_by s.ring) is);
         records_are = records_are;
         written = subst (λ x. Appends (contents x) (contents writer) (bytes_of wrote.pieces)) begun.shows.writer_is

@@ -1,6 +1,7 @@
 -- The threads beside the loop of a console: how they begin, and what is known once they have ended.
-use Rattle.std.specs.Prelude.{◌≡◌, ◌×◌, ℕ, List, [], Option, Some, None}
+use Rattle.std.specs.Prelude.{◌≡◌, ℕ, List, [], Option, Some, None}
 use Rattle.command_console.specs.Rings.{ComesOutOf, GoesInto}
+use Rattle.command_console.specs.declared.mirror.Mirrored.{Mirrored}
 use Rattle.command_hosts.specs.declared.session.HostsEnd.{HostsEnd}
 use Rattle.command_hosts.specs.declared.session.HostsEnd.TheVariants.{NoHosts, Settled, Stopped, UserQuit}
 use Rattle.command_hosts.specs.declared.session.SessionParts.{SessionParts}
@@ -75,9 +76,9 @@ pub record MayLeave {D S K I W N : Type 0} (parts : SessionParts D S) (b : Besid
   pub shows : GoesInto parts.screen.ring b.showing.promise.0.value.shown
 
 -- and all that went to the screen came out, and was written or kept
-pub record HasLeft {D S K I W N : Type 0} (left : K → Option (List ℕ)) (given : I → Option (List Command))
-    (contents : W → Option (List ℕ)) (notes : N → Option (List ℕ)) (end : HostsEnd) (parts : SessionParts D S)
-    (b : Beside K I W N) (l : Left W N) : Type 0 where
+pub record HasLeft {S K I W N : Type 0} (left : K → Option (List ℕ)) (given : I → Option (List Command))
+    (contents : W → Option (List ℕ)) (notes : N → Option (List ℕ)) (end : HostsEnd)
+    (parts : SessionParts Mirrored S) (b : Beside K I W N) (l : Left W N) : Type 0 where
   pub end_is : l.end ≡ end
   pub disk_is : l.disk ≡ parts.disk
   pub heard : WasHeardIf end left given b.hearing.promise.0.value parts.keyboards

@@ -85,7 +85,7 @@ pub(crate) fn sit<
 ) -> Result<Left<W, N>, Failure>
     requires { AreOpen session ends }
     ensures { IfOk result (λ left. HasSat R.remaining W.contents N.contents desktop.escape desktop.lines.items session streams
-        (Mirrored.records left.disk) left.end left.writer left.notes) }
+        left.disk.store left.end left.writer left.notes) }
 {
     let wake = Arc::try_clone(&desktop.wake)?;
     let signs = Arc::try_clone(&desktop.signs)?;
