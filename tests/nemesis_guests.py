@@ -16,12 +16,13 @@ RELAY = pathlib.Path(__file__).with_name("nemesis_relay.py")
 
 # A guest that draws a number from 0 to 7 for each byte, and shows it with the one that it drew before. What it draws depends on how often the
 # guest has asked port 0, until then, whether it sends: so on when each byte was accepted, which no two machines agree upon that do not share
-# a log. At 0000 MVI A,03; OUT 10; MVI A,15; OUT 10; LXI B,0000; at 000B it counts how often it asks (INR B; IN 10; ANI 02; JZ 000B), draws
-# (MOV A,B; ANI 07; MOV D,A), and sends 40, eight times that, and what it drew before (ADD A; ADD A; ADD A; ADD C; ADI 40; MOV C,D; OUT 11;
-# JMP 000B).
+# a log. At 0000 MVI A,03; OUT 10; MVI A,15; OUT 10; LXI B,0000; at 000B it counts how often it asks, up to 250 and again from 0, since a
+# host's turn asks as often each time (INR B; MOV A,B; CPI FB; JNZ 0014; MVI B,00; IN 10; ANI 02; JZ 000B); at 001B it draws (MOV A,B; ANI 07;
+# MOV D,A), and sends 40, eight times that, and what it drew before (ADD A; ADD A; ADD A; ADD C; ADI 40; MOV C,D; OUT 11; JMP 000B).
 CHAIN = """\
 mem 0000 3E 03 D3 10 3E 15 D3 10 01 00 00
-mem 000B 04 DB 10 E6 02 CA 0B 00 78 E6 07 57 87 87 87 81 C6 40 4A D3 11 C3 0B 00
+mem 000B 04 78 FE FB C2 14 00 06 00 DB 10 E6 02 CA 0B 00
+mem 001B 78 E6 07 57 87 87 87 81 C6 40 4A D3 11 C3 0B 00
 """
 
 # A key, and how many bytes are shown before it may be typed.
