@@ -2,3 +2,4 @@ pub mod Typing
 pub mod Finishing
 pub mod Sitting
 pub mod Leaving
+pub mod Running

@@ -14,6 +14,7 @@ use Rattle.command_hosts.specs.declared.port.PortEnd.{PortEnd}
 use Rattle.command_hosts.specs.declared.session.HostsEnd.{HostsEnd}
 use Rattle.command_hosts.specs.declared.session.HostsEnd.TheVariants.{NoHosts, Settled, Stopped, UserQuit}
 use Rattle.command_hosts.specs.declared.session.Session.{Session}
+use Rattle.command_hosts.specs.declared.session.SessionParts.{SessionParts}
 use Rattle.command_live.specs.Living.{typed_in}
 use Rattle.console_hosts.proofs.Typing.{keys_in_presses, same_ring}
 use Rattle.console_hosts.specs.Hearing.{LinesType, presses}
@@ -244,3 +245,22 @@ module _ {D S R W N : Type 0} (remaining : R → Option (List ℕ)) (given : Sup
             (subst (λ x. Appends (notes b.showing.promise.0.value.notes) (notes x) (texts_of wrote.pieces)) (sym beside_is)
             wrote.texts);
       }
+
+-- ---- before the end
+
+pair_is : {A B : Type 0} (k : A × B) (a : A) (b : B) → k.0 ≡ a → k.1 ≡ b → k ≡ (a, b)
+pair_is (x, y) a b p q = ap (λ z. (z, y)) p ∙ ap (λ z. (a, z)) q
+
+pub both_keyboards : (k : Keyboard × Keyboard) (a b : Keyboard) → k.0 ≡ a → k.1 ≡ b → k ≡ (a, b)
+both_keyboards k a b p q = pair_is k a b p q
+
+pub may_leave : {D E S T R W N : Type 0} (end : HostsEnd) (first last : Session D S) (ended : Ended end first last) (ends : Ends)
+    (desktop : Desktop) (streams : Streams R W N) → AreOpen first ends →
+    (b : Beside (WakingKeys (TerminalKeys R)) Supervisor W N) → HaveBegun ends desktop streams b → (parts : SessionParts E T) →
+    parts.screen ≡ last.screen → parts.keyboards ≡ (last.first.keyboard, last.second.keyboard) → MayLeave parts b
+may_leave end first last ended ends desktop streams begins b begun parts screen keyboards = record {
+  hears = subst (λ k. MayHear b.hearing.promise.0.value k) (sym keyboards)
+      (may_hear end first last ended ends begins b.hearing.promise.0.value begun.hears.first begun.hears.second);
+  shows = subst (λ (s : Screen). GoesInto s.ring b.showing.promise.0.value.shown) (sym screen)
+      (may_show end first last ended ends begins b.showing.promise.0.value begun.shows.shown);
+}

@@ -1,5 +1,8 @@
 -- What lines of a script type, one after another.
-use Rattle.std.proofs.Common.{ℕ, ◌≡◌, List, [], ◌∷◌, ◌++◌, Option, None, Some, append-nil, append_assoc, refl, sym, ap, ◌∙◌}
+use Rattle.std.proofs.Common.{ℕ, ◌≡◌, ◌≤◌, ◌<◌, ◌-◌, List, [], ◌∷◌, ◌++◌, Option, None, Some, append-nil, append_assoc, arith, length, refl, sym, ap, ◌∙◌}
+use Rattle.std.proofs.Math.ListN.{get_or}
+use Rattle.std.proofs.lemmas.List.{take_all}
+use Rattle.std.specs.Prelude.{drop, take}
 use Rattle.command_live.specs.Living.{typed_by, typed_in, with_byte}
 use Rattle.console_hosts.specs.Hearing.{HasPressed, LinesType, presses}
 use Rattle.pair_lines.specs.Lines.{found, keys_in}
@@ -79,3 +82,13 @@ line_types line a b c d p q = record {
   same_first = p.1;
   same_second = q.1;
 }
+
+-- ---- what is left of lines
+
+pub first_and_others : (xs : List Line) (d : Line) → 1 ≤ length xs → get_or xs 0 d ∷ take (length xs - 1) (drop 1 xs) ≡ xs
+first_and_others [] d low = absurd (omega (arith, low))
+first_and_others (x ∷ xs) d low = ap (λ l. x ∷ l) (take_all (length (x ∷ xs) - 1) xs (omega arith))
+
+pub none_left : (xs : List Line) → length xs < 1 → [] ≡ xs
+none_left [] low = refl
+none_left (x ∷ xs) low = absurd (omega (arith, low))

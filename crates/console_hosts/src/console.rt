@@ -104,12 +104,13 @@ fn run_input<
     ensures { IfOk result (λ end. HasRun R.remaining W.contents N.contents order.now opening.0 streams end) }
 {
     let (input, bytes) = opening;
+    let prepared = prepare(alloc, order, &input)?;
     let Prepared {
         mut session,
         ends,
         supervisor,
         signs,
-    } = prepare(alloc, order, &input)?;
+    } = prepared;
     let Input { script, .. } = input;
     let Script { lines, .. } = script;
     let wake = Arc::new(alloc, Parker::new())?;
@@ -126,12 +127,13 @@ fn run_input<
         wake,
         signs,
     };
+    let left = sit(rt, alloc, session, ends, desktop, streams)?;
     let Left {
         end,
         disk,
         mut writer,
         notes: _notes,
-    } = sit(rt, alloc, session, ends, desktop, streams)?;
+    } = left;
     save_disks(
         alloc,
         disk,
