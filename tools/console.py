@@ -74,6 +74,8 @@ class Asked:
     """What the words of a command line ask for: words for the program, what comes before the keys, and disks to be saved."""
 
     command, handed_on = "console", HANDED_ON
+    # The statuses with which the program has written the disks that are to be saved.
+    well = (0,)
 
     def __init__(self, words):
         self.own, self.images, self.saves = [], {}, {}
@@ -121,8 +123,22 @@ class Asked:
         """The words that the program is given."""
         words = ["console", "--before", str(len(self.opening())), *self.own]
         words += ["--images", drives_in(self.images)] * bool(self.images)
-        words += ["--saved", drives_in(self.saves)] * bool(self.saves)
-        return [*words, "--apart", "--mark", mark]
+        return [*words, "--apart", *self.saving(mark)]
+
+    def saving(self, mark):
+        """The words that say which disks the program writes at its end, and what it writes before them."""
+        return [*["--saved", drives_in(self.saves)] * bool(self.saves), "--mark", mark]
+
+    def end(self, status, screens):
+        """Ends the command if what its program wrote could not be passed on; else the disks are saved if it ended well. Gives its status."""
+        for screen in screens:
+            if screen.error:
+                complain(f"the output is not written: {screen.error.strerror}", 5)
+        if self.saves and status not in self.well:
+            complain(f"{', '.join(self.saves.values())}: not written, since `pair {self.command}` did not end well", status)
+        if self.saves:
+            self.save(bytes(screens[0].kept or b""))
+        return status
 
     def save(self, images):
         """Writes each disk that is to be saved."""
@@ -198,8 +214,7 @@ class Run:
         """The program, as long as it runs. What it writes is passed on by this command, which takes out what is handed over, and ends the
         program if it cannot be written. What it says beside that comes with it, if both go to one place."""
         how = {"stdout": subprocess.PIPE, "stderr": subprocess.STDOUT if is_one_place() else subprocess.PIPE}
-        how["preexec_fn"] = lambda: [signal.signal(it, signal.SIG_IGN) for it in OF_TERMINALS]
-        self.program = subprocess.Popen([path, *asked.words(mark)], stdin=subprocess.PIPE, **how)
+        self.program = subprocess.Popen([path, *asked.words(mark)], stdin=subprocess.PIPE, preexec_fn=self.prepare, **how)
         try:
             self.keys = Keys(self.program, asked.opening())
             if self.ended_by:
@@ -208,6 +223,12 @@ class Run:
         finally:
             self.program.kill()
 
+    @staticmethod
+    def prepare():
+        """In the program's process, before it begins: the program hears no signal of this command's terminal."""
+        for it in OF_TERMINALS:
+            signal.signal(it, signal.SIG_IGN)
+
     def pass_on(self, mark):
         """Passes on keys, and what the program writes, until it ends."""
         begin(threading.Thread(target=self.keys.pass_on))
@@ -215,9 +236,7 @@ class Run:
         self.screens = [Screen(self.program, pipe, output, mark, self.heard) for pipe, output in ends if pipe]
         showing = [begin(threading.Thread(target=screen.pass_on)) for screen in self.screens]
         self.await_program()
-        for it in showing:
-            while it.is_alive() and not self.ended_by:
-                it.join(0.1)
+        await_all(showing, lambda: self.ended_by)
 
     def await_program(self):
         """Waits until the program has ended. A signal that comes just before a wait is heard only after it, so no wait is long."""
@@ -233,10 +252,14 @@ class Run:
             return drawn_as(path_in(handed[len(WISH) :]), self.story.picture())
         if not handed.startswith(LINE):
             return saved_as(handed)
-        self.story.hear(handed[len(LINE) :].decode())
+        return self.told(handed[len(LINE) :])
+
+    def told(self, line):
+        """A line about the pair: it is shown on the last row, or is what is written."""
+        self.story.hear(line.decode())
         if self.row is None:
-            return b"\r\n" + handed + b"\r\n"
-        self.row.say(handed[len(LINE) :])
+            return b"\r\n" + LINE + line + b"\r\n"
+        self.row.say(line)
         return b""
 
     def status(self):
@@ -245,12 +268,17 @@ class Run:
         return 128 + number if number else self.program.returncode
 
 
-def refuse(path, words):
+def refuse(path, command, words):
     """Ends this command as the program ends if it does not take these words. It says so before it gives its help, which is asked for too."""
-    asked = subprocess.run([path, "console", *words, "--help"], stdin=subprocess.DEVNULL, capture_output=True)
+    asked = subprocess.run([path, command, *words, "--help"], stdin=subprocess.DEVNULL, capture_output=True)
     if asked.stderr.startswith(b"error: "):
         os.write(2, asked.stderr)
         sys.exit(asked.returncode)
+
+
+def new_mark():
+    """A byte that guests seldom send, FS, and what nobody can guess."""
+    return f"\x1c{secrets.token_hex(16)}"
 
 
 def begin(thread):
@@ -258,6 +286,13 @@ def begin(thread):
     thread.daemon = True
     thread.start()
     return thread
+
+
+def await_all(threads, is_over):
+    """Waits until these threads have ended, or it is over."""
+    for it in threads:
+        while it.is_alive() and not is_over():
+            it.join(0.1)
 
 
 def saved_as(handed):
@@ -327,11 +362,13 @@ def raw_terminal():
 def main(path, command, *words):
     if not HELP.isdisjoint(words):
         os.execv(path, [path, command, "--help"])
-    asked = Asked(words)
-    refuse(path, asked.own)
-    # A byte that guests seldom send, FS, and what nobody can guess.
-    mark = f"\x1c{secrets.token_hex(16)}"
-    run = Run()
+    return sit(path, Asked(words), Run())
+
+
+def sit(path, asked, run):
+    """Lets one sit at a program until it ends; gives its status."""
+    refuse(path, asked.command, asked.own)
+    mark = new_mark()
     run.heed()
     with raw_terminal(), row_for(asked.lines) as run.row, run.program_at(path, asked, mark):
         run.pass_on(mark.encode())
@@ -339,14 +376,7 @@ def main(path, command, *words):
     if status and os.isatty(0) and os.isatty(2):
         # What was said last may not end where a line begins.
         os.write(2, b"\r\n")
-    for screen in run.screens:
-        if screen.error:
-            complain(f"the output is not written: {screen.error.strerror}", 5)
-    if status and asked.saves:
-        complain(f"{', '.join(asked.saves.values())}: not written, since the console did not end well", status)
-    if asked.saves:
-        asked.save(bytes(run.screens[0].kept or b""))
-    return status
+    return asked.end(status, run.screens)
 
 
 if __name__ == "__main__":

@@ -1,21 +1,23 @@
 #!/usr/bin/env python3
-"""Runs a pair whose hosts are processes: makes their named pipes, starts them and the outside, and passes on to it what is typed.
+"""Sits at a pair whose hosts are processes: makes their named pipes, starts them and the outside, and passes on to it what is typed.
 
 usage: tools/hosts.py PROGRAM hosts [OPTION ..]
 
-The options are those of tools/options.py that are for `hosts`. Without --load, --disk, --memory and --setup the guest is the monitor
-of examples/guests.
+The options are those of tools/options.py that are for `hosts`, and the program's own --escape. Without --load, --disk, --memory and --setup
+the guest is the monitor of examples/guests. Keys, commands, lines about the pair, signals and disks are as with tools/console.py.
 
-Host 0 is the primary, host 1 its backup, all others are spares; on standard error it is said which process each host is, and what becomes
-of it. Any of them may be killed or stopped from elsewhere. When one has ended and --later allows one more, a spare is started.
+Host 0 is the primary, host 1 its backup, all others are spares; it is said which process each host is, and how it has ended. Any of them
+may be killed or stopped from elsewhere, or by the commands `stop`, `freeze` and `thaw`. When one has ended and --later allows one more, a
+spare is started; `spare` starts one too.
 
-A terminal gives each key as it is typed, Ctrl-C among them, and is set back as it was however the command ends. The key --quit ends all.
-When the outside has ended, so do all hosts, since their streams do; one that is stopped is killed.
+When the outside has ended, so do all hosts, since their streams do; one that is stopped is killed. Disks are saved if the outside ends well,
+or if no host is left that has the machine: the outside has the disk.
 """
 
 import contextlib
 import ctypes
 import os
+import re
 import shlex
 import shutil
 import signal
@@ -26,8 +28,8 @@ import threading
 
 sys.path.insert(0, os.path.dirname(os.path.realpath(__file__)))
 import console
-from console import ENDINGS, HELP, LONGEST_WAIT, OF_TERMINALS, Keys, begin, raw_terminal
-from options import complain, count_in, drives_in, key_in, numbered
+from console import HELP, begin, escape_in
+from options import complain, count_in, drives_in, numbered
 from output import Output
 
 # How many processes begin, how many more may, and how many places there are at most.
@@ -39,15 +41,26 @@ PATIENCE = 2
 # If the outside goes on for so many seconds after a host has ended, it was not the end of all.
 MOMENT = 0.2
 PR_SET_PDEATHSIG = 1
+# The status of an outside that has no host left with the machine.
+NO_HOSTS = 6
+# What is done with a host, by the word that wishes it: the signal that it is sent, and what is said of it then.
+SIGNALS = {
+    b"stop": (signal.SIGKILL, "is killed"),
+    b"freeze": (signal.SIGSTOP, "stands still"),
+    b"thaw": (signal.SIGCONT, "goes on"),
+}
 
 
 class Asked(console.Asked):
     """What the words of a command line ask for: how many hosts there are, and what each process is given."""
 
-    command, handed_on = "hosts", {"--quit": lambda word: key_in("--quit", word)}
+    command, handed_on = "hosts", {"--escape": escape_in}
+    well = (0, NO_HOSTS)
 
     def __init__(self, words):
         self.hosts, self.later, self.remote, self.of_hosts = HOSTS, LATER, {}, []
+        # The folder of the named pipes.
+        self.folder = None
         super().__init__(words)
         if self.hosts + self.later > MOST:
             complain(f"--hosts {self.hosts} --later {self.later}: there are at most {MOST} hosts")
@@ -73,9 +86,10 @@ class Asked(console.Asked):
         """The words that say what comes before the first key, or before the first frame."""
         return ["--before", str(len(self.opening())), *["--images", drives_in(self.images)] * bool(self.images)]
 
-    def words(self, folder):
+    def words(self, mark):
         """The words that the outside is given."""
-        return ["hosts", "--folder", folder, "--places", str(self.places()), *self.first(), *self.own]
+        words = ["hosts", "--folder", self.folder, "--places", str(self.places()), *self.first(), *self.own]
+        return [*words, "--apart", *self.saving(mark)]
 
     def host_words(self, program, host):
         """The words of the command that runs a host."""
@@ -86,22 +100,23 @@ class Asked(console.Asked):
 class Hosts:
     """The processes of the hosts, by their places."""
 
-    def __init__(self, program, asked, folder, says):
-        self.program, self.asked, self.folder, self.says = program, asked, folder, says
+    def __init__(self, program, asked, says):
+        self.program, self.asked, self.says = program, asked, says
         self.processes, self.over, self.lock = [], threading.Event(), threading.Lock()
         for place in range(asked.places()):
             for end in ("in", "out"):
                 os.mkfifo(self.path(place, end))
 
     def path(self, place, end):
-        return f"{self.folder}/{place}.{end}"
+        return f"{self.asked.folder}/{place}.{end}"
 
     def start(self):
-        """Starts a host at the next place. Its shell opens the pipes, in the order in which the outside does."""
+        """Starts a host at the next place; gives that, or nothing if there is none. Its shell opens the pipes, in the order in which the
+        outside does."""
         with self.lock:
             place = len(self.processes)
             if self.over.is_set() or place >= self.asked.places():
-                return
+                return None
             words = ["sh", "-c", 'exec 3< "$1" 4> "$2"; shift 2; exec "$@" <&3 >&4 3<&- 4>&-', "host"]
             words += [self.path(place, "in"), self.path(place, "out"), *self.asked.host_words(self.program, place)]
             with open(self.path(place, "said"), "wb") as said:
@@ -110,6 +125,7 @@ class Hosts:
             self.processes.append(process)
             self.says(f"host {place} is process {process.pid}")
         begin(threading.Thread(target=self.watch, args=(place, process)))
+        return place
 
     def watch(self, place, process):
         """Waits until a host has ended; then a spare is started, if the pair goes on and there may be one more."""
@@ -121,6 +137,11 @@ class Hosts:
         why = f"killed by signal {-status}" if status < 0 else said or f"status {status}"
         self.says(f"host {place} has ended: {why}")
         self.start()
+
+    def running(self, place):
+        """The process of the host at a place, if it runs."""
+        process = self.processes[place] if place < len(self.processes) else None
+        return process if process and process.poll() is None else None
 
     def end(self):
         """The outside has ended: waits until all hosts have, and kills those that do not."""
@@ -134,84 +155,80 @@ class Hosts:
                 it.wait()
 
 
-class Run:
+class Run(console.Run):
     """A run of the outside and its hosts, and the signal that has ended it."""
 
     def __init__(self):
-        self.outside = self.ended_by = None
-        self.ending = "\r\n" if os.isatty(2) else "\n"
+        super().__init__()
+        self.hosts = None
         self.lock = threading.Lock()
 
-    def heed(self):
-        """From now on no signal ends this command before all its processes have ended."""
-        for it in ENDINGS:
-            signal.signal(it, self.end)
-        if signal.getsignal(signal.SIGHUP) != signal.SIG_IGN:
-            signal.signal(signal.SIGHUP, self.end)
-        signal.signal(signal.SIGTTOU, signal.SIG_IGN)
-
-    def end(self, number, _frame=None):
-        self.ended_by = number
-        if self.outside:
-            self.outside.kill()
+    @staticmethod
+    def prepare():
+        """The outside hears no signal of this command's terminal, and is killed if this command is."""
+        console.Run.prepare()
+        ctypes.CDLL(None).prctl(PR_SET_PDEATHSIG, signal.SIGKILL)
 
     def say(self, line):
         """Says a line about the pair."""
         with self.lock, contextlib.suppress(OSError):
-            Output(2).write(f"pair: {line}{self.ending}".encode())
+            Output(2).write(self.told(line.encode()))
 
-    def pass_on_notes(self):
-        """Says what the outside tells of its hosts."""
-        for line in self.outside.stderr:
-            self.say(line.decode(errors="replace").rstrip("\n"))
-
-    def run(self, program, asked, folder):
-        """Runs all until the outside has ended."""
-        hosts = Hosts(program, asked, folder, self.say)
-        how = {"stdin": subprocess.PIPE, "stderr": subprocess.PIPE, "preexec_fn": end_with_this_command}
-        self.outside = subprocess.Popen([program, *asked.words(folder)], **how)
-        self.say(f"the outside is process {self.outside.pid}")
+    @contextlib.contextmanager
+    def program_at(self, path, asked, mark):
+        """The outside, as long as it runs, and all hosts."""
+        self.hosts = Hosts(path, asked, self.say)
         try:
-            for _ in range(asked.hosts):
-                hosts.start()
-            if self.ended_by:
-                self.outside.kill()
-            begin(threading.Thread(target=Keys(self.outside, asked.opening()).pass_on))
-            notes = begin(threading.Thread(target=self.pass_on_notes))
-            while self.outside.poll() is None:
-                with contextlib.suppress(subprocess.TimeoutExpired):
-                    self.outside.wait(LONGEST_WAIT)
-            notes.join(PATIENCE)
+            with super().program_at(path, asked, mark) as outside:
+                self.say(f"the outside is process {outside.pid}")
+                for _ in range(asked.hosts):
+                    self.hosts.start()
+                yield outside
         finally:
-            self.outside.kill()
-            hosts.end()
+            self.hosts.end()
 
-    def status(self):
-        """The status of the outside, or that of a command that a signal has ended."""
-        number = self.ended_by or -min(self.outside.returncode, 0)
-        return 128 + number if number else self.outside.returncode
+    def heard(self, handed):
+        """Does what is to be done with processes, at a command; gives what is answered."""
+        word, _, rest = handed.partition(b" ")
+        if word in SIGNALS:
+            return self.signalled(word, int(rest))
+        if word == b"spare":
+            return self.added()
+        if word == b"status":
+            return re.sub(rb"host (\d+):", self.named, rest)
+        return super().heard(handed)
 
+    def signalled(self, word, place):
+        """Sends a host the signal that a word wishes."""
+        process = self.hosts.running(place)
+        if process is None:
+            return b"no host %d runs" % place
+        number, said = SIGNALS[word]
+        process.send_signal(number)
+        return f"host {place}, process {process.pid}, {said}".encode()
 
-def end_with_this_command():
-    """The outside hears no signal of this command's terminal, and is killed if this command is."""
-    for it in OF_TERMINALS:
-        signal.signal(it, signal.SIG_IGN)
-    ctypes.CDLL(None).prctl(PR_SET_PDEATHSIG, signal.SIGKILL)
+    def added(self):
+        """Starts one more spare."""
+        place = self.hosts.start()
+        if place is None:
+            return f"no more than {self.hosts.asked.places()} hosts: --later allows more".encode()
+        return f"host {place} has come: process {self.hosts.processes[place].pid}".encode()
+
+    def named(self, found):
+        """A host of a status, with its process."""
+        process = self.hosts.running(int(found[1]))
+        return b"host %b (process %d):" % (found[1], process.pid) if process else found[0]
 
 
 def main(path, command, *words):
     if not HELP.isdisjoint(words):
         os.execv(path, [path, command, "--help"])
     asked = Asked(words)
-    run = Run()
-    run.heed()
-    folder = tempfile.mkdtemp(prefix="pair.")
+    asked.folder = tempfile.mkdtemp(prefix="pair.")
     try:
-        with raw_terminal():
-            run.run(path, asked, folder)
+        return console.sit(path, asked, Run())
     finally:
-        shutil.rmtree(folder, ignore_errors=True)
-    return run.status()
+        shutil.rmtree(asked.folder, ignore_errors=True)
 
 
 if __name__ == "__main__":

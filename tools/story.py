@@ -14,6 +14,7 @@ LINES = [
     (r"host (\d+) has won(?:: (replayed \d+ steps in \d+\.\d ms))?, and goes on alone", "wins"),
     (r"copying the machine to host (\d+)", "copies"),
     (r"host (\d+) has failed before it had the machine", "loses"),
+    (r"host (\d+) is cut off: it has sent what no host sends", "cuts_off"),
     (r"no spare host is left; host (\d+) goes on without a backup until `spare` brings one", "stays"),
 ]
 
@@ -122,6 +123,11 @@ class Drawing:
         self.turn(host, None)
         self.cross(host)
         self.beside(host, "has failed before it had the machine")
+
+    def cuts_off(self, host):
+        self.turn(host, None)
+        self.cross(host)
+        self.beside(host, "is cut off")
 
     def stays(self, host):
         self.beside(host, "no spare host is left")

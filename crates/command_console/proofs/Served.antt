@@ -11,7 +11,7 @@ use Rattle.command_ending.specs.declared.failure.Failure.TheVariants as failure
 use Rattle.command_input.specs.declared.input.Input.{Input}
 use Rattle.command_line.specs.declared.console_order.ConsoleOrder.{ConsoleOrder}
 use Rattle.command_live.specs.Living.{BeginsAs, typed_in}
-use Rattle.command_live.specs.Saving.{images_of}
+use Rattle.command_saving.specs.Saving.{IsUnsaved, images_of}
 use Rattle.command_live.proofs.Living.{are_booted}
 use Rattle.console_terminal.specs.Greeting.{greeting_of}
 use Rattle.console_terminal.specs.Screen.{Piece, bytes_of, texts_of}
@@ -94,6 +94,12 @@ module _ {B D : Type 0} (state : B → Guest) (records : D → List Record) (set
         (Appends-trans (notes first.notes) (notes greeted.notes) (notes sat.notes) (greeting_of order.escape) (texts_of used.pieces)
         greets used.beside);
   }
+
+-- why disks are not saved is why a run does not end well
+pub of_unsaved : (result : Result (Unit {0}) Failure) → IfErr result IsUnsaved → IfErr result IsOfRun
+of_unsaved (Ok done) why = tt
+of_unsaved (Err failure) (inl is) = inl is
+of_unsaved (Err failure) (inr is) = inr (inl is)
 
 -- ---- all of it
 

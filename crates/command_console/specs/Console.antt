@@ -8,7 +8,7 @@ use Rattle.command_input.specs.Inputs.{ReadsInput}
 use Rattle.command_input.specs.declared.input.Input.{Input}
 use Rattle.command_line.specs.declared.console_order.ConsoleOrder.{ConsoleOrder}
 use Rattle.command_live.specs.Living.{AreBooted, typed_in}
-use Rattle.command_live.specs.Saving.{images_of}
+use Rattle.command_saving.specs.Saving.{images_of}
 use Rattle.console_terminal.specs.Greeting.{greeting_of}
 use Rattle.console_terminal.specs.Screen.{AreSeen, Piece, bytes_of, guest_in, texts_of}
 use Rattle.console_terminal.specs.declared.port.Port.{Port}

@@ -2,7 +2,7 @@
 ghost use Rattle.std.specs.Prelude.{◌≡◌, ◌++◌, IfErr, IfOk, OnOk, string_bytes};
 ghost use Rattle.std.specs.Io.KnownBytes.{Appends};
 ghost use Rattle.command_console.specs.Console.{HasServed, IsAtConsole, IsOfRun, Opens, Refuses};
-ghost use Rattle.command_live.specs.Saving.{images_of};
+ghost use Rattle.command_saving.specs.Saving.{images_of};
 ghost use Rattle.console_terminal.specs.Greeting.{greeting_of};
 ghost use Rattle.event_callbacks.specs.Keeping.{Keeps};
 ghost use Rattle.event_callbacks.specs.declared.devices.TheConstants.{SECTOR, SENT, WRITTEN};
@@ -13,14 +13,14 @@ use crate::sitting::Machine;
 use command_ending::Failure;
 use command_input::{Input, Language, read_input};
 use command_line::ConsoleOrder;
-use command_live::{TRIES, drafted, images_of, sizes};
+use command_live::{TRIES, drafted, sizes};
+use command_saving::save_disks;
 use console_terminal::greeting;
 use event_callbacks::{Completes, plain_completions};
 use guest_lockstep::Reads;
-use i8080_words::Fault;
 use pair_generations::{Limits, altairs_may_go_on};
 use pair_standing::Standing;
-use shared_disk::{SectorStore, SharedDisk};
+use shared_disk::SectorStore;
 use std::alloc::Global;
 use std::io::{IsTerminal, Read, Write};
 use std::thread::Threads;
@@ -199,7 +199,8 @@ fn greet<R, W, N: Write>(
     (streams, greeted)
 }
 
-fn write_greeting<N: Write>(alloc: Global, escape: u8, notes: &mut N) -> Result<(), Failure>
+/// Says what this is, and which key opens a command line.
+pub fn write_greeting<N: Write>(alloc: Global, escape: u8, notes: &mut N) -> Result<(), Failure>
     ensures greeted { OnOk result (Appends (N.contents notes.old) (N.contents notes.new) (greeting_of escape)) }
     ensures failed { IfErr result IsOfRun }
 {
@@ -209,6 +210,7 @@ fn write_greeting<N: Write>(alloc: Global, escape: u8, notes: &mut N) -> Result<
 }
 
 // Writes the disks that are saved.
+#[tactic(auto, using(crate::proofs::Served::of_unsaved))]
 fn save<B: Drop, D: SectorStore, R, W: Write + Drop, N>(
     alloc: Global,
     order: &ConsoleOrder,
@@ -226,40 +228,17 @@ fn save<B: Drop, D: SectorStore, R, W: Write + Drop, N>(
         notes,
     } = streams;
     let Standing { disk, .. } = standing;
-    let saved = write_disks(alloc, order, disk, &mut writer);
+    let saved = save_disks(
+        alloc,
+        disk,
+        &order.saved,
+        order.mark.as_bytes(),
+        &mut writer,
+    );
     let streams = Streams {
         reader,
         writer,
         notes,
     };
     (streams, saved)
-}
-
-fn write_disks<D: SectorStore, W: Write + Drop>(
-    alloc: Global,
-    order: &ConsoleOrder,
-    mut disk: SharedDisk<D>,
-    writer: &mut W,
-) -> Result<(), Failure>
-    ensures saved { OnOk result (Appends (W.contents writer.old) (W.contents writer.new)
-        (string_bytes order.now.mark ++ images_of (D.records disk) order.now.saved.items)) }
-    ensures failed { IfErr result IsOfRun }
-{
-    let images = match images_of(alloc, &mut disk, &order.saved) {
-        Ok(images) => images,
-        Err(Fault::Unknown) => return Err(Failure::InputOrOutput),
-        Err(_) => return Err(Failure::OutOfMemory),
-    };
-    write_after(order.mark.as_bytes(), &images, writer)
-}
-
-// Writes a mark, and the images that come after it.
-fn write_after<W: Write + Drop>(mark: &[u8], images: &[u8], writer: &mut W) -> Result<(), Failure>
-    ensures written { OnOk result (Appends (W.contents writer.old) (W.contents writer.new) (mark.now ++ images.now)) }
-    ensures failed { IfErr result IsOfRun }
-{
-    writer.write_all(mark)?;
-    writer.write_all(images)?;
-    writer.flush()?;
-    Ok(())
 }

@@ -17,4 +17,10 @@ mod spares;
 mod speed;
 mod steward;
 
-pub use console::{Streams, run_console};
+pub use console::{Streams, run_console, write_greeting};
+pub use frame::{answer, wish};
+pub use mirror::{Mirrored, Shelf};
+pub use prepared::mirrored_store;
+pub use rings::compare;
+pub use session::compare_keys;
+pub use steward::text_of_line;

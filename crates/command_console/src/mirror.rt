@@ -6,7 +6,7 @@ ghost use Rattle.shared_disk.specs.Arrivals.{after_put};
 ghost use Rattle.shared_disk.specs.Failing.{before_failures};
 ghost use Rattle.shared_disk.specs.Records as table;
 
-use command_live::images_of;
+use command_saving::images_of;
 use disk_dcdd::{SectorAddress, SectorWrite};
 use i8080_words::{Fault, R};
 use rtrb::{Consumer, Producer};
@@ -78,7 +78,7 @@ fn put(disk: &mut SharedDisk<MemoryStore>, write: &SectorWrite)
 
 /// A copy of a disk that threads share.
 #[derive(Drop)]
-pub(crate) struct Shelf {
+pub struct Shelf {
     mirror: Mutex<Mirror>,
     // Whether something was put on the disk that did not reach the copy.
     is_behind: AtomicBool,
@@ -94,7 +94,7 @@ impl Shelf {
 
     /// The image of a drive at a moment, with all that was put on the disk before. `Unknown` if there is no such drive, `OutOfMemory` if
     /// there is no memory for the image, and `Stalled` if the copy is behind.
-    pub(crate) fn image(&self, alloc: Global, drive: u8) -> R<Vec<u8>>
+    pub fn image(&self, alloc: Global, drive: u8) -> R<Vec<u8>>
         ensures { IfOk result (λ image. IsOfCopy drive image.items) }
     {
         for _ in 0..u64::MAX {
@@ -118,7 +118,7 @@ impl Shelf {
 
 /// Records in memory. Each that is written goes through a ring too.
 #[derive(Drop)]
-pub(crate) struct Mirrored {
+pub struct Mirrored {
     store: MemoryStore,
     writes: Producer<SectorWrite>,
     shelf: Arc<Shelf>,

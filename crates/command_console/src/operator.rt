@@ -9,6 +9,9 @@ use crate::mirror::Shelf;
 use console_terminal::{Command, HELP, Interpreter, path_in, rest_in};
 use std::alloc::{AllocError, Global};
 
+// What is answered to a command that is for processes.
+const NO_PROCESSES: &str = "the hosts of this console are threads: `pair hosts` has processes";
+
 /// Has hosts fail and come and packets get lost, says how fast the guest runs and how the pair is, hands out images of its disk and wishes
 /// for pictures, and ends the console.
 #[derive(Drop)]
@@ -158,6 +161,9 @@ impl Interpreter for Operator<'_> {
             Command::Quit => {
                 self.hosts.end();
                 None
+            }
+            Command::Freeze(_) | Command::Thaw(_) | Command::Part => {
+                String::from_str(self.alloc, NO_PROCESSES).ok()
             }
             Command::Cut | Command::Mend | Command::Drop(_) => {
                 self.drop_of_100(percent_of(command)?)

@@ -92,6 +92,16 @@ fn mirrored(alloc: Global, input: &Input) -> R<(SharedDisk<Mirrored>, Arc<Shelf>
     ensures unwritten { IfOk result (λ r. IsUnwritten r.0.store) }
     ensures whole { IfOk result (λ r. HasWholeSectors r.0.store) }
 {
+    let (store, shelf) = mirrored_store(alloc, input)?;
+    Ok((SharedDisk::new(store), shelf))
+}
+
+/// The records of an input at boot, and where their copy is.
+pub fn mirrored_store(alloc: Global, input: &Input) -> R<(Mirrored, Arc<Shelf>)>
+    ensures at_boot { IfOk result (λ r. IsAtBoot r.0.store input.now.script.setup.guest.drives input.now.sectors.items) }
+    ensures unwritten { IfOk result (λ r. IsUnwritten r.0.store) }
+    ensures whole { IfOk result (λ r. HasWholeSectors r.0.store) }
+{
     let (to, from) = RingBuffer::new(alloc, WRITES)?;
     let mirror = Mirror {
         disk: SharedDisk::new(store_of(alloc, input)?),
@@ -99,8 +109,7 @@ fn mirrored(alloc: Global, input: &Input) -> R<(SharedDisk<Mirrored>, Arc<Shelf>
     };
     let shelf = Arc::new(alloc, Shelf::new(mirror))?;
     let shared = Arc::clone(&shelf)?;
-    let disk = Mirrored::new(store_of(alloc, input)?, to, shared);
-    Ok((SharedDisk::new(disk), shelf))
+    Ok((Mirrored::new(store_of(alloc, input)?, to, shared), shelf))
 }
 
 // The records of an input at boot.

@@ -55,7 +55,7 @@ pub(crate) fn rings(alloc: Global) -> Result<(Lines, Ends), AllocError>
 }
 
 /// What has come out of a ring is the first part of what went in.
-pub(crate) fn compare<T: Drop>(to: &mut Producer<T>, from: &mut Consumer<T>)
+pub fn compare<T: Drop>(to: &mut Producer<T>, from: &mut Consumer<T>)
     requires { IsPair to.old from.old }
     ensures front { IsPrefix (received from.old) (sent to.old) }
     ensures same { SameProducer to.old to.new × SameConsumer from.old from.new }

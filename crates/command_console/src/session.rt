@@ -173,8 +173,8 @@ fn leave<B: Drop, D: SectorStore>(
     standing
 }
 
-// The keys that came from a keyboard are the first of those that were sent to it.
-fn compare_keys(mut to: Producer<Stroke>, keyboard: Keyboard)
+/// The keys that came from a keyboard are the first of those that were sent to it.
+pub fn compare_keys(mut to: Producer<Stroke>, keyboard: Keyboard)
     requires { ComesOutOf to keyboard.ring }
     ensures { IsPrefix (came_by keyboard.ring) (sent to) }
 {

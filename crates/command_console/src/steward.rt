@@ -93,14 +93,14 @@ fn send_both(
 fn send(alloc: Global, ring: &mut Producer<String>, mark: &str, line: Line) -> bool
     ensures { IsTrue result → HasTold mark.now (line ∷ []) ring.old ring.new }
 {
-    let Ok(text) = text_of(alloc, mark, line) else {
+    let Ok(text) = text_of_line(alloc, mark, line) else {
         return false;
     };
     ring.push(text).is_ok()
 }
 
-// How a line is told, by the mark between which lines are handed over.
-fn text_of(alloc: Global, mark: &str, line: Line) -> Result<String, AllocError>
+/// How a line is told, by the mark between which lines are handed over; an empty one if they are written as they are read.
+pub fn text_of_line(alloc: Global, mark: &str, line: Line) -> Result<String, AllocError>
     ensures { IfOk result (λ text. string_bytes text ≡ told_as mark.now line) }
 {
     if mark.is_empty() {

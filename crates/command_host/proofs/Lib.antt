@@ -1,3 +1,1 @@
-pub mod Showing
-pub mod Appearing
 pub mod Starting

@@ -1,21 +1,11 @@
--- An outside opens: its places have their first numbers, and nothing else has happened.
-use Rattle.std.proofs.Common.{ℕ, zero, suc, ◌≡◌, ◌⊎◌, ◌<◌, Option, Some, Ok, Err, List, [], ◌∷◌, ◌++◌, length, arith, refl, sym, ap, ◌∙◌, subst, inl, inr}
-use Rattle.std.specs.Prelude.{IfOk, Result}
-use Rattle.command_ending.specs.declared.failure.Failure.{Failure}
-use Rattle.command_host.specs.Serving.{AddsPlaces, HasEnded, HasFirstNumbers, HasRun, IsUntouched, OpensFor}
-use Rattle.command_hosts.specs.declared.port.PortEnd.{PortEnd}
-use Rattle.command_hosts.specs.declared.session.HostsEnd.{HostsEnd}
+-- Places are added, each with its first number.
+use Rattle.std.proofs.Common.{ℕ, zero, suc, ◌≡◌, ◌⊎◌, ◌<◌, List, [], ◌∷◌, ◌++◌, length, arith, refl, sym, ap, ◌∙◌, subst, inl, inr}
+use Rattle.command_host.specs.Places.{AddsPlaces, HasFirstNumbers}
 use Rattle.command_hosts.specs.declared.session.Session.{Session}
-use Rattle.command_input.specs.Inputs.{IsInput}
-use Rattle.command_input.specs.declared.input.Input.{Input}
 use Rattle.outside_switch.specs.Goes.{Adds, first_number}
 use Rattle.outside_switch.specs.Lines.{number_at}
 use Rattle.outside_switch.specs.Meets.{Seen, seen}
 use Rattle.outside_switch.specs.declared.line.HostLine.{HostLine}
-use Rattle.script_language.specs.Live.{live_script_of}
-use Rattle.shared_disk.specs.declared.store.Record.{Record}
-
--- ---- places
 
 -- the number of a place, with one line more
 one_more : (xs : List HostLine) (line : HostLine) (place : ℕ) → place < length (xs ++ line ∷ []) →
@@ -36,52 +26,35 @@ numbers_more line a b adds first =
       | inr new ↦ new.1 ∙ adds.number ∙ ap first_number (sym new.0)
     ])
 
-module _ {D N : Type 0} where
-  pub adds_none : (a : Session D N) → AddsPlaces a a
-  adds_none a = record { devices = refl; numbers = λ first. first; first_port = refl; second_port = refl }
+module _ {D S : Type 0} where
+  pub adds_none : (a : Session D S) → AddsPlaces a a
+  adds_none a = record {
+    devices = refl;
+    numbers = λ first. first;
+    first_port = refl;
+    second_port = refl;
+    screen = refl;
+    quits = refl;
+  }
 
-  pub adds_same : (a b c : Session D N) → AddsPlaces a b → seen c.switch ≡ seen b.switch → c.first ≡ b.first →
-      c.second ≡ b.second → AddsPlaces a c
-  adds_same a b c p same first second = record {
+  pub adds_same : (a b c : Session D S) → AddsPlaces a b → seen c.switch ≡ seen b.switch → c.first ≡ b.first →
+      c.second ≡ b.second → c.screen ≡ b.screen → c.quits ≡ b.quits → AddsPlaces a c
+  adds_same a b c p same first second screen quits = record {
     devices = ap (λ (s : Seen). s.devices) same ∙ p.devices;
     numbers = λ numbers. subst (λ (s : Seen). HasFirstNumbers s.lines) (sym same) (p.numbers numbers);
     first_port = first ∙ p.first_port;
     second_port = second ∙ p.second_port;
+    screen = screen ∙ p.screen;
+    quits = quits ∙ p.quits;
   }
 
-  pub adds_one : (a b c : Session D N) (line : HostLine) → AddsPlaces a b → Adds line (seen b.switch) (seen c.switch) →
-      c.first ≡ b.first → c.second ≡ b.second → AddsPlaces a c
-  adds_one a b c line p adds first second = record {
+  pub adds_one : (a b c : Session D S) (line : HostLine) → AddsPlaces a b → Adds line (seen b.switch) (seen c.switch) →
+      c.first ≡ b.first → c.second ≡ b.second → c.screen ≡ b.screen → c.quits ≡ b.quits → AddsPlaces a c
+  adds_one a b c line p adds first second screen quits = record {
     devices = adds.devices ∙ p.devices;
     numbers = λ numbers. numbers_more line (seen b.switch) (seen c.switch) adds (p.numbers numbers);
     first_port = first ∙ p.first_port;
     second_port = second ∙ p.second_port;
+    screen = screen ∙ p.screen;
+    quits = quits ∙ p.quits;
   }
-
--- ---- an outside
-
-module _ {N : Type 0} where
-  pub opens_later : (input : Input) (a b : Session (List Record) N) → OpensFor input a → AddsPlaces a b → OpensFor input b
-  opens_later input a b o p = record {
-    records = o.records;
-    may_fail = o.may_fail;
-    boots = o.boots;
-    devices = p.devices ∙ o.devices;
-    numbers = p.numbers o.numbers;
-    first_port = subst (λ (e : PortEnd). IsUntouched e) (sym p.first_port) o.first_port;
-    second_port = subst (λ (e : PortEnd). IsUntouched e) (sym p.second_port) o.second_port;
-  }
-
-  pub ran : {W : Type 0} (contents : W → Option (List ℕ)) (images drives : List ℕ) (read : Option (List ℕ)) (input : Input)
-      (a b : Session (List Record) N) (sink : W) (result : Result HostsEnd Failure) →
-      drives ≡ images → IsInput live_script_of drives read input → OpensFor input a → AddsPlaces a b →
-      IfOk result (λ end. HasEnded contents end b sink) → IfOk result (λ end. HasRun N contents images end sink)
-  ran contents images drives read input a b sink (Ok end) same reads opens adds ended = record {
-    read = read;
-    input = input;
-    reads = subst (λ l. IsInput live_script_of l read input) same reads;
-    first = b;
-    opens = opens_later input a b opens adds;
-    ended = ended;
-  }
-  ran contents images drives read input a b sink (Err why) same reads opens adds ended = ended

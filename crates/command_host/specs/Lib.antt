@@ -1,2 +1,2 @@
 pub mod Serving
-pub mod Showing
+pub mod Places

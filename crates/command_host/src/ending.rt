@@ -19,6 +19,7 @@ pub fn ending_of_host(end: End) -> (u8, &'static str) {
 pub fn ending_of_hosts(end: HostsEnd) -> (u8, &'static str) {
     match end {
         HostsEnd::UserQuit | HostsEnd::Settled => (0, ""),
+        HostsEnd::Stopped => (5, ""),
         HostsEnd::NoHosts => (6, "no host is left that has the machine"),
     }
 }

@@ -1,18 +1,15 @@
-//! The commands `host` and `hosts`: one host of a pair in a process, and the outside of a pair whose hosts are processes.
+//! The command `host`, one host of a pair in a process; and the named pipes by which an outside reaches its hosts.
 #![tactic(auto)]
 
 mod booting;
 mod ending;
 mod frames;
 mod host;
-mod keys;
 mod opening;
-mod outside;
 mod places;
-mod screen;
-mod writing;
 
 pub use booting::Booted;
 pub use ending::{ending_of_host, ending_of_hosts};
 pub use host::{run_booted, run_host};
-pub use outside::{OutsideStreams, run_outside};
+pub use opening::read_opening;
+pub use places::{Pipes, add_places};

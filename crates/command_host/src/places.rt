@@ -1,7 +1,7 @@
 //! The places of hosts at the outside: two named pipes for each, opened by the threads that read and write them.
-ghost use Rattle.command_host.specs.Serving.{AddsPlaces};
+ghost use Rattle.command_host.specs.Places.{AddsPlaces};
 
-use command_hosts::Session;
+use command_hosts::{Session, Steward};
 use frame_streams::{FrameReader, FrameWriter, read_frames, write_frames};
 use host_frames::FrameBuffer;
 use i8080_words::{Fault, R};
@@ -19,25 +19,25 @@ const FRAMES: usize = 4_096;
 
 /// The named pipes of all places: their folder, and what each host is given before its first frame.
 #[derive(Drop)]
-pub(crate) struct Pipes<'a> {
-    pub(crate) files: HostRuntime,
-    pub(crate) folder: &'a str,
-    pub(crate) opening: &'a Arc<Vec<u8>>,
+pub struct Pipes<'a> {
+    pub files: HostRuntime,
+    pub folder: &'a str,
+    pub opening: &'a Arc<Vec<u8>>,
 }
 
 /// Adds places for hosts, so many, to a session. Whoever reads a host's frames wakes the session's loop.
 #[tactic(auto, using(crate::proofs::Starting::adds_none, crate::proofs::Starting::adds_same, crate::proofs::Starting::adds_one))]
-pub(crate) fn add_places<
+pub fn add_places<
     H: Threads + Wait + Clock + Copy + Drop + Send + Sync + 'static,
     D: SectorStore,
-    N: Write + Drop,
+    S: Steward + Drop,
 >(
     rt: H,
     alloc: Global,
     pipes: &Pipes<'_>,
     count: u64,
     mine: &Arc<Parker>,
-    session: &mut Session<D, N>,
+    session: &mut Session<D, S>,
 ) -> R<()>
     ensures { AddsPlaces session.old session.new }
 {

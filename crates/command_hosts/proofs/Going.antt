@@ -1,181 +1,188 @@
--- The outside goes on: its switch, and what passes meanwhile at both ports.
-use Rattle.std.proofs.Common.{ℕ, ◌≡◌, ◌<◌, Bool, true, false, List, [], ◌∷◌, ◌++◌, arith, cond, eqb-true, refl, sym, ap, ◌∙◌, subst}
+-- The outside goes on: its switch, and what passes meanwhile at both ports and on the screen.
+use Rattle.std.proofs.Common.{ℕ, ◌≡◌, Bool, true, false, List, [], ◌∷◌, ◌++◌, cond, refl, sym, ap, ◌∙◌, subst}
 use Rattle.std.specs.Prelude.{◌==◌, slice_index_or}
-use Rattle.std.proofs.lemmas.Bool.{eqb-false}
 use Rattle.outside_switch.proofs.Going.{still, then_with}
+use Rattle.outside_switch.proofs.Passing.{typed_both}
 use Rattle.outside_switch.specs.Goes.{GoesWith}
 use Rattle.outside_switch.specs.Meets.{Seen, seen}
 use Rattle.outside_switch.specs.Heeds.{HasRoomFor}
-use Rattle.outside_switch.specs.Passing.{Passed, Shown}
+use Rattle.outside_switch.specs.Passing.{Passed, Shown, passed_of, typed_at}
 use Rattle.outside_switch.specs.declared.heard.Heard.{Heard}
 use Rattle.outside_switch.specs.declared.heard.Heard.TheVariants as heard
-use Rattle.pair_lines.specs.Lines.{HasRoom, IsSameStart}
+use Rattle.pair_lines.specs.Lines.{HasRoom, HasShown, IsSameStart, with_byte}
 use Rattle.pair_lines.specs.declared.screen.Screen.{Screen}
-use Rattle.command_hosts.proofs.Passing.{ShowsAt, none_shown, serves_both, serves_rests, shown_here, shown_there, shows_none, typed_here, typed_there}
-use Rattle.command_hosts.proofs.Typing.{types_none}
-use Rattle.command_hosts.specs.Ports.{Rests, Serves, Shows, Types, TypesKeys, typings}
-use Rattle.command_hosts.specs.Runs.{HasRoomAt, IsTold, MayShow, Went}
+use Rattle.command_hosts.proofs.Passing.{looked, shows_both, shows_byte, shows_none, shows_typings, typed_here, typed_there}
+use Rattle.command_hosts.proofs.Typing.{types_both, types_none, types_rest}
+use Rattle.command_hosts.specs.Ports.{Rests, Types, TypesKeys, typings}
+use Rattle.command_hosts.specs.Runs.{IsTold, MayShow, Shows, Went}
 use Rattle.command_hosts.specs.declared.port.PortEnd.{PortEnd}
 use Rattle.command_hosts.specs.declared.session.Session.{Session}
-
--- keys were typed at this port
-typed_port : (port : ℕ) (a b : PortEnd) (s t : Seen) (k : TypesKeys port a b s t) → Serves port (typings port k.keys) a b
-typed_port port a b s t k = record {
-  types = subst (λ l. Types l a b) (sym (typed_here port k.keys)) k.types;
-  shows = subst (λ l. Shows port l a.screen b.screen) (sym (none_shown port port k.keys))
-      (subst (λ e. Shows port [] a.screen e) (sym k.screen) (shows_none port a.screen));
-}
-
--- they were typed at another one
-typed_elsewhere : (port other : ℕ) (keys : List ℕ) → (port == other) ≡ false → (a b : PortEnd) → b ≡ a →
-    Serves other (typings port keys) a b
-typed_elsewhere port other keys differs a b same = record {
-  types = subst (λ l. Types l a b) (sym (typed_there port other keys differs))
-      (subst (λ e. Types [] a e) (sym same) (types_none a));
-  shows = subst (λ l. Shows other l a.screen b.screen) (sym (none_shown port other keys))
-      (subst (λ (e : PortEnd). Shows other [] a.screen e.screen) (sym same) (shows_none other a.screen));
-}
 
 unchanged : (a b : PortEnd) → b ≡ a → Rests a b
 unchanged a b same = record {
   keyboard = ap (λ (e : PortEnd). e.keyboard) same;
   waiting = ap (λ (e : PortEnd). e.waiting) same;
-  screen = ap (λ (e : PortEnd). e.screen) same;
 }
 
-module _ {D N : Type 0} where
-  pub and_then : (a b c : Session D N) → Went a b → Went b c → Went a c
+as_before : (a b : Screen) → b ≡ a → Shows [] a b
+as_before a b same = subst (λ s. Shows [] a s) (sym same) (shows_none a)
+
+-- keys were typed at this port, or at another one
+typed_port : (port : ℕ) (a b : PortEnd) (s t : Seen) (k : TypesKeys port a b s t) → Types (typed_at port (typings port k.keys)) a b
+typed_port port a b s t k = subst (λ l. Types l a b) (sym (typed_here port k.keys)) k.types
+
+typed_elsewhere : (port other : ℕ) (keys : List ℕ) → (port == other) ≡ false → (a b : PortEnd) → b ≡ a →
+    Types (typed_at other (typings port keys)) a b
+typed_elsewhere port other keys differs a b same =
+    subst (λ l. Types l a b) (sym (typed_there port other keys differs)) (types_rest a b (unchanged a b same))
+
+module _ {D S : Type 0} where
+  pub and_then : (a b c : Session D S) → Went a b → Went b c → Went a c
   and_then a b c p q = record {
     passed = p.passed ++ q.passed;
     goes = then_with (seen a.switch) (seen b.switch) (seen c.switch) p.passed q.passed p.goes q.goes;
-    first = serves_both 0 p.passed q.passed a.first b.first c.first p.first q.first;
-    second = serves_both 1 p.passed q.passed a.second b.second c.second p.second q.second;
+    first = subst (λ l. Types l a.first c.first) (sym (typed_both 0 p.passed q.passed))
+        (types_both a.first b.first c.first (typed_at 0 p.passed) (typed_at 0 q.passed) p.first q.first);
+    second = subst (λ l. Types l a.second c.second) (sym (typed_both 1 p.passed q.passed))
+        (types_both a.second b.second c.second (typed_at 1 p.passed) (typed_at 1 q.passed) p.second q.second);
+    screen = shows_both p.passed q.passed a.screen b.screen c.screen p.screen q.screen;
   }
 
   -- nothing was typed and shown
-  pub quietly : (a b : Session D N) → GoesWith [] (seen a.switch) (seen b.switch) → Rests a.first b.first →
-      Rests a.second b.second → Went a b
-  quietly a b goes first second = record {
+  pub quietly : (a b : Session D S) → GoesWith [] (seen a.switch) (seen b.switch) → Rests a.first b.first →
+      Rests a.second b.second → b.screen ≡ a.screen → Went a b
+  quietly a b goes first second screen = record {
     passed = [];
     goes = goes;
-    first = serves_rests 0 a.first b.first first;
-    second = serves_rests 1 a.second b.second second;
+    first = types_rest a.first b.first first;
+    second = types_rest a.second b.second second;
+    screen = as_before a.screen b.screen screen;
   }
 
   -- the switch did something of its own, or two things
-  pub switched : (a b : Session D N) → GoesWith [] (seen a.switch) (seen b.switch) → b.first ≡ a.first → b.second ≡ a.second →
-      Went a b
-  switched a b goes first second = quietly a b goes (unchanged a.first b.first first) (unchanged a.second b.second second)
+  pub switched : (a b : Session D S) → GoesWith [] (seen a.switch) (seen b.switch) → b.first ≡ a.first → b.second ≡ a.second →
+      b.screen ≡ a.screen → Went a b
+  switched a b goes first second screen =
+      quietly a b goes (unchanged a.first b.first first) (unchanged a.second b.second second) screen
 
-  pub switched_twice : (a b : Session D N) (s : Seen) → GoesWith [] (seen a.switch) s → GoesWith [] s (seen b.switch) →
-      b.first ≡ a.first → b.second ≡ a.second → Went a b
-  switched_twice a b s p q first second =
-      switched a b (then_with (seen a.switch) s (seen b.switch) [] [] p q) first second
+  pub switched_twice : (a b : Session D S) (s : Seen) → GoesWith [] (seen a.switch) s → GoesWith [] s (seen b.switch) →
+      b.first ≡ a.first → b.second ≡ a.second → b.screen ≡ a.screen → Went a b
+  switched_twice a b s p q first second screen =
+      switched a b (then_with (seen a.switch) s (seen b.switch) [] [] p q) first second screen
 
   -- keys were sent from both ports
-  pub sends : (a b : Session D N) (s : Seen) → GoesWith [] (seen a.switch) s → GoesWith [] s (seen b.switch) →
-      Rests a.first b.first → Rests a.second b.second → Went a b
-  sends a b s p q first second = quietly a b (then_with (seen a.switch) s (seen b.switch) [] [] p q) first second
+  pub sends : (a b : Session D S) (s : Seen) → GoesWith [] (seen a.switch) s → GoesWith [] s (seen b.switch) →
+      Rests a.first b.first → Rests a.second b.second → b.screen ≡ a.screen → Went a b
+  sends a b s p q first second screen =
+      quietly a b (then_with (seen a.switch) s (seen b.switch) [] [] p q) first second screen
 
-  -- only what is remembered has changed
-  pub same : (a b : Session D N) → b.switch ≡ a.switch → b.first ≡ a.first → b.second ≡ a.second → Went a b
-  same a b is first second =
-      switched a b (subst (λ s. GoesWith [] (seen a.switch) (seen s)) (sym is) (still (seen a.switch))) first second
+  -- only what is remembered has changed, or what becomes of packets
+  pub seen_same : (a b : Session D S) → seen b.switch ≡ seen a.switch → b.first ≡ a.first → b.second ≡ a.second →
+      b.screen ≡ a.screen → Went a b
+  seen_same a b is first second screen =
+      switched a b (subst (λ s. GoesWith [] (seen a.switch) s) (sym is) (still (seen a.switch))) first second screen
+
+  pub same : (a b : Session D S) → b.switch ≡ a.switch → b.first ≡ a.first → b.second ≡ a.second → b.screen ≡ a.screen →
+      Went a b
+  same a b is first second screen = seen_same a b (ap seen is) first second screen
 
   -- another host is live
-  pub rests : (a b : Session D N) → b.switch ≡ a.switch → Rests a.first b.first → Rests a.second b.second → Went a b
-  rests a b is first second =
-      quietly a b (subst (λ s. GoesWith [] (seen a.switch) (seen s)) (sym is) (still (seen a.switch))) first second
+  pub rests : (a b : Session D S) → b.switch ≡ a.switch → Rests a.first b.first → Rests a.second b.second →
+      b.screen ≡ a.screen → Went a b
+  rests a b is first second screen =
+      quietly a b (subst (λ s. GoesWith [] (seen a.switch) (seen s)) (sym is) (still (seen a.switch))) first second screen
 
-  pub stays : (a : Session D N) → Went a a
-  stays a = switched a a (still (seen a.switch)) refl refl
+  pub stays : (a : Session D S) → Went a a
+  stays a = switched a a (still (seen a.switch)) refl refl refl
 
   -- keys were typed at the first port, or at the second one
-  pub types_first : (a b : Session D N) → TypesKeys 0 a.first b.first (seen a.switch) (seen b.switch) → b.second ≡ a.second →
-      Went a b
-  types_first a b t second = record {
+  pub types_first : (a b : Session D S) → TypesKeys 0 a.first b.first (seen a.switch) (seen b.switch) → b.second ≡ a.second →
+      b.screen ≡ a.screen → Went a b
+  types_first a b t second screen = record {
     passed = typings 0 t.keys;
     goes = t.goes;
     first = typed_port 0 a.first b.first (seen a.switch) (seen b.switch) t;
     second = typed_elsewhere 0 1 t.keys refl a.second b.second second;
+    screen = subst (λ s. Shows (typings 0 t.keys) a.screen s) (sym screen) (shows_typings 0 t.keys a.screen);
   }
 
-  pub types_second : (a b : Session D N) → TypesKeys 1 a.second b.second (seen a.switch) (seen b.switch) → b.first ≡ a.first →
-      Went a b
-  types_second a b t first = record {
+  pub types_second : (a b : Session D S) → TypesKeys 1 a.second b.second (seen a.switch) (seen b.switch) → b.first ≡ a.first →
+      b.screen ≡ a.screen → Went a b
+  types_second a b t first screen = record {
     passed = typings 1 t.keys;
     goes = t.goes;
     first = typed_elsewhere 1 0 t.keys refl a.first b.first first;
     second = typed_port 1 a.second b.second (seen a.switch) (seen b.switch) t;
+    screen = subst (λ s. Shows (typings 1 t.keys) a.screen s) (sym screen) (shows_typings 1 t.keys a.screen);
   }
 
-  -- the screens were looked at, a host was heard, and what is to be shown of it was
-  pub hears : (a r b c : Session D N) (passed : List Passed) → r.switch ≡ a.switch →
-      GoesWith passed (seen r.switch) (seen b.switch) → b.first ≡ r.first → b.second ≡ r.second →
-      Serves 0 [] a.first r.first → Serves 1 [] a.second r.second → IsTold passed b c → Went a c
-  hears a r b c passed same goes first second at_first at_second told = record {
+  -- the screen was looked at, a host was heard, and what is to be shown of it was
+  pub hears : (a r b c : Session D S) (passed : List Passed) → (typed_at 0 passed ≡ []) → (typed_at 1 passed ≡ []) →
+      IsTold [] a r → GoesWith passed (seen r.switch) (seen b.switch) → b.first ≡ r.first → b.second ≡ r.second →
+      b.screen ≡ r.screen → IsTold passed b c → Went a c
+  hears a r b c passed none0 none1 looks goes first second screen told = record {
     passed = passed;
-    goes = subst (λ s. GoesWith passed (seen s) (seen c.switch)) same
+    goes = subst (λ s. GoesWith passed (seen s) (seen c.switch)) looks.switch
         (subst (λ s. GoesWith passed (seen r.switch) (seen s)) (sym told.switch) goes);
-    first = serves_both 0 [] passed a.first b.first c.first (subst (λ e. Serves 0 [] a.first e) (sym first) at_first) told.first;
-    second = serves_both 1 [] passed a.second b.second c.second (subst (λ e. Serves 1 [] a.second e) (sym second) at_second)
-        told.second;
+    first = subst (λ l. Types l a.first c.first) (sym none0)
+        (types_rest a.first c.first (unchanged a.first c.first (told.first ∙ first ∙ looks.first)));
+    second = subst (λ l. Types l a.second c.second) (sym none1)
+        (types_rest a.second c.second (unchanged a.second c.second (told.second ∙ second ∙ looks.second)));
+    screen = shows_both [] passed a.screen b.screen c.screen
+        (subst (λ s. Shows [] a.screen s) (sym screen) looks.screen) told.screen;
   }
 
   -- ---- what is shown
 
-  pub shows_first : (port byte : ℕ) (a b : Session D N) → (port == 0) ≡ true → b.switch ≡ a.switch →
-      b.first.keyboard ≡ a.first.keyboard → b.first.waiting ≡ a.first.waiting → b.second ≡ a.second →
-      IsSameStart a.first.screen.ring b.first.screen.ring → ShowsAt port byte a.first.screen b.first.screen →
+  pub shows : (port byte : ℕ) (a b : Session D S) → b.switch ≡ a.switch → b.first ≡ a.first → b.second ≡ a.second →
+      IsSameStart a.screen.ring b.screen.ring →
+      ((at : ℕ) (bytes : List ℕ) → HasShown a.screen at bytes → HasShown b.screen at (with_byte at port byte bytes)) →
       IsTold (Shown port byte ∷ []) a b
-  shows_first port byte a b is switch keyboard waiting second same shown =
-      let zero : port ≡ 0 = eqb-true port 0 is in
-      subst (λ p. IsTold (Shown p byte ∷ []) a b) (sym zero) (record {
-        switch = switch;
-        first = shown_here 0 byte a.first b.first keyboard waiting same
-            (subst (λ p. ShowsAt p byte a.first.screen b.first.screen) zero shown);
-        second = shown_there 0 byte 1 refl a.second b.second second;
-      })
+  shows port byte a b switch first second same shown = record {
+    switch = switch;
+    first = first;
+    second = second;
+    screen = shows_byte port byte a.screen b.screen same shown;
+  }
 
-  pub shows_second : (port byte : ℕ) (a b : Session D N) → (port == 0) ≡ false → port < 2 → b.switch ≡ a.switch →
-      b.second.keyboard ≡ a.second.keyboard → b.second.waiting ≡ a.second.waiting → b.first ≡ a.first →
-      IsSameStart a.second.screen.ring b.second.screen.ring → ShowsAt port byte a.second.screen b.second.screen →
-      IsTold (Shown port byte ∷ []) a b
-  shows_second port byte a b other low switch keyboard waiting first same shown =
-      let some = eqb-false port 0 other in
-      let one : port ≡ 1 = omega (arith, some, low) in
-      subst (λ p. IsTold (Shown p byte ∷ []) a b) (sym one) (record {
-        switch = switch;
-        first = shown_there 1 byte 0 refl a.first b.first first;
-        second = shown_here 1 byte a.second b.second keyboard waiting same
-            (subst (λ p. ShowsAt p byte a.second.screen b.second.screen) one shown);
-      })
-
-  -- it was shown after a note
-  pub told_since : (passed : List Passed) (a m b : Session D N) → m.switch ≡ a.switch → m.first ≡ a.first →
-      m.second ≡ a.second → IsTold passed m b → IsTold passed a b
-  told_since passed a m b switch first second told = record {
-    switch = told.switch ∙ switch;
-    first = subst (λ e. Serves 0 passed e b.first) first told.first;
-    second = subst (λ e. Serves 1 passed e b.second) second told.second;
+  pub looks : (a b : Session D S) → b.switch ≡ a.switch → b.first ≡ a.first → b.second ≡ a.second →
+      IsSameStart a.screen.ring b.screen.ring →
+      ((at : ℕ) (bytes : List ℕ) → HasShown a.screen at bytes → HasShown b.screen at bytes) → IsTold [] a b
+  looks a b switch first second same shown = record {
+    switch = switch;
+    first = first;
+    second = second;
+    screen = looked a.screen b.screen same shown;
   }
 
   -- nothing is to be shown
-  pub tells_nothing : (a b : Session D N) → b.switch ≡ a.switch → b.first ≡ a.first → b.second ≡ a.second → IsTold [] a b
-  tells_nothing a b switch first second = record {
+  pub tells_nothing : (a b : Session D S) → b.switch ≡ a.switch → b.first ≡ a.first → b.second ≡ a.second →
+      b.screen ≡ a.screen → IsTold [] a b
+  tells_nothing a b switch first second screen = record {
     switch = switch;
-    first = serves_rests 0 a.first b.first (unchanged a.first b.first first);
-    second = serves_rests 1 a.second b.second (unchanged a.second b.second second);
+    first = first;
+    second = second;
+    screen = as_before a.screen b.screen screen;
   }
 
+-- what was heard of a host types nothing
+pub types_nothing : (heard : Heard) (port : ℕ) → typed_at port (passed_of heard) ≡ []
+types_nothing (heard.Shown port byte) at = refl
+types_nothing heard.Nothing at = refl
+types_nothing heard.Met at = refl
+types_nothing heard.Written at = refl
+types_nothing heard.Unwritten at = refl
+types_nothing (heard.Became role) at = refl
+types_nothing (heard.Won generation) at = refl
+types_nothing (heard.Lost generation) at = refl
+types_nothing heard.Failed at = refl
+
 -- a screen that has room may show
-pub may_show : (rooms : List Bool) (first second : Screen) → (slice_index_or rooms 0 false ≡ true → HasRoom first.ring) →
-    (slice_index_or rooms 1 false ≡ true → HasRoom second.ring) → (heard : Heard) → HasRoomFor rooms heard →
-    MayShow first second heard
-may_show rooms first second at_first at_second (heard.Shown port byte) has = (has.0, go (port == 0) has.1)
+pub may_show : (room : Bool) (screen : Screen) → (room ≡ true → HasRoom screen.ring) → (heard : Heard) →
+    HasRoomFor (room ∷ room ∷ []) heard → MayShow screen heard
+may_show room screen has_room (heard.Shown port byte) has = has_room (go (port == 0) has.1)
   where
-    go : (b : Bool) → cond b (slice_index_or rooms 0 false) (slice_index_or rooms 1 false) ≡ true →
-        HasRoomAt b first second
-    go true e = at_first e
-    go false e = at_second e
-may_show rooms first second at_first at_second _ has = tt
+    go : (b : Bool) → cond b room room ≡ true → room ≡ true
+    go true e = e
+    go false e = e
+may_show room screen has_room _ has = tt

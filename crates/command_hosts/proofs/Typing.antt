@@ -42,7 +42,7 @@ typings_both port [] ys = refl
 typings_both port (x ∷ xs) ys = ap (λ l. Typed port x ∷ l) (typings_both port xs ys)
 
 pub none_typed : (port : ℕ) (a : PortEnd) (s : Seen) → TypesKeys port a a s s
-none_typed port a s = record { keys = []; goes = still s; types = types_none a; screen = refl }
+none_typed port a s = record { keys = []; goes = still s; types = types_none a }
 
 pub more_typed : (port : ℕ) (a b c : PortEnd) (s t u : Seen) → TypesKeys port a b s t → TypesKeys port b c t u →
     TypesKeys port a c s u
@@ -51,22 +51,19 @@ more_typed port a b c s t u p q = record {
   goes = subst (λ l. GoesWith l s u) (sym (typings_both port p.keys q.keys))
       (then_with s t u (typings port p.keys) (typings port q.keys) p.goes q.goes);
   types = types_both a b c p.keys q.keys p.types q.types;
-  screen = q.screen ∙ p.screen;
 }
 
 -- nothing was typed: no key came, or the terminal refused it
-pub none_came : (port : ℕ) (a b : PortEnd) (s : Seen) → Types [] a b → b.screen ≡ a.screen → TypesKeys port a b s s
-none_came port a b s types screen = record { keys = []; goes = still s; types = types; screen = screen }
+pub none_came : (port : ℕ) (a b : PortEnd) (s : Seen) → Types [] a b → TypesKeys port a b s s
+none_came port a b s types = record { keys = []; goes = still s; types = types }
 
-pub refused : (port : ℕ) (a b : PortEnd) (s t : Seen) → Types [] a b → b.screen ≡ a.screen → GoesWith [] s t →
-    TypesKeys port a b s t
-refused port a b s t types screen goes = record { keys = []; goes = goes; types = types; screen = screen }
+pub refused : (port : ℕ) (a b : PortEnd) (s t : Seen) → Types [] a b → GoesWith [] s t → TypesKeys port a b s t
+refused port a b s t types goes = record { keys = []; goes = goes; types = types }
 
 -- the key that waited was typed
-pub key_typed : (port key : ℕ) (a m b : PortEnd) (s t : Seen) → Types [] a m → m.screen ≡ a.screen → m.waiting ≡ Some key →
-    b.keyboard ≡ m.keyboard → b.waiting ≡ None → b.screen ≡ m.screen → GoesWith (Typed port key ∷ []) s t →
-    TypesKeys port a b s t
-key_typed port key a m b s t types screen waits keyboard none shown goes = record {
+pub key_typed : (port key : ℕ) (a m b : PortEnd) (s t : Seen) → Types [] a m → m.waiting ≡ Some key →
+    b.keyboard ≡ m.keyboard → b.waiting ≡ None → GoesWith (Typed port key ∷ []) s t → TypesKeys port a b s t
+key_typed port key a m b s t types waits keyboard none goes = record {
   keys = key ∷ [];
   goes = goes;
   types = types_both a m b [] (key ∷ []) types (record {
@@ -76,7 +73,6 @@ key_typed port key a m b s t types screen waits keyboard none shown goes = recor
     typed_are = append-nil (found m.waiting) ∙ ap (λ (w : Option ℕ). found w) waits
         ∙ ap (λ (w : Option ℕ). key ∷ found w) (sym none);
   });
-  screen = shown ∙ screen;
 }
 
 -- ---- nothing passes
@@ -88,5 +84,13 @@ pub rests_on : (a b c : PortEnd) → Rests a b → Rests b c → Rests a c
 rests_on a b c p q = record {
   keyboard = q.keyboard ∙ p.keyboard;
   waiting = q.waiting ∙ p.waiting;
-  screen = q.screen ∙ p.screen;
+}
+
+-- a port at which nothing was typed
+pub types_rest : (a b : PortEnd) → Rests a b → Types [] a b
+types_rest a b r = record {
+  same = subst (λ (k : Keyboard). IsSameEnd a.keyboard.ring k.ring) (sym r.keyboard) (same_end a.keyboard.ring);
+  came = [];
+  heard_are = ap heard r.keyboard ∙ sym (append-nil (heard a.keyboard));
+  typed_are = append-nil (found a.waiting) ∙ sym (ap (λ (w : Option ℕ). found w) r.waiting);
 }

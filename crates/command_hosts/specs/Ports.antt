@@ -1,12 +1,11 @@
--- What a user has typed and seen at one port.
-use Rattle.std.specs.Prelude.{◌≡◌, ◌⊎◌, ◌==◌, ◌<◌, ◌≤◌, ◌+◌, max, if◌then◌else◌, ℕ, true, false, List, [], ◌∷◌, ◌++◌, None}
+-- What a user has typed at one port, and which keys go to the live host.
+use Rattle.std.specs.Prelude.{◌≡◌, ◌⊎◌, ◌<◌, ◌≤◌, ◌+◌, max, ℕ, true, false, List, [], ◌∷◌, ◌++◌, None}
 use Rattle.outside_devices.specs.Calls.{key_answer}
 use Rattle.outside_switch.specs.Goes.{GoesWith, SendsKey}
 use Rattle.outside_switch.specs.Meets.{Seen}
-use Rattle.outside_switch.specs.Passing.{Passed, Typed, shown_at, typed_at}
-use Rattle.pair_lines.specs.Lines.{HasShown, IsSameEnd, IsSameStart, found, heard}
+use Rattle.outside_switch.specs.Passing.{Passed, Typed}
+use Rattle.pair_lines.specs.Lines.{IsSameEnd, found, heard}
 use Rattle.pair_lines.specs.declared.keyboard.Keyboard.{Keyboard}
-use Rattle.pair_lines.specs.declared.screen.Screen.{Screen}
 use Rattle.command_hosts.specs.declared.port.PortEnd.{PortEnd}
 
 -- the keys that were typed at the terminal are those that came from the keyboard, in order and each once: one may wait, since
@@ -17,22 +16,10 @@ pub record Types (typed : List ℕ) (old new : PortEnd) : Type 0 where
   pub heard_are : heard new.keyboard ≡ heard old.keyboard ++ came
   pub typed_are : found old.waiting ++ came ≡ typed ++ found new.waiting
 
--- a screen has shown these bytes of a port too, and nothing else
-pub record Shows (port : ℕ) (bytes : List ℕ) (old new : Screen) : Type 0 where
-  pub same : IsSameStart old.ring new.ring
-  pub shown : (at : ℕ) (before : List ℕ) → HasShown old at before →
-      HasShown new at (before ++ (if port == at then bytes else []))
-
--- nothing was typed and shown
+-- nothing was typed
 pub record Rests (old new : PortEnd) : Type 0 where
   pub keyboard : new.keyboard ≡ old.keyboard
   pub waiting : new.waiting ≡ old.waiting
-  pub screen : new.screen ≡ old.screen
-
--- what passed between the devices and the user at this port
-pub record Serves (port : ℕ) (passed : List Passed) (old new : PortEnd) : Type 0 where
-  pub types : Types (typed_at port passed) old new
-  pub shows : Shows port (shown_at port passed) old.screen new.screen
 
 -- keys were typed at the terminal of a port, and nothing else was done
 abbrev pub typings : ℕ → List ℕ → List Passed
@@ -43,7 +30,6 @@ pub record TypesKeys (port : ℕ) (old new : PortEnd) (before after : Seen) : Ty
   pub keys : List ℕ
   pub goes : GoesWith (typings port keys) before after
   pub types : Types keys old new
-  pub screen : new.screen ≡ old.screen
 
 -- ---- which keys go to the live host
 

@@ -1,48 +1,49 @@
 -- What a run of the outside comes to, and why it ends.
-use Rattle.std.specs.Prelude.{◌≡◌, ◌==◌, ◌<◌, Bool, ◌||◌, is_none, false, true, List, [], ◌∷◌, ◌++◌, Some, slice_index}
+use Rattle.std.specs.Prelude.{◌≡◌, ℕ, Bool, ◌||◌, is_none, true, List, [], ◌∷◌, ◌++◌, Some, slice_index}
 use Rattle.std.specs.List.{list_all}
-use Rattle.event_callbacks.specs.declared.devices.TheConstants.{PORTS}
 use Rattle.rtrb.specs.Ring.{received}
 use Rattle.outside_switch.specs.Goes.{GoesWith}
 use Rattle.outside_switch.specs.Meets.{seen}
-use Rattle.outside_switch.specs.Passing.{Passed}
+use Rattle.outside_switch.specs.Passing.{Passed, shown_at, typed_at}
 use Rattle.outside_switch.specs.declared.heard.Heard.{Heard}
 use Rattle.outside_switch.specs.declared.heard.Heard.TheVariants.{Shown}
 use Rattle.outside_switch.specs.declared.line.HostLine.{HostLine}
-use Rattle.pair_lines.specs.Lines.{HasRoom}
+use Rattle.pair_lines.specs.Lines.{HasRoom, HasShown, IsSameStart}
 use Rattle.pair_lines.specs.declared.screen.Screen.{Screen}
-use Rattle.command_hosts.specs.Ports.{BeginsAt, IsOver, Serves}
+use Rattle.command_hosts.specs.Ports.{BeginsAt, IsOver, Types}
 use Rattle.command_hosts.specs.declared.live.Live.{Live}
 use Rattle.command_hosts.specs.declared.session.HostsEnd.{HostsEnd}
-use Rattle.command_hosts.specs.declared.session.HostsEnd.TheVariants.{NoHosts, Settled, UserQuit}
+use Rattle.command_hosts.specs.declared.session.HostsEnd.TheVariants.{NoHosts, Settled, Stopped, UserQuit}
 use Rattle.command_hosts.specs.declared.session.Quit.{Quit}
 use Rattle.command_hosts.specs.declared.session.Session.{Session}
 
--- the switch went on, and what passed meanwhile between its devices and the user passed at both ports
-pub record Went {D N : Type 0} (old new : Session D N) : Type 0 where
+-- a screen has shown what terminals accepted meanwhile too, and nothing else
+pub record Shows (passed : List Passed) (old new : Screen) : Type 0 where
+  pub same : IsSameStart old.ring new.ring
+  pub shown : (at : ℕ) (before : List ℕ) → HasShown old at before → HasShown new at (before ++ shown_at at passed)
+
+-- the switch went on, and what passed meanwhile between its devices and the user was typed at both ports and shown
+pub record Went {D S : Type 0} (old new : Session D S) : Type 0 where
   pub passed : List Passed
   pub goes : GoesWith passed (seen old.switch) (seen new.switch)
-  pub first : Serves 0 passed old.first new.first
-  pub second : Serves 1 passed old.second new.second
+  pub first : Types (typed_at 0 passed) old.first new.first
+  pub second : Types (typed_at 1 passed) old.second new.second
+  pub screen : Shows passed old.screen new.screen
 
--- this was shown, and the switch is as it was
-pub record IsTold {D N : Type 0} (passed : List Passed) (old new : Session D N) : Type 0 where
+-- this was shown, and all else is as it was
+pub record IsTold {D S : Type 0} (passed : List Passed) (old new : Session D S) : Type 0 where
   pub switch : new.switch ≡ old.switch
-  pub first : Serves 0 passed old.first new.first
-  pub second : Serves 1 passed old.second new.second
+  pub first : new.first ≡ old.first
+  pub second : new.second ≡ old.second
+  pub screen : Shows passed old.screen new.screen
 
--- the screen of a port has room: of the first one, or of the other
-abbrev pub HasRoomAt : Bool → Screen → Screen → Type 0
-HasRoomAt true first second = HasRoom first.ring
-HasRoomAt false first second = HasRoom second.ring
-
--- a byte that is to be shown is of a port whose screen has room
-abbrev pub MayShow : Screen → Screen → Heard → Type 0
-MayShow first second (Shown port byte) = (port < PORTS) × HasRoomAt (port == 0) first second
-MayShow first second _ = Unit {0}
+-- the screen has room for a byte that is to be shown
+abbrev pub MayShow : Screen → Heard → Type 0
+MayShow screen (Shown port byte) = HasRoom screen.ring
+MayShow screen _ = Unit {0}
 
 -- This host is live: it was before, in this generation; or it is sent all keys that it has not taken.
-pub data SeesLive {D N : Type 0} (live : Live) (old new : Session D N) : Type 0 where
+pub data SeesLive {D S : Type 0} (live : Live) (old new : Session D S) : Type 0 where
   Before : old.moments.live ≡ Some (live.place, live.report.generation) → new ≡ old → SeesLive live old new
   Anew : new.moments.live ≡ Some (live.place, live.report.generation) →
       BeginsAt (slice_index live.report.taken 0) new.first → BeginsAt (slice_index live.report.taken 1) new.second →
@@ -52,15 +53,16 @@ pub data SeesLive {D N : Type 0} (live : Live) (old new : Session D N) : Type 0 
 abbrev pub have_no_machine : List HostLine → Bool
 have_no_machine lines = list_all (λ (line : HostLine). is_none line.to || is_none line.number) lines
 
--- the user has asked for it; no keys are left at either port; or no host is left that has the machine
-abbrev pub IsWhy : {D N : Type 0} → HostsEnd → Session D N → Type 0
+-- the user has asked for it; no keys are left at either port; no host is left that has the machine; or the steward has its own reason
+abbrev pub IsWhy : {D S : Type 0} → HostsEnd → Session D S → Type 0
 IsWhy UserQuit s = (before : List Quit) × (quit : Quit) × (received s.quits ≡ before ++ quit ∷ [])
 IsWhy Settled s = IsOver s.first × IsOver s.second
 IsWhy NoHosts s = have_no_machine s.switch.lines.items ≡ true
+IsWhy Stopped s = Unit {0}
 
 -- it went on until there was a reason to end, and after that
-pub record Ended {D N : Type 0} (end : HostsEnd) (old new : Session D N) : Type 0 where
-  pub last : Session D N
+pub record Ended {D S : Type 0} (end : HostsEnd) (old new : Session D S) : Type 0 where
+  pub last : Session D S
   pub went : Went old last
   pub why : IsWhy end last
   pub stopped : Went last new

@@ -2,12 +2,13 @@
 #![tactic(auto)]
 
 mod live;
-mod notes;
 mod port;
 mod serving;
 mod session;
+mod steward;
 mod turning;
 
 pub use port::PortEnd;
 pub use serving::run_hosts;
-pub use session::{HostsEnd, Quit, Session};
+pub use session::{HostsEnd, Quit, Session, SessionParts};
+pub use steward::{HostEvent, Steward};

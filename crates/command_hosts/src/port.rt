@@ -1,11 +1,11 @@
-//! The user's end of one port: a keyboard, a screen, and which keys go to the live host now.
+//! The user's end of one port: a keyboard, and which keys go to the live host now.
 ghost use Rattle.std.specs.Prelude.{◌≡◌, [], None, false, true};
 ghost use Rattle.outside_switch.specs.Goes.{GoesWith};
 ghost use Rattle.outside_switch.specs.Meets.{seen};
 ghost use Rattle.command_hosts.specs.Ports.{BeginsAt, HearsTaken, IsOver, Rests, SendsNext, Types, TypesKeys};
 
 use outside_switch::Switch;
-use pair_lines::{Keyboard, Screen};
+use pair_lines::Keyboard;
 use shared_disk::SectorStore;
 use std::alloc::Global;
 
@@ -22,7 +22,6 @@ const KEYS_A_TURN: u64 = 64;
 #[derive(Drop)]
 pub struct PortEnd {
     pub(crate) keyboard: Keyboard,
-    pub(crate) screen: Screen,
     // A key that was not typed yet, since the terminal keeps as many as it can.
     waiting: Option<u8>,
     // How many were typed, and how many the live host has taken.
@@ -35,12 +34,11 @@ pub struct PortEnd {
 
 impl PortEnd {
     /// The end of a port at which nothing was typed yet.
-    pub fn new(keyboard: Keyboard, screen: Screen) -> PortEnd
-        ensures { (result.keyboard ≡ keyboard) × (result.screen ≡ screen) × (result.waiting ≡ None) }
+    pub fn new(keyboard: Keyboard) -> PortEnd
+        ensures { (result.keyboard ≡ keyboard) × (result.waiting ≡ None) }
     {
         PortEnd {
             keyboard,
-            screen,
             waiting: None,
             typed: 0,
             taken: 0,
@@ -49,12 +47,12 @@ impl PortEnd {
         }
     }
 
-    /// The screen, as it is now.
-    pub(crate) fn into_screen(self) -> Screen
-        ensures { result ≡ self.screen }
+    /// The keyboard, as it is now.
+    pub(crate) fn into_keyboard(self) -> Keyboard
+        ensures { result ≡ self.keyboard }
     {
-        let PortEnd { screen, .. } = self;
-        screen
+        let PortEnd { keyboard, .. } = self;
+        keyboard
     }
 
     /// Types the keys that have come. Returns whether one was typed.
@@ -92,7 +90,6 @@ impl PortEnd {
     fn next_key(&mut self) -> Option<u8>
         ensures types { Types [] self.old self.new }
         ensures waits { result ≡ self.new.waiting }
-        ensures screen { self.new.screen ≡ self.old.screen }
     {
         if self.waiting.is_none() {
             self.waiting = self.keyboard.next();

@@ -2,9 +2,9 @@
 ghost use Rattle.command_hosts.specs.Runs.{Ended, IsWhy, Went};
 
 use crate::session::{HostsEnd, Session};
+use crate::steward::Steward;
 use shared_disk::SectorStore;
 use std::alloc::Global;
-use std::io::Write;
 use std::sync::Wait;
 use std::thread::Parker;
 use std::time::{Clock, Duration};
@@ -14,10 +14,10 @@ const REST: u64 = 5;
 
 /// Serves the hosts until there is a reason to end, and then tells them to stop. Whoever has something for the outside wakes it
 /// through the parker.
-pub fn run_hosts<D: SectorStore, N: Write + Drop, C: Wait + Clock>(
+pub fn run_hosts<D: SectorStore, S: Steward + Drop, C: Wait + Clock>(
     rt: &C,
     alloc: Global,
-    session: &mut Session<D, N>,
+    session: &mut Session<D, S>,
     wake: &Parker,
 ) -> HostsEnd
     ensures { Ended result session.old session.new }
@@ -29,10 +29,10 @@ pub fn run_hosts<D: SectorStore, N: Write + Drop, C: Wait + Clock>(
 
 // Serves the hosts until there is a reason to end.
 #[tactic(auto, using(crate::proofs::Going::stays))]
-fn serve<D: SectorStore, N: Write + Drop, C: Wait + Clock>(
+fn serve<D: SectorStore, S: Steward + Drop, C: Wait + Clock>(
     rt: &C,
     alloc: Global,
-    session: &mut Session<D, N>,
+    session: &mut Session<D, S>,
     wake: &Parker,
 ) -> HostsEnd
     ensures went { Went session.old session.new }

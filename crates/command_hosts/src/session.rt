@@ -1,4 +1,4 @@
-//! The outside of a pair: its switch, the user's ends of both ports, and what the turns remember.
+//! The outside of a pair: its switch, the user's ends of both ports, the screen, and what the turns remember.
 ghost use Rattle.std.specs.Prelude.{◌≡◌, [], IfErr, IfOk, IsOkUnless, OnErr, OnOk, Some, if◌then◌else◌, length, nat_lt};
 ghost use Rattle.i8080_words.specs.declared.refusal.Fault.TheVariants.{OutOfMemory, Unknown};
 ghost use Rattle.outside_devices.specs.Held.{at_boot};
@@ -7,13 +7,13 @@ ghost use Rattle.outside_switch.specs.declared.line.HostLine.{HostLine};
 ghost use Rattle.outside_switch.specs.Meets.{seen};
 
 use crate::port::PortEnd;
+use crate::steward::Steward;
 use i8080_words::R;
 use outside_switch::Switch;
-use pair_lines::Screen;
+use pair_lines::{Keyboard, Screen};
 use rtrb::{Consumer, Producer};
 use shared_disk::{SectorStore, SharedDisk};
 use std::alloc::Global;
-use std::io::Write;
 use std::sync::Arc;
 use std::thread::Parker;
 
@@ -30,16 +30,19 @@ pub enum HostsEnd {
     Settled,
     /// No host is left that has the machine.
     NoHosts,
+    /// The steward has stopped it.
+    Stopped,
 }
 
 /// The outside of a pair.
 #[derive(Drop)]
-pub struct Session<D: SectorStore, N: Write + Drop> {
+pub struct Session<D: SectorStore, S: Steward + Drop> {
     pub(crate) switch: Switch<D>,
     pub(crate) first: PortEnd,
     pub(crate) second: PortEnd,
+    pub(crate) screen: Screen,
     pub(crate) quits: Consumer<Quit>,
-    pub(crate) notes: N,
+    pub(crate) steward: S,
     pub(crate) moments: Moments,
 }
 
@@ -56,17 +59,19 @@ pub(crate) struct Moments {
     pub(crate) live: Option<(u8, u32)>,
 }
 
-impl<D: SectorStore, N: Write + Drop> Session<D, N> {
+impl<D: SectorStore, S: Steward + Drop> Session<D, S> {
     /// An outside without hosts, over a disk's store.
     pub fn new(
         alloc: Global,
         store: D,
         first: PortEnd,
         second: PortEnd,
+        screen: Screen,
         quits: Consumer<Quit>,
-        notes: N,
-    ) -> R<Session<D, N>>
-        ensures ok { IfOk result (λ session. (session.first ≡ first) × (session.second ≡ second) × (seen session.switch
+        steward: S,
+    ) -> R<Session<D, S>>
+        ensures ok { IfOk result (λ session. (session.first ≡ first) × (session.second ≡ second)
+            × (session.screen ≡ screen) × (session.quits ≡ quits) × (seen session.switch
             ≡ record { devices = record (at_boot (D.records store) (D.may_fail store)) { hosts = 2 }; lines = [] })) }
         ensures only_memory { IsOkUnless result OutOfMemory }
     {
@@ -75,8 +80,9 @@ impl<D: SectorStore, N: Write + Drop> Session<D, N> {
             switch,
             first,
             second,
+            screen,
             quits,
-            notes,
+            steward,
             moments: Moments {
                 turned: 0,
                 ticked: 0,
@@ -99,25 +105,43 @@ impl<D: SectorStore, N: Write + Drop> Session<D, N> {
         ensures err { OnErr result (seen self.new.switch ≡ seen self.old.switch) }
         ensures why { IfErr result
             (λ fault. fault ≡ (if nat_lt (length self.old.switch.lines.items) 256 then OutOfMemory else Unknown)) }
-        ensures ports { (self.new.first ≡ self.old.first) × (self.new.second ≡ self.old.second) }
+        ensures others { (self.new.first ≡ self.old.first) × (self.new.second ≡ self.old.second)
+            × (self.new.screen ≡ self.old.screen) × (self.new.quits ≡ self.old.quits) }
     {
         self.switch.add(from, to, wake)
     }
 
-    /// The screen of the first port, on which nothing more is shown.
-    pub fn into_screen(self) -> Screen
-        ensures { result ≡ self.first.screen }
+    /// What it is made of, once it has gone to its end.
+    pub fn into_parts(self) -> SessionParts<D, S>
+        ensures disk { D.records result.disk ≡ self.switch.devices.records }
+        ensures keyboards { (result.keyboards.0 ≡ self.first.keyboard) × (result.keyboards.1 ≡ self.second.keyboard) }
+        ensures others { (result.screen ≡ self.screen) × (result.quits ≡ self.quits) × (result.steward ≡ self.steward) }
     {
-        let Session { first, .. } = self;
-        first.into_screen()
+        let Session {
+            switch,
+            first,
+            second,
+            screen,
+            quits,
+            steward,
+            ..
+        } = self;
+        SessionParts {
+            disk: switch.into_disk(),
+            keyboards: (first.into_keyboard(), second.into_keyboard()),
+            screen,
+            quits,
+            steward,
+        }
     }
+}
 
-    /// The disk, as it is now, and the notes.
-    pub fn into_parts(self) -> (SharedDisk<D>, N)
-        ensures disk { D.records result.0 ≡ self.switch.devices.records }
-        ensures notes { result.1 ≡ self.notes }
-    {
-        let Session { switch, notes, .. } = self;
-        (switch.into_disk(), notes)
-    }
+/// What a session leaves.
+#[derive(Drop)]
+pub struct SessionParts<D: SectorStore, S: Drop> {
+    pub disk: SharedDisk<D>,
+    pub keyboards: (Keyboard, Keyboard),
+    pub screen: Screen,
+    pub quits: Consumer<Quit>,
+    pub steward: S,
 }

@@ -4,19 +4,17 @@ ghost use Rattle.outside_switch.specs.Passing.{Shown, passed_of};
 ghost use Rattle.outside_switch.specs.declared.heard.Heard.{Heard};
 ghost use Rattle.outside_switch.specs.declared.heard.Heard.TheVariants as of_heard;
 ghost use Rattle.outside_switch.specs.Heeds.{HasRoomFor};
-ghost use Rattle.command_hosts.specs.Ports.{Serves};
 ghost use Rattle.command_hosts.specs.Runs.{IsTold, IsWhy, MayShow, SeesLive, Went, have_no_machine};
 ghost use Rattle.command_hosts.specs.declared.session.HostsEnd.TheVariants as ending;
 
 use crate::live::{Live, live_of, spare_for};
-use crate::notes::{note, words_of};
 use crate::session::{HostsEnd, Session};
+use crate::steward::{HostEvent, Steward};
 use event_callbacks::PORTS;
 use outside_switch::{Heard, HostLine};
 use pair_events::Role;
 use shared_disk::SectorStore;
 use std::alloc::Global;
-use std::io::Write;
 
 /// How many bodies of one host are taken in a turn at most, so that none keeps the others waiting.
 const BODIES_A_TURN: u64 = 512;
@@ -33,12 +31,13 @@ const SETTLED: u64 = 1_000_000;
 /// After how many microseconds without a turn the outside was itself stopped: nothing that it has not seen says anything of a host.
 const STOPPED: u64 = 250_000;
 
-impl<D: SectorStore, N: Write + Drop> Session<D, N> {
+impl<D: SectorStore, S: Steward + Drop> Session<D, S> {
     /// One turn, at this time. Returns whether anything has come.
     pub(crate) fn turn(&mut self, alloc: Global, now: u64) -> bool
         ensures { Went self.old self.new }
     {
         self.see_stop(now);
+        self.see_fate();
         let has_keys = self.take_keys(now);
         let has_bodies = self.hear_all(alloc, now);
         self.see_ends(alloc);
@@ -56,6 +55,15 @@ impl<D: SectorStore, N: Write + Drop> Session<D, N> {
             self.moments.moved = now;
         }
         self.moments.turned = now;
+    }
+
+    // From now on packets between hosts fare as the steward wants it.
+    #[tactic(auto, using(crate::proofs::Going::seen_same))]
+    fn see_fate(&mut self)
+        ensures { Went self.old self.new }
+    {
+        let fate = self.steward.fate();
+        self.switch.set_fate(fate);
     }
 
     // Types the keys that have come at both ports.
@@ -128,55 +136,54 @@ impl<D: SectorStore, N: Write + Drop> Session<D, N> {
     {
         let rooms = self.rooms();
         let heard = self.switch.hear(alloc, place, rooms);
-        self.tell(alloc, now, place, heard);
+        self.tell(now, place, heard);
         !matches!(heard, Heard::Nothing)
     }
 
-    // Whether the screen of each port has room.
+    // Whether the screen has room for a byte of each port.
     fn rooms(&mut self) -> [bool; PORTS]
-        ensures switch { self.new.switch ≡ self.old.switch }
-        ensures first { Serves 0 [] self.old.first self.new.first }
-        ensures second { Serves 1 [] self.old.second self.new.second }
-        ensures room { (heard : Heard) → HasRoomFor result heard
-            → MayShow self.new.first.screen self.new.second.screen heard }
+        ensures told { IsTold [] self.old self.new }
+        ensures room { (heard : Heard) → HasRoomFor result heard → MayShow self.new.screen heard }
     {
-        [self.first.screen.has_room(), self.second.screen.has_room()]
+        let has_room = self.screen.has_room();
+        [has_room, has_room]
     }
 
     // Shows and tells what was heard of a host.
-    #[tactic(auto, using(crate::proofs::Going::told_since, crate::proofs::Going::tells_nothing))]
-    fn tell(&mut self, alloc: Global, now: u64, place: u8, heard: Heard)
-        requires { MayShow self.old.first.screen self.old.second.screen heard }
+    #[tactic(auto, using(crate::proofs::Going::tells_nothing))]
+    fn tell(&mut self, now: u64, place: u8, heard: Heard)
+        requires { MayShow self.old.screen heard }
         ensures { IsTold (passed_of heard) self.old self.new }
     {
-        if let Some(words) = words_of(heard) {
-            note(&mut self.notes, alloc, place, words);
-        }
         match heard {
             Heard::Shown { port, byte } => self.show(now, port, byte),
             Heard::Written => self.moments.moved = now,
-            Heard::Nothing => {}
-            Heard::Met => {}
-            Heard::Unwritten => {}
-            Heard::Became(_) => {}
-            Heard::Won(_) => {}
-            Heard::Lost(_) => {}
-            Heard::Failed => {}
+            Heard::Nothing | Heard::Met => {}
+            Heard::Unwritten => self.steward.hears(place, HostEvent::Unwritten),
+            Heard::Became(role) => self.see_role(place, role),
+            Heard::Won(generation) => self.steward.hears(place, HostEvent::Won(generation)),
+            Heard::Lost(generation) => self.steward.hears(place, HostEvent::Lost(generation)),
+            Heard::Failed => self.steward.hears(place, HostEvent::Failed),
         }
     }
 
-    // Shows a byte that a terminal has accepted, since its screen had room.
-    #[tactic(auto, using(crate::proofs::Going::shows_first, crate::proofs::Going::shows_second))]
+    // Shows a byte that a terminal has accepted, since the screen had room.
+    #[tactic(auto, using(crate::proofs::Going::shows))]
     fn show(&mut self, now: u64, port: u8, byte: u8)
-        requires { MayShow self.old.first.screen self.old.second.screen (of_heard.Shown port byte) }
+        requires { MayShow self.old.screen (of_heard.Shown port byte) }
         ensures { IsTold (Shown port byte ∷ []) self.old self.new }
     {
         self.moments.moved = now;
-        if port == 0 {
-            self.first.screen.show(port, byte);
-        } else {
-            self.second.screen.show(port, byte);
-        }
+        self.screen.show(port, byte);
+    }
+
+    // The host at a place reports another role.
+    #[tactic(auto, using(crate::proofs::Going::tells_nothing))]
+    fn see_role(&mut self, place: u8, role: Option<Role>)
+        ensures { IsTold [] self.old self.new }
+    {
+        let generation = generation_at(self.switch.lines(), place);
+        self.steward.hears(place, HostEvent::Became(generation, role));
     }
 
     // Hosts whose streams have ended are gone.
@@ -198,7 +205,7 @@ impl<D: SectorStore, N: Write + Drop> Session<D, N> {
             return;
         }
         self.switch.gone(alloc, place);
-        note(&mut self.notes, alloc, place, "is gone");
+        self.steward.hears(place, HostEvent::Gone);
     }
 
     // Sends the live host its keys, and has it begin with a spare if it is alone.
@@ -245,7 +252,7 @@ impl<D: SectorStore, N: Write + Drop> Session<D, N> {
     }
 
     // Has a host that is alone begin with a spare, if there is one.
-    #[tactic(auto, using(crate::proofs::Going::stays, crate::proofs::Going::switched))]
+    #[tactic(auto, using(crate::proofs::Going::stays, crate::proofs::Going::same, crate::proofs::Going::switched))]
     fn begin(&mut self, alloc: Global, now: u64, live: &Live)
         ensures { Went self.old self.new }
     {
@@ -256,13 +263,14 @@ impl<D: SectorStore, N: Write + Drop> Session<D, N> {
             return;
         };
         let Some(spare) = spare_for(self.switch.lines(), generation) else {
+            self.steward.hears(live.place, HostEvent::Alone);
             return;
         };
         if !self.switch.send_begin(alloc, live.place, generation, spare) {
             return;
         }
         self.moments.begun = now;
-        note(&mut self.notes, alloc, spare, "is to be the next backup");
+        self.steward.hears(spare, HostEvent::Joins(generation));
     }
 
     // Tells all hosts that the switch is there.
@@ -275,6 +283,7 @@ impl<D: SectorStore, N: Write + Drop> Session<D, N> {
         }
         self.moments.ticked = now;
         self.switch.tick(alloc);
+        self.steward.looks(self.switch.lines());
     }
 
     /// Why all ends now, if it does.
@@ -285,6 +294,9 @@ impl<D: SectorStore, N: Write + Drop> Session<D, N> {
     {
         if self.quits.pop().is_ok() {
             return Some(HostsEnd::UserQuit);
+        }
+        if self.steward.is_over() {
+            return Some(HostsEnd::Stopped);
         }
         if is_deserted(self.switch.lines()) {
             return Some(HostsEnd::NoHosts);
@@ -313,4 +325,15 @@ fn is_deserted(lines: &[HostLine]) -> bool
     lines
         .iter()
         .all(|line| line.is_cut() || line.number().is_none())
+}
+
+// Of which generation the host at a place is, by what it reported last; 0 if it has reported nothing.
+fn generation_at(lines: &[HostLine], place: u8) -> u32 {
+    let Some(line) = lines.get(usize::from(place)) else {
+        return 0;
+    };
+    match line.report() {
+        Some(report) => report.generation,
+        None => 0,
+    }
 }

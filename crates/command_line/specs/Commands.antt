@@ -68,9 +68,12 @@ host_options = by_default (codes "spare") (text_option (codes "role"))
 abbrev pub hosts_options : List Rule
 hosts_options = by_default (codes ".") (text_option (codes "folder"))
     ∷ by_default (codes "3") (number_option (codes "places") 2 99)
-    ∷ by_default (codes "5") (number_option (codes "quit") 0 255)
+    ∷ by_default (codes "5") (number_option (codes "escape") 0 255)
     ∷ by_default (codes "0") (number_option (codes "before") 0 1099511627776)
     ∷ text_option (codes "images")
+    ∷ text_option (codes "saved")
+    ∷ text_option (codes "mark")
+    ∷ flag_option (codes "apart")
     ∷ []
 
 -- a command with these options

@@ -118,13 +118,17 @@ pub record IsHostOrdered (rows : List Row) (images : List ℕ) (order : HostOrde
   pub before : IsGivenOr 64 0 (one_of (codes "before") rows) order.before
   pub images_are : order.images.items ≡ images
 
--- the same of `hosts`: its folder, how many places there are, the key that ends all, and how much comes before the first key
+-- the same of `hosts`: its folder, how many places there are, the key that opens a command line, how much comes before the first key, the drives
+-- whose disks are saved, and the mark before these
 pub record IsHostsOrdered (rows : List Row) (images : List ℕ) (order : HostsOrder) : Type 0 where
   pub folder : string_bytes order.folder ≡ text_given rows (codes "folder")
   pub places : IsGivenOr 64 3 (one_of (codes "places") rows) order.places
-  pub quit : IsGivenOr 8 5 (one_of (codes "quit") rows) order.quit
+  pub escape : IsGivenOr 8 5 (one_of (codes "escape") rows) order.escape
   pub before : IsGivenOr 64 0 (one_of (codes "before") rows) order.before
   pub images_are : order.images.items ≡ images
+  pub saved : order.saved.items ≡ drives_in rows (codes "saved")
+  pub mark : string_bytes order.mark ≡ text_given rows (codes "mark")
+  pub apart : IsFlag (one_of (codes "apart") rows) order.apart
 
 -- the word that names the command: the one after the program's name; [] if there is none
 abbrev pub command_word : List Text → Text

@@ -92,8 +92,6 @@ const FOLDER_HELP: &str =
 const PLACES_HELP: &str =
     "How many places for hosts there are: the primary has place 0, the backup place 1, spares may come later";
 
-const QUIT_HELP: &str = "The key that ends all, as the number of its byte; 5 is Ctrl-E";
-
 // The commands that run a script: what they do, and how they are called.
 const SCRIPT: (&str, &str) = (
     "Runs a script, and prints a line for each event and query",
@@ -249,9 +247,12 @@ fn hosts_command<'a>(alloc: Global, lists: Lists) -> Result<Command<'a>, AllocEr
     let hosts = plain_command(alloc, "hosts", HOSTS).arg(folder(alloc))?;
     hosts
         .arg(places(alloc))?
-        .arg(quit(alloc))?
+        .arg(escape(alloc))?
         .arg(before(alloc))?
-        .arg(images(alloc, lists))
+        .arg(images(alloc, lists))?
+        .arg(saved(alloc, lists))?
+        .arg(mark(alloc))?
+        .arg(apart(alloc))
 }
 
 // The command with its options that say for how many turns, and when somebody asks.
@@ -277,13 +278,10 @@ fn with_console_numbers<'a>(alloc: Global, console: Command<'a>) -> Result<Comma
     let spares = number(alloc, "spares", 0, 97)
         .default_value("2")
         .help(SPARES_HELP);
-    let escape = number(alloc, "escape", 0, 255)
-        .default_value("5")
-        .help(ESCAPE_HELP);
     let before = number(alloc, "before", 0, MOST_BEFORE)
         .default_value("0")
         .help(BEFORE_HELP);
-    console.arg(spares)?.arg(escape)?.arg(before)
+    console.arg(spares)?.arg(escape(alloc))?.arg(before)
 }
 
 // The command with its options for the link and the disks.
@@ -356,12 +354,12 @@ fn places<'a>(alloc: Global) -> Arg<'a>
         .help(PLACES_HELP)
 }
 
-fn quit<'a>(alloc: Global) -> Arg<'a>
-    ensures { IsOption (by_default (codes "5") (number_option (codes "quit") 0 255)) result }
+fn escape<'a>(alloc: Global) -> Arg<'a>
+    ensures { IsOption (by_default (codes "5") (number_option (codes "escape") 0 255)) result }
 {
-    number(alloc, "quit", 0, 255)
+    number(alloc, "escape", 0, 255)
         .default_value("5")
-        .help(QUIT_HELP)
+        .help(ESCAPE_HELP)
 }
 
 fn mark<'a>(alloc: Global) -> Arg<'a>

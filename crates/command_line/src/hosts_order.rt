@@ -27,10 +27,16 @@ pub struct HostsOrder {
     pub folder: String,
     /// How many places for hosts there are.
     pub places: u64,
-    /// The key that ends all.
-    pub quit: u8,
+    /// The key that opens a command line.
+    pub escape: u8,
     /// How many bytes of the input come before the first key: images, and then a script. Each host is given them too.
     pub before: u64,
     /// The drives whose images come before the script.
     pub images: Vec<u8>,
+    /// The drives whose images are written after the guest's output.
+    pub saved: Vec<u8>,
+    /// What is written between the guest's output and these images.
+    pub mark: String,
+    /// Whether lines about the hosts are handed over between marks.
+    pub apart: bool,
 }

@@ -61,9 +61,6 @@ const PATIENCE: u64 = 1_000;
 // How many places for hosts there are if it does not say.
 const PLACES: u64 = 3;
 
-// The key that ends all hosts if it does not say: Ctrl-E.
-const QUIT: u8 = 5;
-
 /// What the words of a command line ask for; the first word is the program's name.
 #[tactic(auto, using(crate::proofs::Orders::asked_if_found, crate::proofs::Orders::asked_if_help))]
 pub fn request_of(alloc: Global, arguments: &[String]) -> Result<Request, Failure>
@@ -291,14 +288,20 @@ fn hosts_order(
 {
     let folder = text(alloc, matches, "folder")?;
     let places = number(matches, "places").unwrap_or(PLACES);
-    let quit = byte(matches, "quit").unwrap_or(QUIT);
+    let escape = byte(matches, "escape").unwrap_or(ESCAPE);
     let before = number(matches, "before").unwrap_or(0);
+    let saved = saved_in(alloc, matches)?;
+    let mark = text(alloc, matches, "mark")?;
+    let apart = flag(matches, "apart");
     Ok(HostsOrder {
         folder,
         places,
-        quit,
+        escape,
         before,
         images,
+        saved,
+        mark,
+        apart,
     })
 }
 

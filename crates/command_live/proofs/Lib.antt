@@ -1,4 +1,3 @@
 pub mod Living
-pub mod Places
 pub mod Later
 pub mod Writing

@@ -13,7 +13,7 @@ use Rattle.guest_board.specs.Inputs.{some_altair}
 use Rattle.guest_lockstep.specs.Machine.{Machine, booted_from}
 use Rattle.log_entry.specs.declared.entry.Entry.{Entry}
 use Rattle.command_live.specs.Living.{AreBooted, AreTyped, BeginsAs, EndsOf, HasEnded, PrintsLive, PrintsNone, PrintsScreens, Tells, TellsEnd, TellsScreens, WonIn, end_text, typed_by, typed_in, with_byte}
-use Rattle.command_live.specs.Saving.{AreWhole, are_attached, images_of}
+use Rattle.command_saving.specs.Saving.{AreWhole, are_attached, images_of}
 use Rattle.command_ending.specs.Reports.{AddsLine}
 use Rattle.command_ending.specs.declared.failure.Failure.{Failure}
 use Rattle.command_ending.specs.declared.failure.Failure.TheVariants as failure

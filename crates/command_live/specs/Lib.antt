@@ -1,5 +1,4 @@
 pub mod Living
-pub mod Saving
 pub mod Later
 pub mod Lines
 pub mod Roles

@@ -16,7 +16,7 @@ use Rattle.pair_events.specs.declared.event.Event.TheVariants.{TypeByte}
 use Rattle.command_ending.specs.Reports.{AddsLine}
 use Rattle.command_ending.specs.declared.failure.Failure.{Failure}
 use Rattle.command_ending.specs.declared.failure.Failure.TheVariants.{OutOfMemory, InputOrOutput, Stalled}
-use Rattle.command_live.specs.Saving.{AreWhole, are_attached, images_of}
+use Rattle.command_saving.specs.Saving.{AreWhole, are_attached, images_of}
 use Rattle.command_line.specs.declared.live_order.Asker.{Asker}
 use Rattle.command_line.specs.declared.live_order.Asker.TheVariants as asker
 use Rattle.command_line.specs.declared.live_order.LiveOrder.{LiveOrder}

@@ -3,13 +3,13 @@ ghost use Rattle.std.specs.Prelude.{◌≡◌, IfErr, IsTrue, OnOk, false};
 ghost use Rattle.std.specs.Io.KnownBytes.{Appends};
 ghost use Rattle.command_ending.specs.declared.failure.Failure.TheVariants as failure;
 ghost use Rattle.command_live.specs.Living.{PrintsLive, typed_in};
-ghost use Rattle.command_live.specs.Saving.{are_attached};
+ghost use Rattle.command_saving.specs.Saving.{are_attached};
 
 use crate::live;
-use crate::saving::are_attached;
 use command_ending::{Failure, Report};
 use command_input::Input;
 use command_line::LiveOrder;
+use command_saving::are_attached;
 use event_callbacks::plain_completions;
 use std::alloc::Global;
 use std::io::Write;

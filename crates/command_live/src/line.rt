@@ -31,6 +31,10 @@ pub enum Line {
     Lost {
         host: u32,
     },
+    /// This host is cut off, since it has broken the protocol.
+    CutOff {
+        host: u32,
+    },
     /// Two hosts have the machine.
     Begins {
         generation: u32,
@@ -95,6 +99,9 @@ impl fmt::Display for Line {
             Line::Copies { host } => write_copies(f, host),
             Line::Lost { host } => {
                 write_host(f, "host ", host, " has failed before it had the machine")
+            }
+            Line::CutOff { host } => {
+                write_host(f, "host ", host, " is cut off: it has sent what no host sends")
             }
             Line::Begins {
                 generation,

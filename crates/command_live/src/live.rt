@@ -8,7 +8,6 @@ ghost use Rattle.pair_threads.specs.Ending.{WonBy};
 
 use crate::beginning::{Asked, STEPS, workers_of};
 use crate::generations::generations;
-use crate::saving::images_of;
 use crate::teller::{BackupAsks, Teller};
 use crate::watch::Watch;
 use crate::watcher::Watcher;
@@ -16,6 +15,7 @@ use altair_laws::altairs_are_lawful;
 use command_ending::{Failure, Report};
 use command_input::Input;
 use command_line::LiveOrder;
+use command_saving::images_of;
 use event_callbacks::Completes;
 use guest_board::Board;
 use guest_lockstep::Lockstep;

@@ -91,8 +91,11 @@ quit_by_order : (order : Order) → was_quit (ending_of Act.HandsOn order) ≡ l
 quit_by_order Order.Nothing = refl
 quit_by_order (Order.Mistake mistake) = refl
 quit_by_order (Order.Command (Command.Stop host)) = refl
+quit_by_order (Order.Command (Command.Freeze host)) = refl
+quit_by_order (Order.Command (Command.Thaw host)) = refl
 quit_by_order (Order.Command Command.Spare) = refl
 quit_by_order (Order.Command Command.Cut) = refl
+quit_by_order (Order.Command Command.Part) = refl
 quit_by_order (Order.Command Command.Mend) = refl
 quit_by_order (Order.Command (Command.Drop percent)) = refl
 quit_by_order (Order.Command (Command.Speed steps)) = refl

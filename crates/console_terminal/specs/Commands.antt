@@ -41,8 +41,9 @@ after_word line = drop (bytes_before_space (without_spaces line)) (without_space
 -- each command's word
 abbrev pub keywords : List (List ℕ × Keyword)
 keywords =
-    (codes "stop", Keyword.Stop) ∷ (codes "spare", Keyword.Spare) ∷ (codes "cut", Keyword.Cut) ∷ (codes "mend", Keyword.Mend)
-    ∷ (codes "drop", Keyword.Drop) ∷ (codes "speed", Keyword.Speed) ∷ (codes "status", Keyword.Status)
+    (codes "stop", Keyword.Stop) ∷ (codes "freeze", Keyword.Freeze) ∷ (codes "thaw", Keyword.Thaw)
+    ∷ (codes "spare", Keyword.Spare) ∷ (codes "cut", Keyword.Cut) ∷ (codes "part", Keyword.Part)
+    ∷ (codes "mend", Keyword.Mend) ∷ (codes "drop", Keyword.Drop) ∷ (codes "speed", Keyword.Speed) ∷ (codes "status", Keyword.Status)
     ∷ (codes "terminal", Keyword.Terminal) ∷ (codes "save", Keyword.Save) ∷ (codes "picture", Keyword.Picture)
     ∷ (codes "help", Keyword.Help) ∷ (codes "quit", Keyword.Quit) ∷ []
 
@@ -108,6 +109,7 @@ drive_of _ = None
 abbrev pub plain_command : Keyword → Option Command
 plain_command Keyword.Spare = Some Command.Spare
 plain_command Keyword.Cut = Some Command.Cut
+plain_command Keyword.Part = Some Command.Part
 plain_command Keyword.Mend = Some Command.Mend
 plain_command Keyword.Status = Some Command.Status
 plain_command Keyword.Help = Some Command.Help
@@ -117,6 +119,8 @@ plain_command _ = None
 -- the command of a keyword with the word after it
 abbrev pub command_by : Keyword → List ℕ → Option Command
 command_by Keyword.Stop value = option_map (λ (host : ℕ). Command.Stop host) (number_of value)
+command_by Keyword.Freeze value = option_map (λ (host : ℕ). Command.Freeze host) (number_of value)
+command_by Keyword.Thaw value = option_map (λ (host : ℕ). Command.Thaw host) (number_of value)
 command_by Keyword.Drop value = option_map (λ (percent : ℕ). Command.Drop percent) (number_of value)
 command_by Keyword.Speed value = option_map (λ (steps : ℕ). Command.Speed steps) (speed_of value)
 command_by Keyword.Terminal value = option_map (λ port. Command.Terminal port) (port_of value)
@@ -163,6 +167,8 @@ Grows (Some before) (Some now) commands = now ≡ before ++ commands
 abbrev pub mistake_text : Mistake → List ℕ
 mistake_text Mistake.Unknown = codes "no such command; `help` lists them"
 mistake_text (Mistake.Unfit Keyword.Stop) = codes "`stop` is followed by the number of a host"
+mistake_text (Mistake.Unfit Keyword.Freeze) = codes "`freeze` is followed by the number of a host"
+mistake_text (Mistake.Unfit Keyword.Thaw) = codes "`thaw` is followed by the number of a host"
 mistake_text (Mistake.Unfit Keyword.Drop) = codes "`drop` is followed by a number from 0 to 99"
 mistake_text (Mistake.Unfit Keyword.Speed) = codes "`speed` is followed by 0, or by a number from 10000 to 999999999"
 mistake_text (Mistake.Unfit Keyword.Terminal) = codes "`terminal` is followed by 0 or 1"

@@ -9,10 +9,16 @@ use crate::port::Port;
 pub enum Command {
     /// The host of this number fails, and its peer is told so.
     Stop(u8),
+    /// The host of this number stands still.
+    Freeze(u8),
+    /// It goes on.
+    Thaw(u8),
     /// One more spare host comes.
     Spare,
     /// The link loses every packet.
     Cut,
+    /// It loses every packet, and hosts no longer see each other.
+    Part,
     /// It delivers each.
     Mend,
     /// Of 100 packets it loses so many.
@@ -37,8 +43,11 @@ pub enum Command {
 #[derive(Debug, Clone, Copy, PartialEq, Eq)]
 pub enum Keyword {
     Stop,
+    Freeze,
+    Thaw,
     Spare,
     Cut,
+    Part,
     Mend,
     Drop,
     Speed,
@@ -74,8 +83,11 @@ const LEAST_SPEED: u32 = 10_000;
 /// The commands, a line each.
 pub const HELP: &str = "\
 stop N       host N fails, and its peer is told\r\n\
+freeze N     host N, a process, stands still\r\n\
+thaw N       host N goes on\r\n\
 spare        one more spare host comes\r\n\
 cut          the link loses every packet\r\n\
+part         hosts that are processes no longer see each other\r\n\
 mend         the link delivers every packet\r\n\
 drop N       the link loses N of 100 packets\r\n\
 speed N      at most N steps a second (2 MHz: about 300000); 0 is no limit\r\n\
@@ -88,10 +100,13 @@ quit         ends the console\r\n\
 The escape key once more types that key itself; ESC or Ctrl-C leaves the line.";
 
 // Each keyword with its word.
-static KEYWORDS: [(&[u8], Keyword); 12] = [
+static KEYWORDS: [(&[u8], Keyword); 15] = [
     (b"stop", Keyword::Stop),
+    (b"freeze", Keyword::Freeze),
+    (b"thaw", Keyword::Thaw),
     (b"spare", Keyword::Spare),
     (b"cut", Keyword::Cut),
+    (b"part", Keyword::Part),
     (b"mend", Keyword::Mend),
     (b"drop", Keyword::Drop),
     (b"speed", Keyword::Speed),
@@ -211,6 +226,8 @@ fn command_by(keyword: Keyword, value: &[u8]) -> Option<Command>
 {
     match keyword {
         Keyword::Stop => Some(Command::Stop(number_of(value)?)),
+        Keyword::Freeze => Some(Command::Freeze(number_of(value)?)),
+        Keyword::Thaw => Some(Command::Thaw(number_of(value)?)),
         Keyword::Drop => Some(Command::Drop(number_of(value)?)),
         Keyword::Speed => Some(Command::Speed(speed_of(value)?)),
         Keyword::Terminal => Some(Command::Terminal(port_of(value)?)),
@@ -228,6 +245,7 @@ fn plain_command(keyword: Keyword) -> Option<Command>
     match keyword {
         Keyword::Spare => Some(Command::Spare),
         Keyword::Cut => Some(Command::Cut),
+        Keyword::Part => Some(Command::Part),
         Keyword::Mend => Some(Command::Mend),
         Keyword::Status => Some(Command::Status),
         Keyword::Help => Some(Command::Help),
@@ -321,6 +339,8 @@ impl Mistake {
         match self {
             Mistake::Unknown => "no such command; `help` lists them",
             Mistake::Unfit(Keyword::Stop) => "`stop` is followed by the number of a host",
+            Mistake::Unfit(Keyword::Freeze) => "`freeze` is followed by the number of a host",
+            Mistake::Unfit(Keyword::Thaw) => "`thaw` is followed by the number of a host",
             Mistake::Unfit(Keyword::Drop) => "`drop` is followed by a number from 0 to 99",
             Mistake::Unfit(Keyword::Speed) => {
                 "`speed` is followed by 0, or by a number from 10000 to 999999999"

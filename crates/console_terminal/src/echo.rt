@@ -8,6 +8,11 @@ use std::io::{self, ErrorKind, Write};
 use std::thread;
 use std::time::{Clock, Duration};
 
+// For how many microseconds it rests if nothing has come, at first and at most.
+const FIRST_REST: u64 = 50;
+
+const LONGEST_REST: u64 = 1_000;
+
 /// Writes what comes to a display until nothing more can come, and then what is left in its rings. After that no more keys are wanted.
 /// Nor are they if a writer fails: what comes after that is dropped, so that nobody waits for a place in a ring that is full.
 pub fn show_all<C: Clock, W: Write + Drop, N: Write + Drop>(
@@ -53,15 +58,18 @@ fn write_until_over<C: Clock, W: Write + Drop, N: Write + Drop>(
     requires { IsClear display.old }
     ensures { OnOk result (Wrote W.contents N.contents display.old display.new) }
 {
+    let mut rest = FIRST_REST;
     for _ in 0..u64::MAX {
         if let Some(over) = signs.over() {
             return Ok(over);
         }
         if display.turn()? {
             signs.moves();
-        } else {
-            thread::sleep(clock, Duration::from_millis(1));
+            rest = FIRST_REST;
+            continue;
         }
+        thread::sleep(clock, Duration::from_micros(rest));
+        rest = rest.saturating_mul(2).min(LONGEST_REST);
     }
     Err(io::Error::from(ErrorKind::TimedOut))
 }

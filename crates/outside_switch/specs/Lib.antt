@@ -6,3 +6,4 @@ pub mod Passing
 pub mod Meets
 pub mod Goes
 pub mod Runs
+pub mod Links

@@ -4,6 +4,7 @@
 mod heard;
 mod laws;
 mod line;
+mod link;
 mod meeting;
 mod places;
 mod switch;
@@ -13,4 +14,5 @@ mod tests;
 pub use heard::Heard;
 pub use laws::{numbers_stay_apart, switch_runs};
 pub use line::HostLine;
+pub use link::Fate;
 pub use switch::Switch;

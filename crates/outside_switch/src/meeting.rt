@@ -95,7 +95,7 @@ impl<D: SectorStore> Switch<D> {
         }
     }
 
-    // A frame is passed on to the host at a place.
+    // A frame is passed on to the host at a place, unless the link loses it.
     #[tactic(auto, using(crate::proofs::Acting::passed_met, crate::proofs::Acting::still_met))]
     fn pass(&mut self, alloc: Global, host: u8, frame: &Frame<'_>) -> Heard
         ensures meets { (place : ℕ) (heard : Said)
@@ -105,6 +105,9 @@ impl<D: SectorStore> Switch<D> {
     {
         if usize::from(host) >= self.lines.len() {
             return Heard::Failed;
+        }
+        if self.link.loses(is_beat(frame)) {
+            return Heard::Met;
         }
         let _ = places::post(&mut self.lines, alloc, host, frame);
         Heard::Met
@@ -258,4 +261,12 @@ fn has_room(rooms: [bool; PORTS], port: u8) -> bool
 {
     let [first, second] = rooms;
     if port == 0 { first } else { second }
+}
+
+// Whether a frame is a packet without an entry, an acknowledgement or a part: it says only that its host is there.
+fn is_beat(frame: &Frame<'_>) -> bool {
+    match frame {
+        Frame::Packet { bytes, .. } => bytes.is_empty(),
+        _ => false,
+    }
 }

@@ -14,6 +14,7 @@ ghost use Rattle.outside_switch.specs.Passing.{passed_of, typed_of};
 
 use crate::heard::Heard;
 use crate::line::HostLine;
+use crate::link::{Fate, Link};
 use crate::places;
 use event_callbacks::PORTS;
 use host_frames::{Frame, Notice, Transfer, frame_of};
@@ -31,6 +32,7 @@ use std::thread::Parker;
 pub struct Switch<D: SectorStore> {
     pub(crate) devices: OutsideDevices<D>,
     pub(crate) lines: Vec<HostLine>,
+    pub(crate) link: Link,
 }
 
 impl<D: SectorStore> Switch<D> {
@@ -46,6 +48,7 @@ impl<D: SectorStore> Switch<D> {
         Ok(Switch {
             devices,
             lines: Vec::new(alloc),
+            link: Link::new(),
         })
     }
 
@@ -75,6 +78,14 @@ impl<D: SectorStore> Switch<D> {
         ensures { result.now ≡ self.now.lines.items }
     {
         &self.lines
+    }
+
+    /// From now on this becomes of packets between hosts.
+    pub fn set_fate(&mut self, fate: Fate)
+        ensures fate { self.new.link.fate ≡ fate }
+        ensures same { seen self.new ≡ seen self.old }
+    {
+        self.link.fate = fate;
     }
 
     /// Takes the next body of the host at a place, and does what it asks for. The screen of each port may have room. A host that has

@@ -1,6 +1,6 @@
 //! What no contract says: that frames go while there is room, and to whom.
 
-use crate::{Heard, Switch};
+use crate::{Fate, Heard, Switch};
 use host_frames::{Frame, Notice, Report, Transfer, spelled};
 use i8080_words::R;
 use rtrb::{Consumer, Producer, RingBuffer};
@@ -38,6 +38,11 @@ impl Host {
         let body = Vec::from_slice(alloc, bytes.get(4..).unwrap_or(&[]))?;
         let _ = self.to.push(body).is_ok();
         Ok(())
+    }
+
+    // Whether a frame has come, which is dropped.
+    fn has_come(&mut self) -> bool {
+        self.from.pop().is_ok()
     }
 
     fn is_told(&mut self, alloc: Global, frame: &Frame<'_>) -> R<bool> {
@@ -114,5 +119,30 @@ fn a_spare_is_given_to_a_generation(rt: HostRuntime) -> Result<(), Fail> {
     };
     assert!(rt; spare.is_told(alloc, &Frame::Notice(joined))?);
     assert!(rt; !switch.send_begin(alloc, 0, 3, 2));
+    Ok(())
+}
+
+#[test]
+fn a_packet_is_lost_and_a_beat_passes(rt: HostRuntime) -> Result<(), Fail> {
+    let alloc = rt.alloc();
+    let mut switch = Switch::new(alloc, MemoryStore::new(alloc, 1)?)?;
+    let mut host = add(alloc, &mut switch)?;
+    let mut other = add(alloc, &mut switch)?;
+    let beat = Frame::Packet { host: 1, bytes: &[] };
+    let packet = Frame::Packet { host: 1, bytes: &[65] };
+    for (fate, frame, passes) in [
+        (Fate::Passes, &packet, true),
+        (Fate::Passes, &beat, true),
+        (Fate::Loses(100), &packet, false),
+        (Fate::Loses(100), &beat, true),
+        (Fate::Loses(0), &packet, true),
+        (Fate::Parts, &packet, false),
+        (Fate::Parts, &beat, false),
+    ] {
+        switch.set_fate(fate);
+        host.say(alloc, frame)?;
+        assert!(rt; switch.hear(alloc, 0, ROOM) == Heard::Met);
+        assert!(rt; other.has_come() == passes);
+    }
     Ok(())
 }

@@ -1,8 +1,9 @@
 //! One run of the program as a process of a pair: over standard input and standard output as they are.
 
 use command_ending::Failure;
-use command_host::{OutsideStreams, ending_of_host, ending_of_hosts, run_host, run_outside};
+use command_host::{ending_of_host, ending_of_hosts, run_host};
 use command_line::{HostOrder, HostsOrder, Request, request_of};
+use console_hosts::{Streams, run_console_of_hosts};
 use std::alloc::Global;
 use std::borrow::CowStr;
 use std::sync::Wait;
@@ -43,12 +44,12 @@ fn hosts_ending<H: Threads + Wait + Clock + Copy + Drop + Send + Sync + 'static>
     alloc: Global,
     order: &HostsOrder,
 ) -> Result<(u8, &'static str), Failure> {
-    let streams = OutsideStreams {
+    let streams = Streams {
         reader: host.stdin(),
         writer: host.stdout(),
         notes: host.stderr(),
     };
-    let end = run_outside(rt, host, alloc, order, streams)?;
+    let end = run_console_of_hosts(rt, host, alloc, order, streams)?;
     Ok(ending_of_hosts(end))
 }
 

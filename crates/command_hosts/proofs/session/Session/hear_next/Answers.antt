@@ -1,7 +1,7 @@
 -- The host was heard, and what is to be shown of it was.
 use Rattle.std.proofs.Common.{refl}
 use Rattle.outside_switch.specs.Passing.{passed_of}
-use Rattle.command_hosts.proofs.Going.{hears}
+use Rattle.command_hosts.proofs.Going.{hears, types_nothing}
 use Rattle.command_hosts.proofs.session.Session.hear_next.Goals as goal
 
 pub tell-requires : goal.tell-requires
@@ -10,5 +10,5 @@ tell-requires g c = c.rooms-rooms.ensures.room c.hear-heard.result c.hear-heard.
 pub returns : goal.returns
 returns g c =
     hears c.args.self.now c.rooms-rooms.new.self (record c.rooms-rooms.new.self { switch = c.hear-heard.new.self })
-    c.tell.new.self (passed_of c.hear-heard.result) c.rooms-rooms.ensures.switch c.hear-heard.ensures.goes refl refl
-    c.rooms-rooms.ensures.first c.rooms-rooms.ensures.second c.tell.ensures
+    c.tell.new.self (passed_of c.hear-heard.result) (types_nothing c.hear-heard.result 0) (types_nothing c.hear-heard.result 1)
+    c.rooms-rooms.ensures.told c.hear-heard.ensures.goes refl refl refl c.tell.ensures

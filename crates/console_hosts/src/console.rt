@@ -1,0 +1,207 @@
+//! A console whose hosts are processes, from the files that come first to the disks that are saved.
+ghost use Rattle.std.specs.Prelude.{IfOk};
+ghost use Rattle.console_hosts.specs.Console.{HasRun, HasServed, OpensFor};
+ghost use Rattle.console_hosts.specs.Sitting.{AreOpen};
+
+use crate::seats::Seats;
+use crate::session::{Desktop, Ends, Left, sit};
+use crate::supervisor::Supervisor;
+use crate::teller::Teller;
+use command_console::{Mirrored, mirrored_store, write_greeting};
+use command_ending::Failure;
+use command_host::{Pipes, add_places, read_opening};
+use command_hosts::{HostsEnd, PortEnd, Session};
+use command_input::{Input, Language, read_input};
+use command_line::HostsOrder;
+use command_saving::save_disks;
+use console_terminal::Signs;
+use i8080_words::R;
+use pair_lines::{Keyboard, Screen};
+use rtrb::RingBuffer;
+use script_language::Script;
+use std::alloc::{AllocError, Global};
+use std::io::{IsTerminal, Read, Write};
+use std::sync::{Arc, Wait};
+use std::thread::{Parker, Threads};
+use std::time::Clock;
+
+// How many keys, and how many bytes that a terminal has accepted, wait at most.
+const BYTES: usize = 4_096;
+
+// How many notes, and how many lines about the hosts, wait at most.
+const LINES: usize = 1_024;
+
+/// The streams of a console.
+#[derive(Drop)]
+pub struct Streams<R, W, N> {
+    /// Files, and then keys.
+    pub reader: R,
+    /// The guest's bytes, and then the disks that are saved.
+    pub writer: W,
+    /// Notes on commands, and lines about the hosts.
+    pub notes: N,
+}
+
+/// Opens an outside as the images and the script say that come first, and lets one sit at its pair: further bytes are keys or commands,
+/// and what its terminals accept is written as it is accepted. Its hosts are at the ends of named pipes. It ends at the command `quit`, once
+/// no more keys can come and the pair does nothing more, or if no host is left; then the disks that are saved are written, as they are then.
+pub fn run_console_of_hosts<
+    H: Threads + Wait + Clock + Copy + Drop + Send + Sync + 'static,
+    R: Read + IsTerminal + Drop + Send + 'static,
+    W: Write + Drop + Send + 'static,
+    N: Write + Drop + Send + 'static,
+>(
+    rt: H,
+    files: HostRuntime,
+    alloc: Global,
+    order: &HostsOrder,
+    streams: Streams<R, W, N>,
+) -> Result<HostsEnd, Failure>
+    ensures { IfOk result (λ end. HasServed R.remaining W.contents N.contents order.now streams end) }
+{
+    let Streams {
+        mut reader,
+        writer,
+        mut notes,
+    } = streams;
+    let opening = read_opening(alloc, order.before, &mut reader)?;
+    let input = read_input(
+        alloc,
+        Language::Threads,
+        &order.images,
+        &mut opening.as_slice(),
+    )?;
+    write_greeting(alloc, order.escape, &mut notes)?;
+    let streams = Streams {
+        reader,
+        writer,
+        notes,
+    };
+    run_input(
+        rt,
+        files,
+        alloc,
+        order,
+        (input, Arc::new(alloc, opening)?),
+        streams,
+    )
+}
+
+// Lets one sit at the pair of an input, which its hosts are given as it came, and writes the disks that are saved.
+fn run_input<
+    H: Threads + Wait + Clock + Copy + Drop + Send + Sync + 'static,
+    R: Read + IsTerminal + Drop + Send + 'static,
+    W: Write + Drop + Send + 'static,
+    N: Write + Drop + Send + 'static,
+>(
+    rt: H,
+    files: HostRuntime,
+    alloc: Global,
+    order: &HostsOrder,
+    opening: (Input, Arc<Vec<u8>>),
+    streams: Streams<R, W, N>,
+) -> Result<HostsEnd, Failure>
+    ensures { IfOk result (λ end. HasRun R.remaining W.contents N.contents order.now opening.0 streams end) }
+{
+    let (input, bytes) = opening;
+    let prepared = prepare(alloc, order, &input)?;
+    let Prepared {
+        mut session,
+        ends,
+        supervisor,
+        signs,
+    } = prepared;
+    let Input { script, .. } = input;
+    let Script { lines, .. } = script;
+    let wake = Arc::new(alloc, Parker::new())?;
+    let pipes = Pipes {
+        files,
+        folder: order.folder.as_str(),
+        opening: &bytes,
+    };
+    add_places(rt, alloc, &pipes, order.places, &wake, &mut session)?;
+    let desktop = Desktop {
+        escape: order.escape,
+        lines,
+        supervisor,
+        wake,
+        signs,
+    };
+    let left = sit(rt, alloc, session, ends, desktop, streams)?;
+    let Left {
+        end,
+        disk,
+        mut writer,
+        notes: _notes,
+    } = left;
+    save_disks(
+        alloc,
+        disk,
+        &order.saved,
+        order.mark.as_bytes(),
+        &mut writer,
+    )?;
+    Ok(end)
+}
+
+/// What a console begins with.
+#[derive(Drop)]
+struct Prepared {
+    session: Session<Mirrored, Teller>,
+    ends: Ends,
+    supervisor: Supervisor,
+    signs: Arc<Signs>,
+}
+
+// The outside of an input, with no place for a host yet.
+fn prepare(alloc: Global, order: &HostsOrder, input: &Input) -> R<Prepared>
+    ensures opens { IfOk result (λ p. OpensFor input.now p.session) }
+    ensures open { IfOk result (λ p. AreOpen p.session p.ends) }
+{
+    let (store, shelf) = mirrored_store(alloc, input)?;
+    let seats = Arc::new(alloc, Seats::new(alloc))?;
+    let signs = Arc::new(alloc, Signs::new())?;
+    let (first, keys0) = RingBuffer::new(alloc, BYTES)?;
+    let (second, keys1) = RingBuffer::new(alloc, BYTES)?;
+    let (screen, shown) = RingBuffer::new(alloc, BYTES)?;
+    let (quits, quits_from) = RingBuffer::new(alloc, 1)?;
+    let notes = RingBuffer::new(alloc, LINES)?;
+    let (lines_to, lines) = RingBuffer::new(alloc, LINES)?;
+    let teller = Teller::new(
+        alloc,
+        Arc::try_clone(&seats)?,
+        Arc::try_clone(&signs)?,
+        lines_to,
+        mark_of_lines(alloc, order)?,
+    );
+    let supervisor = Supervisor::new(alloc, seats, shelf, order.mark.clone()?);
+    let session = Session::new(
+        alloc,
+        store,
+        PortEnd::new(Keyboard::of(keys0)),
+        PortEnd::new(Keyboard::of(keys1)),
+        Screen::of(screen),
+        quits_from,
+        teller,
+    )?;
+    let ends = Ends {
+        first,
+        second,
+        quits,
+        shown,
+        notes,
+        lines,
+    };
+    Ok(Prepared {
+        session,
+        ends,
+        supervisor,
+        signs,
+    })
+}
+
+// The mark between which lines about the hosts are handed over, if they are.
+fn mark_of_lines(alloc: Global, order: &HostsOrder) -> Result<String, AllocError> {
+    let mark = order.mark.clone()?;
+    Ok(if order.apart { mark } else { String::new(alloc) })
+}
