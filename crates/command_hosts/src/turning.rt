@@ -183,7 +183,8 @@ impl<D: SectorStore, S: Steward + Drop> Session<D, S> {
         ensures { IsTold [] self.old self.new }
     {
         let generation = generation_at(self.switch.lines(), place);
-        self.steward.hears(place, HostEvent::Became(generation, role));
+        self.steward
+            .hears(place, HostEvent::Became(generation, role));
     }
 
     // Hosts whose streams have ended are gone.

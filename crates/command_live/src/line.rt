@@ -101,7 +101,12 @@ impl fmt::Display for Line {
                 write_host(f, "host ", host, " has failed before it had the machine")
             }
             Line::CutOff { host } => {
-                write_host(f, "host ", host, " is cut off: it has sent what no host sends")
+                write_host(
+                    f,
+                    "host ",
+                    host,
+                    " is cut off: it has sent what no host sends",
+                )
             }
             Line::Begins {
                 generation,

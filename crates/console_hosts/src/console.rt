@@ -203,5 +203,9 @@ fn prepare(alloc: Global, order: &HostsOrder, input: &Input) -> R<Prepared>
 // The mark between which lines about the hosts are handed over, if they are.
 fn mark_of_lines(alloc: Global, order: &HostsOrder) -> Result<String, AllocError> {
     let mark = order.mark.clone()?;
-    Ok(if order.apart { mark } else { String::new(alloc) })
+    Ok(if order.apart {
+        mark
+    } else {
+        String::new(alloc)
+    })
 }

@@ -152,12 +152,7 @@ fn typed_by(port: u8, line: &Line) -> Option<u8>
 }
 
 // Hands a key on, if there is one, once there is room. Returns false if it was stopped.
-fn press<C: Clock>(
-    clock: &C,
-    ring: &mut Producer<Stroke>,
-    key: Option<u8>,
-    signs: &Signs,
-) -> bool
+fn press<C: Clock>(clock: &C, ring: &mut Producer<Stroke>, key: Option<u8>, signs: &Signs) -> bool
     ensures { HasPressed key result ring.old ring.new }
 {
     let Some(byte) = key else {

@@ -144,15 +144,7 @@ fn begin<
         lines,
         quits,
     };
-    let display = Display::new(
-        alloc,
-        writer,
-        notes,
-        Port::Zero,
-        shown,
-        notes_from,
-        told,
-    );
+    let display = Display::new(alloc, writer, notes, Port::Zero, shown, notes_from, told);
     let hearing = start_hearing(rt, hearing, Arc::try_clone(&signs)?)?;
     let showing = start_showing(rt, display, signs)?;
     Ok(Beside { hearing, showing })
@@ -240,11 +232,7 @@ fn await_keys<
     H: Threads + Clock + Copy + Drop + Send + Sync + 'static,
     S: KeySource + Drop + Send + 'static,
     I: Interpreter + Drop + Send + 'static,
->(
-    rt: H,
-    hearing: HearingThread<S, I>,
-    keyboards: (Keyboard, Keyboard),
-) -> Result<Ending, Failure>
+>(rt: H, hearing: HearingThread<S, I>, keyboards: (Keyboard, Keyboard)) -> Result<Ending, Failure>
     requires { MayHear hearing.promise.0.value keyboards }
     ensures { IfOk result (λ e. WasHeard S.left I.given e hearing.promise.0.value keyboards) }
 {

@@ -11,7 +11,8 @@ use std::alloc::{AllocError, Global};
 use std::sync::Arc;
 
 // What is answered if this program is run by no command that starts processes and writes files.
-const UNAIDED: &str = "that needs the command `./pair`, which starts processes and writes files: this program does neither";
+const UNAIDED: &str =
+    "that needs the command `./pair`, which starts processes and writes files: this program does neither";
 
 /// Says how the hosts are, has packets get lost, hands out images of the disk, and hands on what only a command can do that has started
 /// this program: to end, stop, continue and start processes, and to draw.
@@ -65,7 +66,9 @@ impl Supervisor {
             None => format!(in self.alloc; "host {place}: a spare\r\n")?,
             Some(role) => {
                 let (name, generation, count) = (role_name(role), report.generation, report.count);
-                format!(in self.alloc; "host {place}: {name} of generation {generation}, {count} steps\r\n")?
+                format!(in self.alloc;
+                    "host {place}: {name} of generation {generation}, {count} steps\r\n"
+                )?
             }
         };
         text.push_str(line.as_str())
@@ -79,7 +82,9 @@ impl Supervisor {
                 format!(in self.alloc; "the link loses {percent} of 100 packets")
             }
             Fate::Parts => {
-                format!(in self.alloc; "the link loses every packet, and the hosts do not see each other")
+                format!(in self.alloc;
+                    "the link loses every packet, and the hosts do not see each other"
+                )
             }
         }
     }
@@ -143,7 +148,11 @@ impl Interpreter for Supervisor {
             Command::Picture => self.picture(rest_in(line)).ok(),
             Command::Help => String::from_str(self.alloc, HELP).ok(),
             Command::Speed(_) => {
-                String::from_str(self.alloc, "hosts that are processes run as fast as they can").ok()
+                String::from_str(
+                    self.alloc,
+                    "hosts that are processes run as fast as they can",
+                )
+                .ok()
             }
             Command::Terminal(_) | Command::Quit => None,
             Command::Cut | Command::Mend | Command::Drop(_) | Command::Part => {

@@ -128,8 +128,14 @@ fn a_packet_is_lost_and_a_beat_passes(rt: HostRuntime) -> Result<(), Fail> {
     let mut switch = Switch::new(alloc, MemoryStore::new(alloc, 1)?)?;
     let mut host = add(alloc, &mut switch)?;
     let mut other = add(alloc, &mut switch)?;
-    let beat = Frame::Packet { host: 1, bytes: &[] };
-    let packet = Frame::Packet { host: 1, bytes: &[65] };
+    let beat = Frame::Packet {
+        host: 1,
+        bytes: &[],
+    };
+    let packet = Frame::Packet {
+        host: 1,
+        bytes: &[65],
+    };
     for (fate, frame, passes) in [
         (Fate::Passes, &packet, true),
         (Fate::Passes, &beat, true),
