@@ -1,14 +1,16 @@
 -- What a host boots with, and what it does from then on.
-use Rattle.std.specs.Prelude.{◌≡◌, ◌++◌, ◌<◌, ℕ, [], List, length, Option, Some, None}
+use Rattle.std.specs.Prelude.{◌≡◌, ◌++◌, ◌<◌, ℕ, [], List, length, IfSome, Option, Some, None}
 use Rattle.std.specs.Io.KnownBytes.{Appends}
 use Rattle.command_host.specs.declared.booting.Booted.{Booted}
 use Rattle.command_host.specs.declared.booting.Booted.TheVariants as booted
+use Rattle.command_host.specs.declared.host.Served.{Served}
 use Rattle.command_input.specs.Inputs.{IsInput}
 use Rattle.command_input.specs.declared.input.Input.{Input}
 use Rattle.command_hosts.specs.Runs.{Ended}
 use Rattle.command_hosts.specs.declared.port.PortEnd.{PortEnd}
 use Rattle.command_hosts.specs.declared.session.HostsEnd.{HostsEnd}
 use Rattle.command_hosts.specs.declared.session.Session.{Session}
+use Rattle.frame_streams.specs.Threads.{WasRead, WasWritten}
 use Rattle.ft_node.specs.AnyNode.{IsNode}
 use Rattle.ft_node.specs.Calls.{Begins}
 use Rattle.ft_node.specs.declared.node.Node as code
@@ -19,7 +21,6 @@ use Rattle.host_node.specs.Ends.{IsEnd}
 use Rattle.host_node.specs.Goes.{Goes}
 use Rattle.host_node.specs.declared.host.HostNode.{HostNode}
 use Rattle.host_node.specs.declared.host.Hosted.TheVariants as hosted
-use Rattle.host_node.specs.declared.pace.End.{End}
 use Rattle.outside_devices.specs.Held.{at_boot}
 use Rattle.outside_switch.specs.Goes.{first_number}
 use Rattle.outside_switch.specs.Lines.{number_at}
@@ -48,8 +49,11 @@ Boots state M (booted.Spare callbacks) host = host.node ≡ hosted.Spare callbac
 
 -- Such a host, to which nothing had come and from which nothing had gone, went on to its last state: its node made a run of
 -- the law's host, which takes only what came, and what went from it spells what that run sends. Its loop ended for this reason.
-pub record HasServed {B S : Type 0} {H : Type 0} (state : B → S) (M : Machine S) (copied : B → Guest) (drives : ℕ)
-    (with : Booted B H) (end : End) : Type 0 where
+-- If the stream to it is handed back, what came are the bodies of all its frames; and if the one from it is, what went from it was
+-- written to that, and nothing else.
+pub record HasServed {B S : Type 0} {H I O : Type 0} (state : B → S) (M : Machine S) (copied : B → Guest)
+    (left : I → Option (List ℕ)) (contents : O → Option (List ℕ)) (drives : ℕ) (with : Booted B H) (streams : I × O)
+    (served : Served I O) : Type 0 where
   pub first : HostNode B H
   pub last : HostNode B H
   pub boots : Boots state M with first
@@ -57,7 +61,9 @@ pub record HasServed {B S : Type 0} {H : Type 0} (state : B → S) (M : Machine 
   pub none_came : first.mail.came ≡ []
   pub none_gone : first.mail.gone ≡ []
   pub went : Goes state M copied first last
-  pub why : IsEnd state M copied end first last
+  pub why : IsEnd state M copied served.end first last
+  pub heard : IfSome served.heard (λ read. WasRead left streams.0 last.mail.came read.0 read.1)
+  pub said : IfSome served.said (WasWritten contents streams.1 last.mail.gone)
 
 -- An outside went on to its end, for this reason. All that its first terminal has accepted on the way was written, each byte once
 -- and in order, and nothing else was.

@@ -5,13 +5,13 @@ ghost use Rattle.event_callbacks.specs.Keeping.{Keeps};
 ghost use Rattle.event_callbacks.specs.declared.devices.TheConstants.{SECTOR, SENT, WRITTEN};
 
 use crate::booting::{Booted, board_of, host_of};
-use crate::frames::{Writing, read_from, write_to};
 use crate::opening::read_opening;
 use clone_state::Copies;
 use command_ending::Failure;
 use command_input::{Language, read_input};
 use command_line::{HostOrder, HostRole};
 use event_callbacks::{Callbacks, Completes, plain_completions};
+use frame_streams::{StreamEnd, end_reading, end_writing, start_reading, start_writing};
 use guest_board::Setup;
 use host_node::{End, Mail, Settings, serve};
 use i8080_words::R;
@@ -31,6 +31,21 @@ const BEAT: u64 = 100_000;
 // How many milliseconds pass between two ticks of the outside.
 const TICK: u64 = 50;
 
+// How many frames wait on a ring at most.
+const FRAMES: usize = 1_024;
+
+/// How a host has ended, and its streams then.
+#[derive(Drop)]
+pub struct Served<I, O> {
+    /// Why its loop has ended.
+    pub end: End,
+    /// The stream of frames to it, which has ended for this reason, if the host has taken every whole frame of it; none if it ended
+    /// before its stream did, which may bring more.
+    pub heard: Option<(I, StreamEnd)>,
+    /// The stream of frames from it, to which all that it said is written; none if a write has failed.
+    pub said: Option<O>,
+}
+
 /// Runs a host until there is a reason to end, which is returned: its stream of frames ends, for one. What it wrote is then
 /// whole frames, unless the stream failed.
 pub fn run_host<
@@ -45,7 +60,7 @@ pub fn run_host<
         &order.images,
         &mut opening.as_slice(),
     )?;
-    Ok(run_setup(
+    let served = run_setup(
         rt,
         alloc,
         order,
@@ -54,7 +69,8 @@ pub fn run_host<
         plain_completions::sent,
         plain_completions::sector,
         plain_completions::written,
-    )?)
+    )?;
+    Ok(served.end)
 }
 
 // Runs a host whose pair has the machine of this setup.
@@ -74,7 +90,7 @@ fn run_setup<
     sent: T,
     sector: S,
     written: W,
-) -> R<End>
+) -> R<Served<I, O>>
     requires sent { Keeps (T.may sent) (T.gives sent) SENT }
     requires sector { Keeps (S.may sector) (S.gives sector) SECTOR }
     requires written { Keeps (W.may written) (W.gives written) WRITTEN }
@@ -88,7 +104,9 @@ fn run_setup<
     run_booted(rt, alloc, settings(order), setup.drives, booted, streams)
 }
 
-/// Runs a host that boots with this, over a stream of frames to it and one from it, until there is a reason to end.
+/// Runs a host that boots with this, over a stream of frames to it and one from it, until there is a reason to end, and then until
+/// all that it said is written. If it ends before the stream to it does, nobody waits for that: then nothing is said of what was
+/// read.
 pub fn run_booted<
     B: Copies<K> + KeyRoom + OutstandingWrites + Drop,
     K: Drop,
@@ -102,26 +120,23 @@ pub fn run_booted<
     drives: u8,
     booted: Booted<B, K>,
     streams: (I, O),
-) -> R<End>
-    ensures { IfOk result (HasServed B.state B.machine B.copied drives booted) }
+) -> R<Served<I, O>>
+    ensures { IfOk result (HasServed B.state B.machine B.copied I.remaining O.contents drives booted streams) }
 {
     let (reader, writer) = streams;
     let mine = Arc::new(alloc, Parker::new())?;
-    let bodies = read_from(rt, alloc, reader, &mine)?;
-    let Writing {
-        frames,
-        wake,
-        thread,
-    } = write_to(rt, alloc, writer)?;
+    let (bodies, reading) = start_reading(rt, alloc, FRAMES, reader, &mine)?;
+    let (frames, wake, writing) = start_writing(rt, alloc, FRAMES, writer)?;
     let mail = Mail::new(alloc, bodies, frames, wake)?;
     let host = host_of(alloc, drives, booted, mail)?;
-    let end = {
-        let (host, end) = serve(&rt, host, settings, &mine);
-        drop(host);
-        end
+    let (host, end) = serve(&rt, host, settings, &mine);
+    let (bodies, frames) = host.into_mail().into_rings();
+    let said = end_writing(rt, writing, frames);
+    let heard = match end {
+        End::Closed => end_reading(rt, reading, bodies),
+        _ => None,
     };
-    let _ = thread.join(&rt);
-    Ok(end)
+    Ok(Served { end, heard, said })
 }
 
 // How its loop goes. The outside ticks only while it runs itself, so that nobody is suspected because it was stopped.

@@ -3,7 +3,6 @@
 
 mod booting;
 mod ending;
-mod frames;
 mod host;
 mod keys;
 mod opening;
@@ -14,5 +13,5 @@ mod writing;
 
 pub use booting::Booted;
 pub use ending::{ending_of_host, ending_of_hosts};
-pub use host::{run_booted, run_host};
+pub use host::{Served, run_booted, run_host};
 pub use outside::{OutsideStreams, run_outside};

@@ -82,6 +82,7 @@ module _ {B S : Type 0} {H : Type 0} (state : B → S) (M : Machine S) (copied :
     stays = λ joined. (subst (λ h. HasJoined h) (sym is) joined, same.number);
     joins = λ joined. inl (subst (λ h. HasJoined h) (sym was) tt);
     drives = same.drives;
+    rings = same.rings;
     runs = λ C me copies numbered x hosted frames brought.
         (let h = subst (λ h. HasNode state M C old.drives old.number me h x) was hosted in
         let y = h.1.y in

@@ -1,0 +1,122 @@
+//! The thread that reads a stream of frames, from its start to its end: then all that it has read was taken out of its ring.
+ghost use Rattle.std.specs.Prelude.{◌≡◌, IfOk, IfSome, true};
+ghost use Rattle.frame_streams.specs.Reading.{contents_of};
+ghost use Rattle.frame_streams.specs.Threads.{HasRead, ReadsInto, WasRead};
+ghost use Rattle.rtrb.specs.Ring.{IsFinishedOf, all_sent, received};
+
+use crate::reader::{FrameReader, StreamEnd, read_frames};
+use host_frames::FrameBuffer;
+use i8080_words::{Fault, R};
+use rtrb::{Consumer, Finished, RingBuffer};
+use std::alloc::Global;
+use std::io::Read;
+use std::snapshot::Snapshot;
+use std::sync::Arc;
+use std::thread::{self, Parker, Promise, PromisedHandle, Threads};
+use std::time::Clock;
+
+/// What a reading thread gives at its end: its stream, why it reads no more, and its end of the ring, unless nobody takes
+/// anything out of that any more.
+#[derive(Drop)]
+pub struct ReadEnd<S> {
+    source: S,
+    end: StreamEnd,
+    finished: Option<Finished<Vec<u8>>>,
+}
+
+/// What the thread of a reader has read was handed on.
+#[derive(Drop)]
+pub struct ReadsAll<S> {
+    reader: Snapshot<FrameReader<S>>,
+}
+
+impl<S: Read> Promise<ReadEnd<S>> for ReadsAll<S> {
+    ghost kept_by = { λ promise result. HasRead S.remaining promise.reader.value result };
+}
+
+/// A thread that reads frames.
+pub type Reading<S> = PromisedHandle<ReadEnd<S>, ReadsAll<S>>;
+
+/// Starts a thread that reads frames from a stream, and returns the ring through which their bodies come, so many at a time. The
+/// thread wakes whoever waits for them. It leaves its end of the ring when the stream has ended.
+pub fn start_reading<
+    H: Threads + Clock + Copy + Drop + Send + Sync + 'static,
+    S: Read + Drop + Send + 'static,
+>(
+    rt: H,
+    alloc: Global,
+    capacity: usize,
+    source: S,
+    wake: &Arc<Parker>,
+) -> R<(Consumer<Vec<u8>>, Reading<S>)>
+    ensures { IfOk result (λ started. ReadsInto source started.0 started.1.promise.reader.value) }
+{
+    let (bodies, from) = RingBuffer::new(alloc, capacity)?;
+    let wake = Arc::try_clone(wake)?;
+    let pending = FrameBuffer::new(alloc)?;
+    let reader = FrameReader {
+        source,
+        pending,
+        bodies,
+    };
+    let promise = ReadsAll {
+        reader: Snapshot::of(&reader),
+    };
+    match thread::spawn_with(&rt, promise, move || read_to_end(&rt, alloc, reader, &wake)) {
+        Ok(reading) => Ok((from, reading)),
+        Err(_) => Err(Fault::OutOfMemory),
+    }
+}
+
+/// Waits until a stream has ended, and returns it, with the reason. None if bodies of its frames were not taken out of the ring.
+#[tactic(auto, using(crate::proofs::Threads::is_finished, crate::proofs::Threads::was_read))]
+pub fn end_reading<
+    H: Threads + Clock + Copy + Drop + Send + Sync + 'static,
+    S: Read + Drop + Send + 'static,
+>(
+    rt: H,
+    reading: Reading<S>,
+    bodies: Consumer<Vec<u8>>,
+) -> Option<(S, StreamEnd)>
+    requires { ReadsInto reading.promise.reader.value.source bodies reading.promise.reader.value }
+    ensures { IfSome result (λ read. WasRead S.remaining reading.promise.reader.value.source (contents_of (received bodies)) read.0 read.1) }
+{
+    let ReadEnd {
+        source,
+        end,
+        finished,
+    } = reading.join(&rt);
+    let finished = finished?;
+    if !is_all(finished, bodies) {
+        return None;
+    }
+    Some((source, end))
+}
+
+// Reads frames until there is a reason to end, and then leaves the ring.
+fn read_to_end<C: Clock, S: Read + Drop>(
+    clock: &C,
+    alloc: Global,
+    reader: FrameReader<S>,
+    wake: &Parker,
+) -> ReadEnd<S>
+    ensures { HasRead S.remaining reader result }
+{
+    let (reader, end) = read_frames(clock, alloc, reader, wake);
+    let FrameReader { source, bodies, .. } = reader;
+    let finished = bodies.finish();
+    wake.unpark();
+    ReadEnd {
+        source,
+        end,
+        finished,
+    }
+}
+
+/// Whether all that went into a ring has come out.
+pub(crate) fn is_all(mut finished: Finished<Vec<u8>>, mut from: Consumer<Vec<u8>>) -> bool
+    requires { IsFinishedOf finished from }
+    ensures { result ≡ true → received from ≡ all_sent finished }
+{
+    from.slots_after(&mut finished) == 0
+}
