@@ -1,3 +1,4 @@
 pub mod Showing
 pub mod Appearing
 pub mod Starting
+pub mod Streams

@@ -1,8 +1,11 @@
 //! One host in a process: what it boots with and then frames come on one stream, and frames go on another.
-ghost use Rattle.std.specs.Prelude.{IfOk};
+ghost use Rattle.std.specs.Prelude.{IfOk, IfSome};
 ghost use Rattle.command_host.specs.Serving.{HasServed};
 ghost use Rattle.event_callbacks.specs.Keeping.{Keeps};
 ghost use Rattle.event_callbacks.specs.declared.devices.TheConstants.{SECTOR, SENT, WRITTEN};
+ghost use Rattle.frame_streams.specs.Reading.{contents_of};
+ghost use Rattle.frame_streams.specs.Threads.{ReadsInto, WasRead};
+ghost use Rattle.rtrb.specs.Ring.{received};
 
 use crate::booting::{Booted, board_of, host_of};
 use crate::opening::read_opening;
@@ -11,11 +14,12 @@ use command_ending::Failure;
 use command_input::{Language, read_input};
 use command_line::{HostOrder, HostRole};
 use event_callbacks::{Callbacks, Completes, plain_completions};
-use frame_streams::{StreamEnd, end_reading, end_writing, start_reading, start_writing};
+use frame_streams::{Reading, StreamEnd, end_reading, end_writing, start_reading, start_writing};
 use guest_board::Setup;
 use host_node::{End, Mail, Settings, serve};
 use i8080_words::R;
 use key_room::{KeyRoom, OutstandingWrites};
+use rtrb::Consumer;
 use std::alloc::Global;
 use std::io::{Read, Write};
 use std::sync::{Arc, Wait};
@@ -130,13 +134,25 @@ pub fn run_booted<
     let mail = Mail::new(alloc, bodies, frames, wake)?;
     let host = host_of(alloc, drives, booted, mail)?;
     let (host, end) = serve(&rt, host, settings, &mine);
-    let (bodies, frames) = host.into_mail().into_rings();
+    let mail = host.into_mail();
+    let (bodies, frames) = mail.into_rings();
     let said = end_writing(rt, writing, frames);
-    let heard = match end {
+    let heard = heard_of(rt, end, reading, bodies);
+    Ok(Served { end, heard, said })
+}
+
+// The stream to a host whose loop has ended so, once that stream has ended too. None if more may come on it: nobody waits for that.
+fn heard_of<
+    H: Threads + Clock + Copy + Drop + Send + Sync + 'static,
+    I: Read + Drop + Send + 'static,
+>(rt: H, end: End, reading: Reading<I>, bodies: Consumer<Vec<u8>>) -> Option<(I, StreamEnd)>
+    requires { ReadsInto reading.promise.reader.value.source bodies reading.promise.reader.value }
+    ensures { IfSome result (λ heard. WasRead I.remaining reading.promise.reader.value.source (contents_of (received bodies)) heard.0 heard.1) }
+{
+    match end {
         End::Closed => end_reading(rt, reading, bodies),
         _ => None,
-    };
-    Ok(Served { end, heard, said })
+    }
 }
 
 // How its loop goes. The outside ticks only while it runs itself, so that nobody is suspected because it was stopped.

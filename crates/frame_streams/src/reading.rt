@@ -1,5 +1,5 @@
 //! The thread that reads a stream of frames, from its start to its end: then all that it has read was taken out of its ring.
-ghost use Rattle.std.specs.Prelude.{◌≡◌, IfOk, IfSome, true};
+ghost use Rattle.std.specs.Prelude.{◌≡◌, [], IfOk, IfSome, true};
 ghost use Rattle.frame_streams.specs.Reading.{contents_of};
 ghost use Rattle.frame_streams.specs.Threads.{HasRead, ReadsInto, WasRead};
 ghost use Rattle.rtrb.specs.Ring.{IsFinishedOf, all_sent, received};
@@ -49,7 +49,8 @@ pub fn start_reading<
     source: S,
     wake: &Arc<Parker>,
 ) -> R<(Consumer<Vec<u8>>, Reading<S>)>
-    ensures { IfOk result (λ started. ReadsInto source started.0 started.1.promise.reader.value) }
+    ensures reads { IfOk result (λ started. ReadsInto source started.0 started.1.promise.reader.value) }
+    ensures none { IfOk result (λ started. received started.0 ≡ []) }
 {
     let (bodies, from) = RingBuffer::new(alloc, capacity)?;
     let wake = Arc::try_clone(wake)?;

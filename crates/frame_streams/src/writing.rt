@@ -1,5 +1,5 @@
 //! The thread that writes a stream of frames, from its start to its end: then all that went into its ring is written.
-ghost use Rattle.std.specs.Prelude.{◌≡◌, IfOk, IfSome, OnOk};
+ghost use Rattle.std.specs.Prelude.{◌≡◌, [], IfOk, IfSome, OnOk};
 ghost use Rattle.frame_streams.specs.Reading.{contents_of};
 ghost use Rattle.frame_streams.specs.Threads.{HasWritten, WasWritten, WritesFrom};
 ghost use Rattle.rtrb.specs.Ring.{sent};
@@ -34,7 +34,8 @@ pub fn start_writing<
     H: Threads + Wait + Copy + Drop + Send + Sync + 'static,
     W: Write + Drop + Send + 'static,
 >(rt: H, alloc: Global, capacity: usize, sink: W) -> R<(Producer<Vec<u8>>, Arc<Parker>, Writing<W>)>
-    ensures { IfOk result (λ started. WritesFrom sink started.0 started.2.promise.writer.value) }
+    ensures writes { IfOk result (λ started. WritesFrom sink started.0 started.2.promise.writer.value) }
+    ensures none { IfOk result (λ started. sent started.0 ≡ []) }
 {
     let (to, frames) = RingBuffer::new(alloc, capacity)?;
     let wake = Arc::new(alloc, Parker::new())?;
