@@ -1,11 +1,11 @@
 -- A host's loop leaves its mail at the rings of the two threads of its streams.
 use Rattle.std.proofs.Common.{ℕ, ◌≡◌, Option, Some, None, List, refl, sym, ap, ◌∙◌, subst}
 use Rattle.std.specs.Global.{Global, Vec}
-use Rattle.std.specs.Prelude.{IfSome}
+use Rattle.std.specs.Prelude.{IfOk, IfSome, Result}
 use Rattle.frame_streams.specs.Reading.{contents_of}
-use Rattle.frame_streams.specs.Threads.{ReadsInto, WasRead, WasWritten, WritesFrom}
+use Rattle.frame_streams.specs.Threads.{HasHeard, ReadsInto, WasWritten, WritesFrom}
 use Rattle.frame_streams.specs.declared.reader.FrameReader.{FrameReader}
-use Rattle.frame_streams.specs.declared.reader.StreamEnd.{StreamEnd}
+use Rattle.frame_streams.specs.declared.read_thread.ReadStream.{ReadStream}
 use Rattle.frame_streams.specs.declared.writer.FrameWriter.{FrameWriter}
 use Rattle.guest_lockstep.specs.Machine.{Machine}
 use Rattle.guest_parts.specs.Guest.{Guest}
@@ -47,13 +47,12 @@ module _ {B S : Type 0} {H : Type 0} (state : B → S) (M : Machine S) (copied :
 
 -- what came to a host is what was read, and what went from it is what was written
 pub heard_so : {I : Type 0} (left : I → Option (List ℕ)) (from source : I) (bodies came : List (List ℕ))
-    (o : Option (I × StreamEnd)) → from ≡ source → bodies ≡ came → IfSome o (λ read. WasRead left from bodies read.0 read.1)
-    → IfSome o (λ read. WasRead left source came read.0 read.1)
+    (o : Option (ReadStream I)) → from ≡ source → bodies ≡ came → IfSome o (HasHeard left from bodies)
+    → IfSome o (HasHeard left source came)
 heard_so left from source bodies came o is are read =
-    subst (λ s. IfSome o (λ read. WasRead left s came read.0 read.1)) is
-    (subst (λ l. IfSome o (λ read. WasRead left from l read.0 read.1)) are read)
+    subst (λ s. IfSome o (HasHeard left s came)) is (subst (λ l. IfSome o (HasHeard left from l)) are read)
 
-pub said_so : {O : Type 0} (contents : O → Option (List ℕ)) (from sink : O) (frames gone : List (List ℕ)) (o : Option O)
-    → from ≡ sink → frames ≡ gone → IfSome o (WasWritten contents from frames) → IfSome o (WasWritten contents sink gone)
-said_so contents from sink frames gone o is are written =
-    subst (λ s. IfSome o (WasWritten contents s gone)) is (subst (λ l. IfSome o (WasWritten contents from l)) are written)
+pub said_so : {O : Type 0} (contents : O → Option (List ℕ)) (from sink : O) (frames gone : List (List ℕ)) (r : Result O O)
+    → from ≡ sink → frames ≡ gone → IfOk r (WasWritten contents from frames) → IfOk r (WasWritten contents sink gone)
+said_so contents from sink frames gone r is are written =
+    subst (λ s. IfOk r (WasWritten contents s gone)) is (subst (λ l. IfOk r (WasWritten contents from l)) are written)

@@ -1,5 +1,5 @@
 -- What a host boots with, and what it does from then on.
-use Rattle.std.specs.Prelude.{◌≡◌, ◌++◌, ◌<◌, ℕ, [], List, length, IfSome, Option, Some, None}
+use Rattle.std.specs.Prelude.{◌≡◌, ◌++◌, ◌<◌, ℕ, [], List, length, IfOk, IfSome, IsSome, Option, Some, None}
 use Rattle.std.specs.Io.KnownBytes.{Appends}
 use Rattle.command_host.specs.declared.booting.Booted.{Booted}
 use Rattle.command_host.specs.declared.booting.Booted.TheVariants as booted
@@ -10,7 +10,7 @@ use Rattle.command_hosts.specs.Runs.{Ended}
 use Rattle.command_hosts.specs.declared.port.PortEnd.{PortEnd}
 use Rattle.command_hosts.specs.declared.session.HostsEnd.{HostsEnd}
 use Rattle.command_hosts.specs.declared.session.Session.{Session}
-use Rattle.frame_streams.specs.Threads.{WasRead, WasWritten}
+use Rattle.frame_streams.specs.Threads.{HasHeard, WasWritten}
 use Rattle.ft_node.specs.AnyNode.{IsNode}
 use Rattle.ft_node.specs.Calls.{Begins}
 use Rattle.ft_node.specs.declared.node.Node as code
@@ -21,6 +21,7 @@ use Rattle.host_node.specs.Ends.{IsEnd}
 use Rattle.host_node.specs.Goes.{Goes}
 use Rattle.host_node.specs.declared.host.HostNode.{HostNode}
 use Rattle.host_node.specs.declared.host.Hosted.TheVariants as hosted
+use Rattle.host_node.specs.declared.pace.End.TheVariants as of_end
 use Rattle.outside_devices.specs.Held.{at_boot}
 use Rattle.outside_switch.specs.Goes.{first_number}
 use Rattle.outside_switch.specs.Lines.{number_at}
@@ -49,8 +50,8 @@ Boots state M (booted.Spare callbacks) host = host.node ≡ hosted.Spare callbac
 
 -- Such a host, to which nothing had come and from which nothing had gone, went on to its last state: its node made a run of
 -- the law's host, which takes only what came, and what went from it spells what that run sends. Its loop ended for this reason.
--- If the stream to it is handed back, what came are the bodies of all its frames; and if the one from it is, what went from it was
--- written to that, and nothing else.
+-- If it is because the stream to it has ended, that is handed back, and what came are the bodies of its frames. What went from
+-- it was written to the other stream, and nothing else, unless a write has failed.
 pub record HasServed {B S : Type 0} {H I O : Type 0} (state : B → S) (M : Machine S) (copied : B → Guest)
     (left : I → Option (List ℕ)) (contents : O → Option (List ℕ)) (drives : ℕ) (with : Booted B H) (streams : I × O)
     (served : Served I O) : Type 0 where
@@ -62,8 +63,9 @@ pub record HasServed {B S : Type 0} {H I O : Type 0} (state : B → S) (M : Mach
   pub none_gone : first.mail.gone ≡ []
   pub went : Goes state M copied first last
   pub why : IsEnd state M copied served.end first last
-  pub heard : IfSome served.heard (λ read. WasRead left streams.0 last.mail.came read.0 read.1)
-  pub said : IfSome served.said (WasWritten contents streams.1 last.mail.gone)
+  pub waited : served.end ≡ of_end.Closed → IsSome served.heard
+  pub heard : IfSome served.heard (HasHeard left streams.0 last.mail.came)
+  pub said : IfOk served.said (WasWritten contents streams.1 last.mail.gone)
 
 -- An outside went on to its end, for this reason. All that its first terminal has accepted on the way was written, each byte once
 -- and in order, and nothing else was.

@@ -1,10 +1,11 @@
 //! One host in a process: what it boots with and then frames come on one stream, and frames go on another.
-ghost use Rattle.std.specs.Prelude.{IfOk, IfSome};
+ghost use Rattle.std.specs.Prelude.{◌≡◌, IfOk, IfSome, IsSome};
 ghost use Rattle.command_host.specs.Serving.{HasServed};
 ghost use Rattle.event_callbacks.specs.Keeping.{Keeps};
 ghost use Rattle.event_callbacks.specs.declared.devices.TheConstants.{SECTOR, SENT, WRITTEN};
 ghost use Rattle.frame_streams.specs.Reading.{contents_of};
-ghost use Rattle.frame_streams.specs.Threads.{ReadsInto, WasRead};
+ghost use Rattle.frame_streams.specs.Threads.{HasHeard, ReadsInto};
+ghost use Rattle.host_node.specs.declared.pace.End.TheVariants as of_end;
 ghost use Rattle.rtrb.specs.Ring.{received};
 
 use crate::booting::{Booted, board_of, host_of};
@@ -14,7 +15,7 @@ use command_ending::Failure;
 use command_input::{Language, read_input};
 use command_line::{HostOrder, HostRole};
 use event_callbacks::{Callbacks, Completes, plain_completions};
-use frame_streams::{Reading, StreamEnd, end_reading, end_writing, start_reading, start_writing};
+use frame_streams::{ReadStream, Reading, end_reading, end_writing, start_reading, start_writing};
 use guest_board::Setup;
 use host_node::{End, Mail, Settings, serve};
 use i8080_words::R;
@@ -43,11 +44,10 @@ const FRAMES: usize = 1_024;
 pub struct Served<I, O> {
     /// Why its loop has ended.
     pub end: End,
-    /// The stream of frames to it, which has ended for this reason, if the host has taken every whole frame of it; none if it ended
-    /// before its stream did, which may bring more.
-    pub heard: Option<(I, StreamEnd)>,
-    /// The stream of frames from it, to which all that it said is written; none if a write has failed.
-    pub said: Option<O>,
+    /// The stream of frames to it, if that has ended; none if the host has ended before, as more may come then.
+    pub heard: Option<ReadStream<I>>,
+    /// The stream of frames from it, to which all that it said is written; as an error, if a write has failed.
+    pub said: Result<O, O>,
 }
 
 /// Runs a host until there is a reason to end, which is returned: its stream of frames ends, for one. What it wrote is then
@@ -145,12 +145,13 @@ pub fn run_booted<
 fn heard_of<
     H: Threads + Clock + Copy + Drop + Send + Sync + 'static,
     I: Read + Drop + Send + 'static,
->(rt: H, end: End, reading: Reading<I>, bodies: Consumer<Vec<u8>>) -> Option<(I, StreamEnd)>
+>(rt: H, end: End, reading: Reading<I>, bodies: Consumer<Vec<u8>>) -> Option<ReadStream<I>>
     requires { ReadsInto reading.promise.reader.value.source bodies reading.promise.reader.value }
-    ensures { IfSome result (λ heard. WasRead I.remaining reading.promise.reader.value.source (contents_of (received bodies)) heard.0 heard.1) }
+    ensures waits { end ≡ of_end.Closed → IsSome result }
+    ensures heard { IfSome result (HasHeard I.remaining reading.promise.reader.value.source (contents_of (received bodies))) }
 {
     match end {
-        End::Closed => end_reading(rt, reading, bodies),
+        End::Closed => Some(end_reading(rt, reading, bodies)),
         _ => None,
     }
 }

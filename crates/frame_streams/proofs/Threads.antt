@@ -11,7 +11,7 @@ use Rattle.frame_streams.specs.Threads.{HasRead, HasWritten, ReadsInto, WasRead,
 use Rattle.frame_streams.specs.Writing.{bytes_of}
 use Rattle.frame_streams.specs.declared.reader.FrameReader.{FrameReader}
 use Rattle.frame_streams.specs.declared.reader.StreamEnd.{StreamEnd}
-use Rattle.frame_streams.specs.declared.reading.ReadEnd.{ReadEnd}
+use Rattle.frame_streams.specs.declared.read_thread.ReadEnd.{ReadEnd}
 use Rattle.frame_streams.specs.declared.writer.FrameWriter.{FrameWriter}
 use Rattle.host_frames.specs.Stream.{IsBody, stream_of}
 use Rattle.rtrb.specs.Ring.{Finishes, IsFinishedOf, SameConsumer, SameProducer, all_sent, received, sent}

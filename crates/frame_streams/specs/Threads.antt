@@ -1,5 +1,5 @@
 -- What the threads at the two ends of a stream have done when they have ended.
-use Rattle.std.specs.Prelude.{◌≡◌, ℕ, List, [], ◌++◌, flat_map, IfSome, Option, Some}
+use Rattle.std.specs.Prelude.{◌≡◌, ℕ, true, List, [], ◌++◌, flat_map, IfSome, Option, Some}
 use Rattle.std.specs.Global.{Global, Vec}
 use Rattle.std.specs.Io.KnownBytes.{Appends, Consumes}
 use Rattle.std.specs.List.{AllByRecursion}
@@ -9,7 +9,8 @@ use Rattle.frame_streams.specs.Rings.{put_into, taken_from}
 use Rattle.frame_streams.specs.Writing.{Wrote}
 use Rattle.frame_streams.specs.declared.reader.FrameReader.{FrameReader}
 use Rattle.frame_streams.specs.declared.reader.StreamEnd.{StreamEnd}
-use Rattle.frame_streams.specs.declared.reading.ReadEnd.{ReadEnd}
+use Rattle.frame_streams.specs.declared.read_thread.ReadEnd.{ReadEnd}
+use Rattle.frame_streams.specs.declared.read_thread.ReadStream.{ReadStream}
 use Rattle.frame_streams.specs.declared.writer.FrameWriter.{FrameWriter}
 use Rattle.rtrb.specs.Ring.{Finishes, known_items, received, sent}
 use Rattle.rtrb.specs.declared.AnyItems.{AnyItems}
@@ -43,6 +44,10 @@ pub record WasRead {S : Type 0} (left : S → Option (List ℕ)) (from : S) (bod
   pub whole : AllByRecursion IsBody bodies
   pub stream : taken ≡ stream_of bodies ++ rest
   pub over : EndsWith (Some end) (left to) rest
+
+-- so it was, if all bodies that were handed on are taken
+abbrev pub HasHeard : {S : Type 0} → (S → Option (List ℕ)) → S → List (List ℕ) → ReadStream S → Type 0
+HasHeard left from bodies read = read.is_all ≡ true → WasRead left from bodies read.source read.end
 
 -- ---- writing
 

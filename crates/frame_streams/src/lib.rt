@@ -2,11 +2,11 @@
 #![tactic(auto)]
 
 mod reader;
-mod reading;
+mod read_thread;
 mod writer;
-mod writing;
+mod write_thread;
 
 pub use reader::{FrameReader, StreamEnd, read_frames};
-pub use reading::{ReadEnd, Reading, ReadsAll, end_reading, start_reading};
+pub use read_thread::{ReadEnd, ReadStream, Reading, ReadsAll, end_reading, start_reading};
 pub use writer::{FrameWriter, write_frames};
-pub use writing::{Writing, WritesAll, end_writing, start_writing};
+pub use write_thread::{Writing, WritesAll, end_writing, start_writing};

@@ -31,8 +31,9 @@ returns g c = record {
       ∙ ap contents_of c.in_ok-frames.ensures.none;
   went = c.serve-host.ensures.goes;
   why = c.serve-host.ensures.why;
+  waited = c.heard_of-heard.ensures.waits;
   heard = heard_so g.I.Read.remaining _ c.args.streams.0 _ _ _ c.in_ok-bodies.ensures.reads.source_is
-      (c.into_rings-bodies.ensures.came ∙ ap (λ m. m.came) c.into_mail-mail.ensures) c.heard_of-heard.ensures;
+      (c.into_rings-bodies.ensures.came ∙ ap (λ m. m.came) c.into_mail-mail.ensures) c.heard_of-heard.ensures.heard;
   said = said_so g.O.Write.contents _ c.args.streams.1 _ _ _ c.in_ok-frames.ensures.writes.sink_is
       (c.into_rings-bodies.ensures.gone ∙ ap (λ m. m.gone) c.into_mail-mail.ensures) c.end_writing-said.ensures;
 }

@@ -1,10 +1,10 @@
 //! The thread that writes a stream of frames, from its start to its end: then all that went into its ring is written.
-ghost use Rattle.std.specs.Prelude.{◌≡◌, [], IfOk, IfSome, OnOk};
+ghost use Rattle.std.specs.Prelude.{◌≡◌, [], IfOk, OnOk};
 ghost use Rattle.frame_streams.specs.Reading.{contents_of};
 ghost use Rattle.frame_streams.specs.Threads.{HasWritten, WasWritten, WritesFrom};
 ghost use Rattle.rtrb.specs.Ring.{sent};
 
-use crate::reading::is_all;
+use crate::read_thread::is_all;
 use crate::writer::{FrameWriter, write_frames};
 use i8080_words::{Fault, R};
 use rtrb::{Producer, RingBuffer};
@@ -50,25 +50,27 @@ pub fn start_writing<
     }
 }
 
-/// Puts nothing more into the ring, waits until all that went into it is written, and returns the stream. None if a write has
-/// failed.
+/// Puts nothing more into the ring, waits until all that went into it is written, and returns the stream; as an error, if a write
+/// has failed.
 #[tactic(auto, using(crate::proofs::Threads::is_finished_too, crate::proofs::Threads::was_written))]
 pub fn end_writing<
     H: Threads + Wait + Copy + Drop + Send + Sync + 'static,
     W: Write + Drop + Send + 'static,
->(rt: H, writing: Writing<W>, frames: Producer<Vec<u8>>) -> Option<W>
+>(rt: H, writing: Writing<W>, frames: Producer<Vec<u8>>) -> Result<W, W>
     requires { WritesFrom writing.promise.writer.value.sink frames writing.promise.writer.value }
-    ensures { IfSome result (WasWritten W.contents writing.promise.writer.value.sink (contents_of (sent frames))) }
+    ensures { IfOk result (WasWritten W.contents writing.promise.writer.value.sink (contents_of (sent frames))) }
 {
     let finished = frames.finish();
     let (writer, written) = writing.join(&rt);
-    let finished = finished?;
-    let Ok(()) = written else {
-        return None;
-    };
     let FrameWriter { sink, frames } = writer;
+    let Some(finished) = finished else {
+        return Err(sink);
+    };
+    let Ok(()) = written else {
+        return Err(sink);
+    };
     if !is_all(finished, frames) {
-        return None;
+        return Err(sink);
     }
-    Some(sink)
+    Ok(sink)
 }

@@ -1,7 +1,7 @@
 //! The thread that reads a stream of frames, from its start to its end: then all that it has read was taken out of its ring.
-ghost use Rattle.std.specs.Prelude.{◌≡◌, [], IfOk, IfSome, true};
+ghost use Rattle.std.specs.Prelude.{◌≡◌, [], IfOk, true};
 ghost use Rattle.frame_streams.specs.Reading.{contents_of};
-ghost use Rattle.frame_streams.specs.Threads.{HasRead, ReadsInto, WasRead};
+ghost use Rattle.frame_streams.specs.Threads.{HasHeard, HasRead, ReadsInto};
 ghost use Rattle.rtrb.specs.Ring.{IsFinishedOf, all_sent, received};
 
 use crate::reader::{FrameReader, StreamEnd, read_frames};
@@ -69,29 +69,41 @@ pub fn start_reading<
     }
 }
 
-/// Waits until a stream has ended, and returns it, with the reason. None if bodies of its frames were not taken out of the ring.
+/// A stream that has ended for this reason, and whether all bodies that its thread has handed on were taken out of the ring.
+#[derive(Drop)]
+pub struct ReadStream<S> {
+    pub source: S,
+    pub end: StreamEnd,
+    pub is_all: bool,
+}
+
+/// Waits until a stream has ended, and returns it.
 #[tactic(auto, using(crate::proofs::Threads::is_finished, crate::proofs::Threads::was_read))]
 pub fn end_reading<
     H: Threads + Clock + Copy + Drop + Send + Sync + 'static,
     S: Read + Drop + Send + 'static,
->(
-    rt: H,
-    reading: Reading<S>,
-    bodies: Consumer<Vec<u8>>,
-) -> Option<(S, StreamEnd)>
+>(rt: H, reading: Reading<S>, bodies: Consumer<Vec<u8>>) -> ReadStream<S>
     requires { ReadsInto reading.promise.reader.value.source bodies reading.promise.reader.value }
-    ensures { IfSome result (λ read. WasRead S.remaining reading.promise.reader.value.source (contents_of (received bodies)) read.0 read.1) }
+    ensures { HasHeard S.remaining reading.promise.reader.value.source (contents_of (received bodies)) result }
 {
     let ReadEnd {
         source,
         end,
         finished,
     } = reading.join(&rt);
-    let finished = finished?;
-    if !is_all(finished, bodies) {
-        return None;
+    let Some(finished) = finished else {
+        return ReadStream {
+            source,
+            end,
+            is_all: false,
+        };
+    };
+    let is_all = is_all(finished, bodies);
+    ReadStream {
+        source,
+        end,
+        is_all,
     }
-    Some((source, end))
 }
 
 // Reads frames until there is a reason to end, and then leaves the ring.
