@@ -1,26 +1,32 @@
 -- When the threads at the two ends of a stream have ended.
-use Rattle.std.proofs.Common.{ℕ, ◌≡◌, Option, Some, None, List, [], ◌∷◌, ◌++◌, refl, sym, ap, ◌∙◌, subst}
+use Rattle.std.proofs.Common.{ℕ, ◌≡◌, Bool, true, Option, Some, List, [], ◌∷◌, ◌++◌, refl, sym, ap, ◌∙◌, subst}
 use Rattle.std.specs.Global.{Global, Vec}
 use Rattle.std.specs.Prelude.{IfSome}
 use Rattle.std.specs.Io.KnownBytes.{Appends, Consumes}
 use Rattle.std.specs.List.{AllByRecursion}
-use Rattle.frame_streams.proofs.Rings.{finished_of, put_into_same, taken_from_same}
+use Rattle.frame_streams.proofs.Rings.{finished_of, one_ring, put_into_same, taken_from_same}
 use Rattle.frame_streams.specs.Reading.{EndsWith, contents_of}
-use Rattle.frame_streams.specs.Rings.{put_into, taken_from}
-use Rattle.frame_streams.specs.Threads.{HasRead, HasWritten, ReadsInto, WasRead, WasWritten, WritesFrom, joined}
+use Rattle.frame_streams.specs.Threads.{HasHeard, HasRead, HasWritten, ReadsInto, WasRead, WasWritten, WritesFrom, joined}
 use Rattle.frame_streams.specs.Writing.{bytes_of}
 use Rattle.frame_streams.specs.declared.reader.FrameReader.{FrameReader}
-use Rattle.frame_streams.specs.declared.reader.StreamEnd.{StreamEnd}
 use Rattle.frame_streams.specs.declared.read_thread.ReadEnd.{ReadEnd}
 use Rattle.frame_streams.specs.declared.writer.FrameWriter.{FrameWriter}
 use Rattle.host_frames.specs.Stream.{IsBody, stream_of}
-use Rattle.rtrb.specs.Ring.{Finishes, IsFinishedOf, SameConsumer, SameProducer, all_sent, received, sent}
+use Rattle.rtrb.specs.Ring.{Finishes, IsFinishedOf, IsPair, all_sent, received, sent}
 use Rattle.rtrb.specs.declared.AnyItems.{AnyItems}
 use Rattle.rtrb.specs.declared.consumer.Consumer.{Consumer}
 use Rattle.rtrb.specs.declared.finished.Finished.{Finished}
 use Rattle.rtrb.specs.declared.producer.Producer.{Producer}
 
 -- ---- reading
+
+-- a reader over a new ring
+pub reads_into : {S : Type 0} (source : S) (pending : List ℕ) (to : Producer (Vec ℕ) Global AnyItems)
+    (from : Consumer (Vec ℕ) Global AnyItems) (reader : FrameReader S)
+    → reader ≡ record { source = source; pending = pending; bodies = to } → pending ≡ [] → sent to ≡ [] → IsPair to from
+    → ReadsInto source from reader
+reads_into source pending to from reader is none unsent pair = subst (λ (r : FrameReader _). ReadsInto source from r) (sym is)
+    (record { source_is = refl; none_pending = none; none_handed = unsent; ring = one_ring to from pair })
 
 module _ {S : Type 0} (left : S → Option (List ℕ)) where
   -- the ring is the one that the reader has left
@@ -53,7 +59,22 @@ module _ {S : Type 0} (left : S → Option (List ℕ)) where
         over = subst (λ s. EndsWith (Some read.end) (left s) has.new.pending) (sym has.source_is) has.reads.over;
       }
 
+  pub has_heard : (old : FrameReader S) (read : ReadEnd S) (bodies : Consumer (Vec ℕ) Global AnyItems)
+      (finished : Finished (Vec ℕ) Global AnyItems) (all : Bool) → ReadsInto old.source bodies old → HasRead left old read
+      → read.finished ≡ Some finished → (all ≡ true → received bodies ≡ all_sent finished)
+      → HasHeard left old.source (contents_of (received bodies))
+      (record { source = read.source; end = read.end; is_all = all })
+  has_heard old read bodies finished all into has is taken =
+      λ e. was_read old read bodies finished into has is (taken e)
+
 -- ---- writing
+
+-- a writer over a new ring
+pub writes_from : {W : Type 0} (sink : W) (to : Producer (Vec ℕ) Global AnyItems) (from : Consumer (Vec ℕ) Global AnyItems)
+    (writer : FrameWriter W) → writer ≡ record { sink = sink; frames = from } → received from ≡ [] → IsPair to from
+    → WritesFrom sink to writer
+writes_from sink to from writer is none pair = subst (λ (w : FrameWriter _). WritesFrom sink to w) (sym is)
+    (record { sink_is = refl; none_came = none; ring = one_ring to from pair })
 
 joined_is : (frames : List (Vec ℕ)) → bytes_of frames ≡ joined (contents_of frames)
 joined_is [] = refl

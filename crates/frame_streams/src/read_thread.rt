@@ -27,7 +27,7 @@ pub struct ReadEnd<S> {
 /// What the thread of a reader has read was handed on.
 #[derive(Drop)]
 pub struct ReadsAll<S> {
-    reader: Snapshot<FrameReader<S>>,
+    pub reader: Snapshot<FrameReader<S>>,
 }
 
 impl<S: Read> Promise<ReadEnd<S>> for ReadsAll<S> {
@@ -39,6 +39,7 @@ pub type Reading<S> = PromisedHandle<ReadEnd<S>, ReadsAll<S>>;
 
 /// Starts a thread that reads frames from a stream, and returns the ring through which their bodies come, so many at a time. The
 /// thread wakes whoever waits for them. It leaves its end of the ring when the stream has ended.
+#[tactic(auto, using(crate::proofs::Threads::reads_into))]
 pub fn start_reading<
     H: Threads + Clock + Copy + Drop + Send + Sync + 'static,
     S: Read + Drop + Send + 'static,
@@ -60,11 +61,22 @@ pub fn start_reading<
         pending,
         bodies,
     };
+    let reading = spawn_reader(rt, alloc, reader, wake)?;
+    Ok((from, reading))
+}
+
+// Starts the thread of a reader.
+fn spawn_reader<
+    H: Threads + Clock + Copy + Drop + Send + Sync + 'static,
+    S: Read + Drop + Send + 'static,
+>(rt: H, alloc: Global, reader: FrameReader<S>, wake: Arc<Parker>) -> R<Reading<S>>
+    ensures { IfOk result (λ reading. reading.promise.reader.value ≡ reader) }
+{
     let promise = ReadsAll {
         reader: Snapshot::of(&reader),
     };
     match thread::spawn_with(&rt, promise, move || read_to_end(&rt, alloc, reader, &wake)) {
-        Ok(reading) => Ok((from, reading)),
+        Ok(reading) => Ok(reading),
         Err(_) => Err(Fault::OutOfMemory),
     }
 }
@@ -78,7 +90,7 @@ pub struct ReadStream<S> {
 }
 
 /// Waits until a stream has ended, and returns it.
-#[tactic(auto, using(crate::proofs::Threads::is_finished, crate::proofs::Threads::was_read))]
+#[tactic(auto, using(crate::proofs::Threads::is_finished, crate::proofs::Threads::has_heard))]
 pub fn end_reading<
     H: Threads + Clock + Copy + Drop + Send + Sync + 'static,
     S: Read + Drop + Send + 'static,

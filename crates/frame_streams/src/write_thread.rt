@@ -17,7 +17,7 @@ use std::thread::{self, Parker, Promise, PromisedHandle, Threads};
 /// What came to the thread of a writer was written, if no write fails.
 #[derive(Drop)]
 pub struct WritesAll<W> {
-    writer: Snapshot<FrameWriter<W>>,
+    pub writer: Snapshot<FrameWriter<W>>,
 }
 
 impl<W: Write> Promise<(FrameWriter<W>, io::Result<()>)> for WritesAll<W> {
@@ -30,6 +30,7 @@ pub type Writing<W> = PromisedHandle<(FrameWriter<W>, io::Result<()>), WritesAll
 /// Starts a thread that writes frames to a stream, and returns the ring that leads to it, with room for so many, and the parker at
 /// which it rests. It ends when nobody puts anything into its ring any more and all that came through it is written, or when a
 /// write fails.
+#[tactic(auto, using(crate::proofs::Threads::writes_from))]
 pub fn start_writing<
     H: Threads + Wait + Copy + Drop + Send + Sync + 'static,
     W: Write + Drop + Send + 'static,
@@ -41,11 +42,22 @@ pub fn start_writing<
     let wake = Arc::new(alloc, Parker::new())?;
     let theirs = Arc::try_clone(&wake)?;
     let writer = FrameWriter { sink, frames };
+    let writing = spawn_writer(rt, writer, theirs)?;
+    Ok((to, wake, writing))
+}
+
+// Starts the thread of a writer.
+fn spawn_writer<
+    H: Threads + Wait + Copy + Drop + Send + Sync + 'static,
+    W: Write + Drop + Send + 'static,
+>(rt: H, writer: FrameWriter<W>, wake: Arc<Parker>) -> R<Writing<W>>
+    ensures { IfOk result (λ writing. writing.promise.writer.value ≡ writer) }
+{
     let promise = WritesAll {
         writer: Snapshot::of(&writer),
     };
-    match thread::spawn_with(&rt, promise, move || write_frames(&rt, writer, &theirs)) {
-        Ok(writing) => Ok((to, wake, writing)),
+    match thread::spawn_with(&rt, promise, move || write_frames(&rt, writer, &wake)) {
+        Ok(writing) => Ok(writing),
         Err(_) => Err(Fault::OutOfMemory),
     }
 }

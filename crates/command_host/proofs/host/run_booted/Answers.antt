@@ -4,16 +4,16 @@ use Rattle.command_host.proofs.Streams.{heard_so, reads_still, said_so, writes_s
 use Rattle.command_host.proofs.host.run_booted.Goals as goal
 use Rattle.frame_streams.specs.Reading.{contents_of}
 
-pub end_writing-said-requires : goal.end_writing-said-requires
-end_writing-said-requires g c =
+pub end_writing-said-requires-after_bounds : goal.end_writing-said-requires-after_bounds
+end_writing-said-requires-after_bounds g c κs within =
     writes_still g.B.Lockstep.state g.B.Lockstep.machine g.B.Copies.copied c.in_ok-host.host c.serve-host.result.0
     c.in_ok-mail.mail c.into_mail-mail.result c.in_ok-bodies.bodies c.into_rings-bodies.result.0
     c.in_ok-frames.frames c.into_rings-bodies.result.1 c.in_ok-host.ensures.mail c.in_ok-mail.ensures.rings
     c.serve-host.ensures.goes c.into_mail-mail.ensures c.into_rings-bodies.ensures.rings c.args.streams.1
     c.in_ok-frames.writing.promise.writer.value c.in_ok-frames.ensures.writes
 
-pub heard_of-heard-requires : goal.heard_of-heard-requires
-heard_of-heard-requires g c =
+pub heard_of-heard-requires-after_bounds : goal.heard_of-heard-requires-after_bounds
+heard_of-heard-requires-after_bounds g c κs within =
     reads_still g.B.Lockstep.state g.B.Lockstep.machine g.B.Copies.copied c.in_ok-host.host c.serve-host.result.0
     c.in_ok-mail.mail c.into_mail-mail.result c.in_ok-bodies.bodies c.into_rings-bodies.result.0
     c.in_ok-frames.frames c.into_rings-bodies.result.1 c.in_ok-host.ensures.mail c.in_ok-mail.ensures.rings
