@@ -90,7 +90,7 @@ pub struct ReadStream<S> {
 }
 
 /// Waits until a stream has ended, and returns it.
-#[tactic(auto, using(crate::proofs::Threads::is_finished, crate::proofs::Threads::has_heard))]
+#[tactic(auto, using(crate::proofs::Threads::is_finished))]
 pub fn end_reading<
     H: Threads + Clock + Copy + Drop + Send + Sync + 'static,
     S: Read + Drop + Send + 'static,
@@ -98,11 +98,12 @@ pub fn end_reading<
     requires { ReadsInto reading.promise.reader.value.source bodies reading.promise.reader.value }
     ensures { HasHeard S.remaining reading.promise.reader.value.source (contents_of (received bodies)) result }
 {
+    let read = reading.join(&rt);
     let ReadEnd {
         source,
         end,
         finished,
-    } = reading.join(&rt);
+    } = read;
     let Some(finished) = finished else {
         return ReadStream {
             source,
@@ -110,7 +111,7 @@ pub fn end_reading<
             is_all: false,
         };
     };
-    let is_all = is_all(finished, bodies);
+    let is_all = is_drained(finished, bodies);
     ReadStream {
         source,
         end,
@@ -139,7 +140,7 @@ fn read_to_end<C: Clock, S: Read + Drop>(
 }
 
 /// Whether all that went into a ring has come out.
-pub(crate) fn is_all(mut finished: Finished<Vec<u8>>, mut from: Consumer<Vec<u8>>) -> bool
+pub(crate) fn is_drained(mut finished: Finished<Vec<u8>>, mut from: Consumer<Vec<u8>>) -> bool
     requires { IsFinishedOf finished from }
     ensures { result ≡ true → received from ≡ all_sent finished }
 {

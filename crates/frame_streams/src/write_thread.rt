@@ -4,7 +4,7 @@ ghost use Rattle.frame_streams.specs.Reading.{contents_of};
 ghost use Rattle.frame_streams.specs.Threads.{HasWritten, WasWritten, WritesFrom};
 ghost use Rattle.rtrb.specs.Ring.{sent};
 
-use crate::read_thread::is_all;
+use crate::read_thread::is_drained;
 use crate::writer::{FrameWriter, write_frames};
 use i8080_words::{Fault, R};
 use rtrb::{Producer, RingBuffer};
@@ -64,7 +64,7 @@ fn spawn_writer<
 
 /// Puts nothing more into the ring, waits until all that went into it is written, and returns the stream; as an error, if a write
 /// has failed.
-#[tactic(auto, using(crate::proofs::Threads::is_finished_too, crate::proofs::Threads::was_written))]
+#[tactic(auto, using(crate::proofs::Threads::is_finished_too))]
 pub fn end_writing<
     H: Threads + Wait + Copy + Drop + Send + Sync + 'static,
     W: Write + Drop + Send + 'static,
@@ -81,7 +81,7 @@ pub fn end_writing<
     let Ok(()) = written else {
         return Err(sink);
     };
-    if !is_all(finished, frames) {
+    if !is_drained(finished, frames) {
         return Err(sink);
     }
     Ok(sink)
