@@ -14,7 +14,7 @@ pub record Ring : Type 0 where
   pub names : ℕ × (ℕ × ℕ)
   pub heap : Global
 
-abbrev ring_of : End (Vec ℕ) Global AnyItems → Ring
+abbrev pub ring_of : End (Vec ℕ) Global AnyItems → Ring
 ring_of e = record { words = e.words; slots = e.slots; names = e.names; heap = e.heap }
 
 -- the ring out of which an end takes, and the one into which an end puts
