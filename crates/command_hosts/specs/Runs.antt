@@ -11,6 +11,7 @@ use Rattle.outside_switch.specs.declared.heard.Heard.TheVariants.{Shown}
 use Rattle.outside_switch.specs.declared.line.HostLine.{HostLine}
 use Rattle.pair_lines.specs.Lines.{HasRoom}
 use Rattle.pair_lines.specs.declared.screen.Screen.{Screen}
+use Rattle.command_hosts.specs.Judging.{FloodersAreCut}
 use Rattle.command_hosts.specs.Ports.{BeginsAt, IsOver, Serves}
 use Rattle.command_hosts.specs.declared.live.Live.{Live}
 use Rattle.command_hosts.specs.declared.session.HostsEnd.{HostsEnd}
@@ -18,18 +19,21 @@ use Rattle.command_hosts.specs.declared.session.HostsEnd.TheVariants.{NoHosts, S
 use Rattle.command_hosts.specs.declared.session.Quit.{Quit}
 use Rattle.command_hosts.specs.declared.session.Session.{Session}
 
--- the switch went on, and what passed meanwhile between its devices and the user passed at both ports
+-- The switch went on, and what passed meanwhile between its devices and the user passed at both ports. A host that has sent too much
+-- was cut off.
 pub record Went {D N : Type 0} (old new : Session D N) : Type 0 where
   pub passed : List Passed
   pub goes : GoesWith passed (seen old.switch) (seen new.switch)
   pub first : Serves 0 passed old.first new.first
   pub second : Serves 1 passed old.second new.second
+  pub cut : FloodersAreCut old → FloodersAreCut new
 
 -- this was shown, and the switch is as it was
 pub record IsTold {D N : Type 0} (passed : List Passed) (old new : Session D N) : Type 0 where
   pub switch : new.switch ≡ old.switch
   pub first : Serves 0 passed old.first new.first
   pub second : Serves 1 passed old.second new.second
+  pub flood : new.flood ≡ old.flood
 
 -- the screen of a port has room: of the first one, or of the other
 abbrev pub HasRoomAt : Bool → Screen → Screen → Type 0

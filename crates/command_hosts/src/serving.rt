@@ -24,6 +24,7 @@ pub fn run_hosts<D: SectorStore, N: Write + Drop, C: Wait + Clock>(
 {
     let end = serve(rt, alloc, session, wake);
     session.switch.stop(alloc);
+    session.tell_refused(alloc);
     end
 }
 

@@ -1,11 +1,13 @@
 //! The outside of a pair: its switch, the user's ends of both ports, and what the turns remember.
-ghost use Rattle.std.specs.Prelude.{◌≡◌, [], IfErr, IfOk, IsOkUnless, OnErr, OnOk, Some, if◌then◌else◌, length, nat_lt};
+ghost use Rattle.std.specs.Prelude.{◌≡◌, [], IfErr, IfOk, IsOkUnless, OnErr, OnOk, Some, if◌then◌else◌, length, nat_lt, replicate};
 ghost use Rattle.i8080_words.specs.declared.refusal.Fault.TheVariants.{OutOfMemory, Unknown};
 ghost use Rattle.outside_devices.specs.Held.{at_boot};
 ghost use Rattle.outside_switch.specs.Goes.{Adds};
 ghost use Rattle.outside_switch.specs.declared.line.HostLine.{HostLine};
 ghost use Rattle.outside_switch.specs.Meets.{seen};
+ghost use Rattle.command_hosts.specs.Floods.{never_heard, tally_of};
 
+use crate::flood::Flood;
 use crate::port::PortEnd;
 use i8080_words::R;
 use outside_switch::Switch;
@@ -41,6 +43,7 @@ pub struct Session<D: SectorStore, N: Write + Drop> {
     pub(crate) quits: Consumer<Quit>,
     pub(crate) notes: N,
     pub(crate) moments: Moments,
+    pub(crate) flood: Flood,
 }
 
 /// When something happened last, in microseconds.
@@ -68,6 +71,7 @@ impl<D: SectorStore, N: Write + Drop> Session<D, N> {
     ) -> R<Session<D, N>>
         ensures ok { IfOk result (λ session. (session.first ≡ first) × (session.second ≡ second) × (seen session.switch
             ≡ record { devices = record (at_boot (D.records store) (D.may_fail store)) { hosts = 2 }; lines = [] })) }
+        ensures none_heard { IfOk result (λ session. session.flood.tallies ≡ replicate 256 never_heard) }
         ensures only_memory { IsOkUnless result OutOfMemory }
     {
         let switch = Switch::new(alloc, store)?;
@@ -84,6 +88,7 @@ impl<D: SectorStore, N: Write + Drop> Session<D, N> {
                 moved: 0,
                 live: None,
             },
+            flood: Flood::new(),
         })
     }
 
@@ -100,8 +105,17 @@ impl<D: SectorStore, N: Write + Drop> Session<D, N> {
         ensures why { IfErr result
             (λ fault. fault ≡ (if nat_lt (length self.old.switch.lines.items) 256 then OutOfMemory else Unknown)) }
         ensures ports { (self.new.first ≡ self.old.first) × (self.new.second ≡ self.old.second) }
+        ensures flood { self.new.flood ≡ self.old.flood }
     {
         self.switch.add(from, to, wake)
+    }
+
+    /// How many bodies of the host at a place were refused: those that are no frames, or mean nothing where they come from; those
+    /// that came after it was cut off; and the one that was too many.
+    pub fn refused(&self, place: u8) -> u64
+        ensures { result ≡ (tally_of self.now.flood place).refused }
+    {
+        self.flood.refused(place)
     }
 
     /// The screen of the first port, on which nothing more is shown.

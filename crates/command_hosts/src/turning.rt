@@ -4,12 +4,15 @@ ghost use Rattle.outside_switch.specs.Passing.{Shown, passed_of};
 ghost use Rattle.outside_switch.specs.declared.heard.Heard.{Heard};
 ghost use Rattle.outside_switch.specs.declared.heard.Heard.TheVariants as of_heard;
 ghost use Rattle.outside_switch.specs.Heeds.{HasRoomFor};
+ghost use Rattle.command_hosts.specs.Floods.{came_of, refused_one, tally_of};
+ghost use Rattle.command_hosts.specs.Judging.{HearsAndCounts, HearsOne, IsCounted, Judges, TakesOne, is_open};
 ghost use Rattle.command_hosts.specs.Ports.{Serves};
 ghost use Rattle.command_hosts.specs.Runs.{IsTold, IsWhy, MayShow, SeesLive, Went, have_no_machine};
 ghost use Rattle.command_hosts.specs.declared.session.HostsEnd.TheVariants as ending;
 
+use crate::flood::{Came, MOST_BODIES, came_of};
 use crate::live::{Live, live_of, spare_for};
-use crate::notes::{note, words_of};
+use crate::notes::{note, note_count, note_flood, note_gone, words_of};
 use crate::session::{HostsEnd, Session};
 use event_callbacks::PORTS;
 use outside_switch::{Heard, HostLine};
@@ -54,6 +57,7 @@ impl<D: SectorStore, N: Write + Drop> Session<D, N> {
     {
         if now.saturating_sub(self.moments.turned) > STOPPED {
             self.moments.moved = now;
+            self.flood.begin_anew(now);
         }
         self.moments.turned = now;
     }
@@ -122,14 +126,84 @@ impl<D: SectorStore, N: Write + Drop> Session<D, N> {
         has_heard
     }
 
-    // Hears the next body of a host, and shows what there is to show. Returns false if there is none.
+    // Hears the next body of a host, and counts it. Returns false if there is none.
     fn hear_next(&mut self, alloc: Global, now: u64, place: u8) -> bool
-        ensures { Went self.old self.new }
+        ensures went { Went self.old self.new }
+        ensures hears { HearsAndCounts place now self.old self.new }
+    {
+        let is_open = self.is_open(place);
+        let heard = self.hear_one(alloc, now, place);
+        self.judge(alloc, now, place, came_of(heard, is_open));
+        !matches!(heard, Heard::Nothing)
+    }
+
+    // Whether a host is at a place that is not cut off.
+    fn is_open(&self, place: u8) -> bool
+        ensures { result ≡ is_open self.now.switch place }
+    {
+        match self.switch.lines().get(usize::from(place)) {
+            Some(line) => !line.is_cut(),
+            None => false,
+        }
+    }
+
+    // Hears the next body of a host, and shows what there is to show.
+    fn hear_one(&mut self, alloc: Global, now: u64, place: u8) -> Heard
+        ensures went { Went self.old self.new }
+        ensures hears { HearsOne place result self.old self.new }
     {
         let rooms = self.rooms();
         let heard = self.switch.hear(alloc, place, rooms);
         self.tell(alloc, now, place, heard);
-        !matches!(heard, Heard::Nothing)
+        heard
+    }
+
+    // Counts what became of the next body of a host.
+    #[tactic(auto, using(crate::proofs::Going::counts))]
+    fn judge(&mut self, alloc: Global, now: u64, place: u8, came: Came)
+        ensures went { Went self.old self.new }
+        ensures judges { Judges came place now self.old self.new }
+    {
+        match came {
+            Came::Nothing => self.flood.rest(place),
+            Came::Failed => self.fail(alloc, place),
+            Came::Refused => self.flood.refuse(place),
+            Came::Taken => self.take(alloc, now, place),
+        }
+    }
+
+    // A host was cut off for a body that was refused.
+    #[tactic(auto, using(crate::proofs::Going::counts))]
+    fn fail(&mut self, alloc: Global, place: u8)
+        ensures went { Went self.old self.new }
+        ensures counted { IsCounted place (refused_one (tally_of self.old.flood place)) self.old self.new }
+    {
+        self.flood.refuse(place);
+        note_gone(&mut self.notes, alloc, place, self.flood.refused(place));
+    }
+
+    // Counts a body of a host, which is cut off if that is one too many.
+    #[tactic(auto, using(crate::proofs::Going::takes, crate::proofs::Cutting::few, crate::proofs::Cutting::many))]
+    fn take(&mut self, alloc: Global, now: u64, place: u8)
+        ensures went { Went self.old self.new }
+        ensures takes { TakesOne place now self.old self.new }
+    {
+        if !self.flood.note(now, place) {
+            return;
+        }
+        note_flood(&mut self.notes, alloc, place, MOST_BODIES + 1);
+        self.cut_off(alloc, place);
+    }
+
+    // Cuts off the host at a place.
+    #[tactic(auto, using(crate::proofs::Going::switched))]
+    fn cut_off(&mut self, alloc: Global, place: u8)
+        ensures went { Went self.old self.new }
+        ensures cut { is_open self.new.switch place ≡ false }
+        ensures flood { self.new.flood ≡ self.old.flood }
+    {
+        self.switch.gone(alloc, place);
+        note_gone(&mut self.notes, alloc, place, self.flood.refused(place));
     }
 
     // Whether the screen of each port has room.
@@ -137,6 +211,7 @@ impl<D: SectorStore, N: Write + Drop> Session<D, N> {
         ensures switch { self.new.switch ≡ self.old.switch }
         ensures first { Serves 0 [] self.old.first self.new.first }
         ensures second { Serves 1 [] self.old.second self.new.second }
+        ensures flood { self.new.flood ≡ self.old.flood }
         ensures room { (heard : Heard) → HasRoomFor result heard
             → MayShow self.new.first.screen self.new.second.screen heard }
     {
@@ -190,15 +265,14 @@ impl<D: SectorStore, N: Write + Drop> Session<D, N> {
     }
 
     // If the stream of the host at a place has ended, it is gone.
-    #[tactic(auto, using(crate::proofs::Going::switched, crate::proofs::Going::switched_twice))]
+    #[tactic(auto, using(crate::proofs::Going::stays, crate::proofs::Going::switched, crate::proofs::Going::and_then))]
     fn see_end(&mut self, alloc: Global, place: u8)
         ensures { Went self.old self.new }
     {
         if !self.switch.has_ended(place) {
             return;
         }
-        self.switch.gone(alloc, place);
-        note(&mut self.notes, alloc, place, "is gone");
+        self.cut_off(alloc, place);
     }
 
     // Sends the live host its keys, and has it begin with a spare if it is alone.
@@ -274,7 +348,35 @@ impl<D: SectorStore, N: Write + Drop> Session<D, N> {
             return;
         }
         self.moments.ticked = now;
+        self.flood.tick(now);
         self.switch.tick(alloc);
+    }
+
+    /// Tells of each host of which bodies were refused how many those were.
+    #[tactic(auto, using(crate::proofs::Going::stays, crate::proofs::Going::and_then))]
+    pub(crate) fn tell_refused(&mut self, alloc: Global)
+        ensures { Went self.old self.new }
+    {
+        for place in 0..=u8::MAX {
+            self.tell_refused_of(alloc, place);
+        }
+    }
+
+    // Tells how many bodies of the host at a place were refused, if any were.
+    #[tactic(auto, using(crate::proofs::Going::same))]
+    fn tell_refused_of(&mut self, alloc: Global, place: u8)
+        ensures { Went self.old self.new }
+    {
+        let refused = self.flood.refused(place);
+        if refused > 0 {
+            note_count(
+                &mut self.notes,
+                alloc,
+                place,
+                "has sent frames that were refused",
+                refused,
+            );
+        }
     }
 
     /// Why all ends now, if it does.

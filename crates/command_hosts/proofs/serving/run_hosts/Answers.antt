@@ -1,6 +1,6 @@
 -- It went on to the end, and then told the hosts to stop.
 use Rattle.std.proofs.Common.{refl}
-use Rattle.command_hosts.proofs.Going.{switched}
+use Rattle.command_hosts.proofs.Going.{and_then, switched}
 use Rattle.command_hosts.proofs.serving.run_hosts.Goals as goal
 
 pub returns : goal.returns
@@ -8,5 +8,5 @@ returns g c = record {
   last = c.serve-end.new.session;
   went = c.serve-end.ensures.went;
   why = c.serve-end.ensures.why;
-  stopped = switched _ _ c.stop.ensures refl refl;
+  stopped = and_then _ _ _ (switched _ _ c.stop.ensures refl refl refl) c.tell_refused.ensures;
 }
