@@ -80,6 +80,12 @@ module _ {D N : Type 0} where
   switched a b goes first second counts =
       quietly a b goes (unchanged a.first b.first first) (unchanged a.second b.second second) counts
 
+  -- or two things
+  pub switched_twice : (a b : Session D N) (s : Seen) → GoesWith [] (seen a.switch) s → GoesWith [] s (seen b.switch) →
+      b.first ≡ a.first → b.second ≡ a.second → b.flood.tallies ≡ a.flood.tallies → Went a b
+  switched_twice a b s p q first second counts =
+      switched a b (then_with (seen a.switch) s (seen b.switch) [] [] p q) first second counts
+
   -- keys were sent from both ports
   pub sends : (a b : Session D N) (s : Seen) → GoesWith [] (seen a.switch) s → GoesWith [] s (seen b.switch) →
       Rests a.first b.first → Rests a.second b.second → b.flood.tallies ≡ a.flood.tallies → Went a b

@@ -15,7 +15,7 @@ taken_if is_open = if is_open then Taken else Refused
 abbrev pub came_of : Heard → Bool → Came
 came_of heard.Nothing is_open = Nothing
 came_of heard.Failed is_open = Failed
-came_of heard is_open = taken_if is_open
+came_of _ is_open = taken_if is_open
 
 -- a count ends at the greatest number that there is
 abbrev pub one_more : ℕ → ℕ

@@ -112,7 +112,7 @@ pub(crate) struct Flood {
 impl Flood {
     /// Nothing was heard of any host.
     pub(crate) fn new() -> Flood
-        ensures { result.tallies ≡ replicate PLACES never_heard }
+        ensures { result.tallies ≡ replicate 256 never_heard }
     {
         Flood {
             tallies: [Tally::new(); PLACES],

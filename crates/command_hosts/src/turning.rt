@@ -1,10 +1,12 @@
 //! One turn of the outside.
-ghost use Rattle.std.specs.Prelude.{IfSome, ◌≡◌, ◌∷◌, [], true};
+ghost use Rattle.std.specs.Prelude.{IfSome, ◌≡◌, ◌∷◌, [], false, true};
+ghost use Rattle.outside_switch.specs.Goes.{GoesWith};
+ghost use Rattle.outside_switch.specs.Meets.{seen};
 ghost use Rattle.outside_switch.specs.Passing.{Shown, passed_of};
 ghost use Rattle.outside_switch.specs.declared.heard.Heard.{Heard};
 ghost use Rattle.outside_switch.specs.declared.heard.Heard.TheVariants as of_heard;
 ghost use Rattle.outside_switch.specs.Heeds.{HasRoomFor};
-ghost use Rattle.command_hosts.specs.Floods.{came_of, refused_one, tally_of};
+ghost use Rattle.command_hosts.specs.Floods.{refused_one, tally_of};
 ghost use Rattle.command_hosts.specs.Judging.{HearsAndCounts, HearsOne, IsCounted, Judges, TakesOne, is_open};
 ghost use Rattle.command_hosts.specs.Ports.{Serves};
 ghost use Rattle.command_hosts.specs.Runs.{IsTold, IsWhy, MayShow, SeesLive, Went, have_no_machine};
@@ -127,6 +129,7 @@ impl<D: SectorStore, N: Write + Drop> Session<D, N> {
     }
 
     // Hears the next body of a host, and counts it. Returns false if there is none.
+    #[tactic(auto, using(crate::proofs::Going::and_then))]
     fn hear_next(&mut self, alloc: Global, now: u64, place: u8) -> bool
         ensures went { Went self.old self.new }
         ensures hears { HearsAndCounts place now self.old self.new }
@@ -196,10 +199,11 @@ impl<D: SectorStore, N: Write + Drop> Session<D, N> {
     }
 
     // Cuts off the host at a place.
-    #[tactic(auto, using(crate::proofs::Going::switched))]
     fn cut_off(&mut self, alloc: Global, place: u8)
-        ensures went { Went self.old self.new }
+        ensures goes { GoesWith [] (seen self.old.switch) (seen self.new.switch) }
         ensures cut { is_open self.new.switch place ≡ false }
+        ensures first { self.new.first ≡ self.old.first }
+        ensures second { self.new.second ≡ self.old.second }
         ensures flood { self.new.flood ≡ self.old.flood }
     {
         self.switch.gone(alloc, place);
@@ -265,7 +269,7 @@ impl<D: SectorStore, N: Write + Drop> Session<D, N> {
     }
 
     // If the stream of the host at a place has ended, it is gone.
-    #[tactic(auto, using(crate::proofs::Going::stays, crate::proofs::Going::switched, crate::proofs::Going::and_then))]
+    #[tactic(auto, using(crate::proofs::Going::switched, crate::proofs::Going::switched_twice))]
     fn see_end(&mut self, alloc: Global, place: u8)
         ensures { Went self.old self.new }
     {
