@@ -39,8 +39,7 @@ def sleep_for_good():
 
 
 def flood():
-    """Writes frames without end, as fast as they are taken, and reads nothing. The outside takes longer to hear one than to read it, so
-    that it never comes to their end."""
+    """Writes frames without end, as fast as they are taken, and reads nothing."""
     while True:
         write(report_of_spare() * 1000)
 
