@@ -54,8 +54,8 @@ class OnScreen(AtTerminal):
         set_size(self.terminal, size)
 
     def texts(self):
-        """The rows that are not empty, but for the last one."""
-        return [it for it in self.screen.texts()[:-1] if it]
+        """The rows that are not empty, but for the last one, with an N for the number of each process."""
+        return [re.sub(r"process \d+", "process N", it) for it in self.screen.texts()[:-1] if it]
 
     def await_row(self, pattern):
         """Waits until this is on the last row."""
@@ -75,13 +75,14 @@ def played(*steps, **how):
         player.chmod(0o755)
         with looked_at([TOP / "tools/console.py", player, "console"], **how) as console:
             console.await_that(console.is_raw, "the raw mode")
+            console.await_row("^host 2 is process")
             yield console
 
 
 @case
 def a_line_is_on_the_last_row_and_the_guest_above_it(command):
-    lines = [GREETING, "MONITOR", "*", "pair> stop 0", "host 0 has failed, and host 1 is told"]
-    with looked_at(command("--spares", "2")) as console:
+    lines = [GREETING, "MONITOR", "*", "pair> stop 0", "host 0, process N, is killed"]
+    with looked_at(command("--hosts", "4", "--later", "0")) as console:
         console.await_shown(b"MONITOR\r\n*")
         console.await_row("^generation 1: host 0 is the primary, host 1 its backup$")
         console.say("stop 0")

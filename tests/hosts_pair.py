@@ -8,7 +8,7 @@ import shlex
 import signal
 
 from cases import expect
-from console_sitting import ENTER, ESCAPE, TOP, BetweenPipes, ended_at_last, guest_of, holds
+from console_sitting import ENTER, ESCAPE, TOP, BetweenPipes, command_of, ended_at_last, guest_of, holds
 
 GUESTS = TOP / "examples/guests"
 QUIT = ESCAPE + b"quit" + ENTER
@@ -50,8 +50,7 @@ class Pair(BetweenPipes):
     program = TOP / "pair"
 
     def __init__(self, *words):
-        before = [self.program] if self.program.name == "pair" else [TOP / "tools/hosts.py", self.program]
-        super().__init__([*before, "hosts", *words], start_new_session=True)
+        super().__init__(command_of(self.program, *words), start_new_session=True)
 
     def processes(self):
         """The process of each host that was started, by its place."""

@@ -24,8 +24,8 @@ def frame(body):
 
 
 def report_of_spare():
-    """What a spare says of itself: generation 0, no role, count 0, no keys taken and covered."""
-    return frame(b"E" + bytes(4 + 1 + 8 + 32))
+    """What a spare says of itself: generation 0, no role, no guest that idles, no steps, lag, writes and tick, no keys taken and covered."""
+    return frame(b"E" + bytes(4 + 1 + 1 + 4 * 8 + 4 * 8))
 
 
 def write(some):

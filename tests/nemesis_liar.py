@@ -154,7 +154,7 @@ def acknowledged(body):
 
 def main(mistake, program, command, *words):
     words = [program, command, *words]
-    if command == "hosts" and mistake in OF_OUTSIDE:
+    if command == "console" and mistake in OF_OUTSIDE:
         os._exit(Outside(mistake, words).serve())
     if command == "host" and mistake in OF_ROLES:
         os._exit(Host(mistake, words).serve())

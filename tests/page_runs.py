@@ -158,7 +158,6 @@ def ported(text: bytes) -> bytes:
 # What a command must do that is not one of PLAYED.
 DOES: dict[str, Callable[[str], None]] = {
     "./pair console": lambda it: has((b"MONITOR\r\n*D 0000\r\n0000 ",), it, b"D 0000\r"),
-    "./pair hosts": lambda it: has((b"MONITOR\r\n*D 0000\r\n0000 ",), it, b"D 0000\r"),
     "./pair lint < FILE": lambda it: prints(b"line 2: stopp begins no line of a script\n", it, status=3),
     "./pair shell": lambda it: has((b"primary 1 count 0\n", b"\nstop N "), it, b"node 0\nhelp\n"),
     "./pair shell --disk 0=FILE.dsk": lambda it: has((b"|" + TEXT[:16] + b"|",), it, b"sector 0 0 0\n"),
@@ -272,7 +271,7 @@ def guest_that_polls() -> None:
 def session_at_the_console(page: str, title: str) -> None:
     """A case: what is typed at the console shows what a page shows, with the pair on the last row."""
     *lines, row = blocks(part(page, title))[0]
-    lines = lines[lines.index("MONITOR") + 1 :] if "MONITOR" in lines else lines
+    lines = [re.sub(r"process \d+", "process N", it) for it in lines[lines.index("MONITOR") + 1 if "MONITOR" in lines else 0 :]]
     rows = lambda: console.texts()[console.texts().index("MONITOR") + 1 :]
     with place() as room, ended_at_last(OnScreen([room / "pair", "console"], size=(24, 100))) as console:
         console.await_shown(b"MONITOR\r\n*")
@@ -294,17 +293,17 @@ SAYS = {
     "cut": ("cut", "the link loses 100 of 100 packets"),
     "mend": ("mend", "the link loses 0 of 100 packets"),
     "drop N": ("drop 30", "the link loses 30 of 100 packets"),
-    "freeze N": ("freeze 0", "the hosts of this console are threads"),
-    "thaw N": ("thaw 0", "the hosts of this console are threads"),
-    "part": ("part", "the hosts of this console are threads"),
-    "spare": ("spare", "host 2 has come; spare hosts: 1"),
+    "freeze N": ("freeze 1", "stands still"),
+    "thaw N": ("thaw 1", "goes on"),
+    "part": ("part", "the hosts do not see each other"),
+    "spare": ("spare", "host 2 has come: process "),
     "speed N": ("speed 300000", "the machine makes at most 300000 steps a second"),
     "save D FILE": ("save 0 work.dsk", "drive 0 is saved to work.dsk"),
     "picture FILE": ("picture story.svg", "is drawn in story.svg"),
-    "status": ("status", "the link loses 30 of 100 packets"),
+    "status": ("status", "the link loses every packet"),
     "help": ("help", "quit"),
     "terminal P": ("terminal 0", "terminal 0"),
-    "stop N": ("stop 0", "host 0 has failed, and host 1 is told"),
+    "stop N": ("stop 0", "is killed"),
 }
 
 
@@ -312,7 +311,7 @@ def commands_of_the_console() -> None:
     """A case: the commands that docs/CONSOLE.md has are carried out, and write their files; `quit` ends."""
     rows = re.findall(r"^\| (`.*?) \|", part("docs/CONSOLE.md", "The line of commands"), re.MULTILINE)
     expect(sorted(it for row in rows for it in re.findall(r"`([^`]+)`", row)), sorted([*SAYS, "quit"]), "the commands")
-    with place() as room, ended_at_last(AtTerminal([room / "pair", "console", "--spares", "0"], cwd=room)) as console:
+    with place() as room, ended_at_last(AtTerminal([room / "pair", "console", "--hosts", "2", "--later", "0", "--patience", "30000"], cwd=room)) as console:
         console.await_shown(b"MONITOR\r\n*")
         console.await_said(rb"generation 1: ")
         for said, answer in SAYS.values():

@@ -1,10 +1,15 @@
 #!/usr/bin/env python3
-"""Sits at a pair: runs the program's command `console`, and passes on to it what is typed, byte for byte.
+"""Sits at a pair whose hosts are processes: makes their named pipes, starts them and the outside, and passes on to that what is typed.
 
 usage: tools/console.py PROGRAM console [OPTION ..]
 
-The options are those of tools/options.py that are for `console`, and the program's own --spares, --link and --reads. Without --load, --disk,
---memory and --setup the guest is the monitor of examples/guests.
+The options are those of tools/options.py that are for `console`. Without --load, --disk, --memory and --setup the guest is the monitor of
+examples/guests.
+
+The outside is the program's command `console`. Host 0 is the primary, host 1 its backup, all others are spares; it is said which process
+each host is, and how it has ended. Any of them may be killed or stopped from elsewhere, or by the commands `stop`, `freeze` and `thaw`.
+When one has ended and --later allows one more, a spare is started; `spare` starts one too. When the outside has ended, so do all hosts,
+since their streams do; one that is stopped is killed.
 
 A terminal gives each key as it is typed, Ctrl-C among them, and is set back as it was however the command ends. If it hangs up, no
 more keys come, and a program that goes on for half a minute is ended. If the input is a file or a pipe, its end is that of the keys.
@@ -13,18 +18,23 @@ Lines about the pair appear on the last row of a terminal, if standard output an
 scrolls above; with `--lines here` they are written where the cursor is.
 
 A file is read whole before the program starts; one that is not what it should be is refused, with status 2. Disks are saved if the
-program ends well, each whole; a file that cannot be written stays as it was, and then the status is 5. At the command `save` of its command
+outside ends well, or if no host is left that has the machine: the outside has the disk. Each is written whole; a file that cannot be
+written stays as it was, and then the status is 5. At the command `save` of its command
 line a program hands the disk of that moment over, and this command writes it and says so; at `picture` it draws what was told of the pair.
 """
 
 import contextlib
+import ctypes
 import os
 import re
 import secrets
 import select
+import shlex
+import shutil
 import signal
 import subprocess
 import sys
+import tempfile
 import termios
 import threading
 import tty
@@ -33,17 +43,28 @@ sys.path.insert(0, os.path.dirname(os.path.realpath(__file__)))
 import disks
 import last_row
 from files import hex_lines, image_in, place_in, read, save
-from options import complain, drives_in, key_in, key_lines, memory_line, numbered, sense_line, spelled, taken
+from hosts import SIGNALS, Hosts
+from options import complain, count_in, drives_in, key_in, key_lines, memory_line, numbered, sense_line, spelled, taken
 from output import Output
 from screen import Screen
 from story import Story
 
+# The options that say how many hosts there are, and how they are run.
+OF_HOSTS = {"--hosts", "--later", "--patience", "--remote"}
 MONITOR = os.path.join(os.path.dirname(os.path.dirname(os.path.realpath(__file__))), "examples/guests/monitor.hex")
 # Where lines about the pair may appear; and how one of them begins that a program hands over, and how a wish for a picture.
 WHERE = {"row", "here"}
 LINE, WISH = b"pair: ", b"picture "
 # These words ask for the program's own help.
 HELP = {"-h", "--help"}
+# How many processes begin, how many more do when others have ended, how many `spare` starts, and how many places there are at most.
+HOSTS, LATER, ASKED, MOST = 3, 8, 16, 99
+# What the first hosts are when the pair boots; all others are spares.
+ROLES = ("primary", "backup")
+# The status of an outside that has no host left with the machine; it has written the disks then, too.
+NO_HOSTS = 6
+# Asks Linux to kill a process when the one that started it ends.
+PR_SET_PDEATHSIG = 1
 # How many keys are read at once, and for how many seconds a program may go on after its terminal has hung up.
 MOST_KEYS = 4096
 PATIENCE = 30
@@ -66,30 +87,27 @@ def where_in(word):
     return word
 
 
-# The options that are handed on to the program, each with what becomes of its value.
-HANDED_ON = {"--spares": str, "--link": str, "--escape": escape_in, "--reads": str}
-
-
 class Asked:
-    """What the words of a command line ask for: words for the program, what comes before the keys, and disks to be saved."""
-
-    command, handed_on = "console", HANDED_ON
-    # The statuses with which the program has written the disks that are to be saved.
-    well = (0,)
+    """What the words of a command line ask for: words for the program, what comes before the keys, disks to be saved, and how many hosts
+    there are."""
 
     def __init__(self, words):
         self.own, self.images, self.saves = [], {}, {}
         self.setup, self.memory, self.keys, self.lines = b"", None, [], None
-        for option, value in taken(self.command, words, self.handed_on):
+        # How many hosts begin, how many may later, by which command those elsewhere are run, what each is given, and where the pipes are.
+        self.hosts, self.later, self.remote, self.of_hosts, self.folder = HOSTS, LATER, {}, [], None
+        for option, value in taken("console", words):
             if value is None:
-                complain(f"`pair {self.command}` has no option {option}; `./pair help {self.command}` lists its options")
+                complain(f"`pair console` has no option {option}; `./pair help console` lists its options")
             self.take(option, value)
         if self.memory is None:
             self.memory = hex_lines(MONITOR)
+        if self.hosts + self.later > MOST:
+            complain(f"--hosts {self.hosts} --later {self.later}: there are at most {MOST} hosts")
 
     def take(self, option, value):
-        if option in self.handed_on:
-            self.own += [option, self.handed_on[option](value)]
+        if option == "--escape":
+            self.own += [option, escape_in(value)]
         elif option == "--sense":
             self.setup += spelled([sense_line(value)])
         elif option == "--type":
@@ -99,8 +117,22 @@ class Asked:
             self.saves[drive] = place_in(path)
         elif option == "--lines":
             self.lines = where_in(value)
+        elif option in OF_HOSTS:
+            self.take_hosts(option, value)
         else:
             self.take_guest(option, value)
+
+    def take_hosts(self, option, value):
+        """How many hosts there are, and how they are run."""
+        if option == "--hosts":
+            self.hosts = count_in(option, value, 2)
+        elif option == "--later":
+            self.later = count_in(option, value, 0)
+        elif option == "--patience":
+            self.of_hosts = [option, str(count_in(option, value, 100))]
+        else:
+            host, command = numbered(option, value, MOST - 1)
+            self.remote[host] = shlex.split(command)
 
     def take_guest(self, option, value):
         """What the guest is made of."""
@@ -119,11 +151,23 @@ class Asked:
         """What comes before the first key: images, and then a script."""
         return b"".join(self.images.values()) + self.setup + spelled(self.memory + self.keys)
 
+    def places(self):
+        """How many places for hosts there are."""
+        return min(self.hosts + self.later + ASKED, MOST)
+
+    def first(self):
+        """The words that say what comes before the first key, or before the first frame."""
+        return ["--before", str(len(self.opening())), *["--images", drives_in(self.images)] * bool(self.images)]
+
     def words(self, mark):
-        """The words that the program is given."""
-        words = ["console", "--before", str(len(self.opening())), *self.own]
-        words += ["--images", drives_in(self.images)] * bool(self.images)
+        """The words that the outside is given."""
+        words = ["console", "--folder", self.folder, "--places", str(self.places()), *self.first(), *self.own]
         return [*words, "--apart", *self.saving(mark)]
+
+    def host_words(self, program, host):
+        """The words of the command that runs a host."""
+        role = ROLES[host] if host < len(ROLES) else "spare"
+        return [*self.remote.get(host, [program]), "host", "--role", role, *self.of_hosts, *self.first()]
 
     def saving(self, mark):
         """The words that say which disks the program writes at its end, and what it writes before them."""
@@ -134,8 +178,8 @@ class Asked:
         for screen in screens:
             if screen.error:
                 complain(f"the output is not written: {screen.error.strerror}", 5)
-        if self.saves and status not in self.well:
-            complain(f"{', '.join(self.saves.values())}: not written, since `pair {self.command}` did not end well", status)
+        if self.saves and status not in (0, NO_HOSTS):
+            complain(f"{', '.join(self.saves.values())}: not written, since `pair console` did not end well", status)
         if self.saves:
             self.save(bytes(screens[0].kept or b""))
         return status
@@ -181,10 +225,11 @@ class Keys:
 
 
 class Run:
-    """A run of the program, and the signal that has ended it."""
+    """A run of the outside and its hosts, and the signal that has ended it."""
 
     def __init__(self):
-        self.program = self.keys = self.ended_by = None
+        self.program = self.hosts = self.keys = self.ended_by = None
+        self.lock = threading.Lock()
         # The last row of the terminal, if lines about the pair are shown there; and what they have told.
         self.row, self.story = None, Story()
         # The program's output, and what it says beside it if that goes elsewhere.
@@ -210,9 +255,22 @@ class Run:
             self.end(number)
 
     @contextlib.contextmanager
+    def hosts_of(self, path, asked, mark):
+        """The outside, as long as it runs, and all hosts."""
+        self.hosts = Hosts(path, asked, self.say)
+        try:
+            with self.program_at(path, asked, mark) as outside:
+                self.say(f"the outside is process {outside.pid}")
+                for _ in range(asked.hosts):
+                    self.hosts.start()
+                yield outside
+        finally:
+            self.hosts.end()
+
+    @contextlib.contextmanager
     def program_at(self, path, asked, mark):
-        """The program, as long as it runs. What it writes is passed on by this command, which takes out what is handed over, and ends the
-        program if it cannot be written. What it says beside that comes with it, if both go to one place."""
+        """The outside, as long as it runs. What it writes is passed on by this command, which takes out what is handed over, and ends the
+        outside if it cannot be written. What it says beside that comes with it, if both go to one place."""
         how = {"stdout": subprocess.PIPE, "stderr": subprocess.STDOUT if is_one_place() else subprocess.PIPE}
         self.program = subprocess.Popen([path, *asked.words(mark)], stdin=subprocess.PIPE, preexec_fn=self.prepare, **how)
         try:
@@ -225,9 +283,15 @@ class Run:
 
     @staticmethod
     def prepare():
-        """In the program's process, before it begins: the program hears no signal of this command's terminal."""
+        """In the outside's process, before it begins: it hears no signal of this command's terminal, and is killed if this command is."""
         for it in OF_TERMINALS:
             signal.signal(it, signal.SIG_IGN)
+        ctypes.CDLL(None).prctl(PR_SET_PDEATHSIG, signal.SIGKILL)
+
+    def say(self, line):
+        """Says a line about the pair."""
+        with self.lock, contextlib.suppress(OSError):
+            Output(2).write(self.told(line.encode()))
 
     def pass_on(self, mark):
         """Passes on keys, and what the program writes, until it ends."""
@@ -248,6 +312,13 @@ class Run:
 
     def heard(self, handed):
         """Does what is to be done with what a program hands over; gives what is written in its place."""
+        word, _, rest = handed.partition(b" ")
+        if word in SIGNALS:
+            return self.signalled(word, int(rest))
+        if word == b"spare":
+            return self.added()
+        if word == b"status":
+            return re.sub(rb"host (\d+):", self.named, rest)
         if handed.startswith(WISH):
             return drawn_as(path_in(handed[len(WISH) :]), self.story.picture())
         if not handed.startswith(LINE):
@@ -261,6 +332,27 @@ class Run:
             return b"\r\n" + LINE + line + b"\r\n"
         self.row.say(line)
         return b""
+
+    def signalled(self, word, place):
+        """Sends a host the signal that a word wishes."""
+        process = self.hosts.running(place)
+        if process is None:
+            return b"no host %d runs" % place
+        number, said = SIGNALS[word]
+        process.send_signal(number)
+        return f"host {place}, process {process.pid}, {said}".encode()
+
+    def added(self):
+        """Starts one more spare."""
+        place = self.hosts.start()
+        if place is None:
+            return f"no more than {self.hosts.asked.places()} hosts".encode()
+        return f"host {place} has come: process {self.hosts.processes[place].pid}".encode()
+
+    def named(self, found):
+        """A host of a status, with its process."""
+        process = self.hosts.running(int(found[1]))
+        return b"host %b (process %d):" % (found[1], process.pid) if process else found[0]
 
     def status(self):
         """The status of the program, or that of a command that a signal has ended."""
@@ -362,15 +454,20 @@ def raw_terminal():
 def main(path, command, *words):
     if not HELP.isdisjoint(words):
         os.execv(path, [path, command, "--help"])
-    return sit(path, Asked(words), Run())
+    asked = Asked(words)
+    refuse(path, command, asked.own)
+    asked.folder = tempfile.mkdtemp(prefix="pair.")
+    try:
+        return sit(path, asked, Run())
+    finally:
+        shutil.rmtree(asked.folder, ignore_errors=True)
 
 
 def sit(path, asked, run):
-    """Lets one sit at a program until it ends; gives its status."""
-    refuse(path, asked.command, asked.own)
+    """Lets one sit at a pair until it ends; gives its status."""
     mark = new_mark()
     run.heed()
-    with raw_terminal(), row_for(asked.lines) as run.row, run.program_at(path, asked, mark):
+    with raw_terminal(), row_for(asked.lines) as run.row, run.hosts_of(path, asked, mark):
         run.pass_on(mark.encode())
     status = run.status()
     if status and os.isatty(0) and os.isatty(2):

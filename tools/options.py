@@ -5,20 +5,20 @@ usage: tools/options.py [COMMAND]     prints those of a command; without one, al
 
   --load FILE           for all commands but `host`: a program in Intel HEX, in memory at boot, as lines `mem` before the input
   --disk D=FILE         for all commands but `lint` and `host`: the image of a disk in drive D, before the input
-  --save-disk D=FILE    for `live`, `shell`, `console` and `hosts`: at the end the disk of drive D is written to a file
-  --type P=TEXT         for `live`, `console` and `hosts`: keys typed at port P, after those of the script; \\r is Enter, and \\xHH any byte
+  --save-disk D=FILE    for `live`, `shell` and `console`: at the end the disk of drive D is written to a file
+  --type P=TEXT         for `live` and `console`: keys typed at port P, after those of the script; \\r is Enter, and \\xHH any byte
   --stop HOST@TURN      for `live`: a host fails at this turn of its generation, and the other one continues; one for each generation
   --spares K            for `live`: how many spare hosts there are to copy the guest to; without it as many as there are --stop
   --generations N       for `live`: how many generations there are at most
-  --setup FILE          for `console` and `hosts`: lines of a setup, as a script has them, before those of --load
-  --memory AAAA=HH..    for `console` and `hosts`: bytes from this address on, in hexadecimal digits, in memory at boot
-  --sense HH            for `console` and `hosts`: the sense switches, in two hexadecimal digits
-  --escape KEY          for `console` and `hosts`: the key that opens a command line, as ^E, or as two hexadecimal digits
-  --hosts N             for `hosts`: how many processes begin, from 2 on: the primary, its backup, and spares
-  --later K             for `hosts`: how many more begin as spares later, each when a host has ended
-  --patience MS         for `hosts`: for how many milliseconds a host may hear nothing of its peer until it suspects it
-  --remote N=COMMAND    for `hosts`: host N is run by this command, as `ssh alpha /opt/pair/pair`
-  --lines WHERE         for `console` and `hosts`: lines about the pair appear on the last row of the terminal (`row`), or where the cursor is (`here`)
+  --setup FILE          for `console`: lines of a setup, as a script has them, before those of --load
+  --memory AAAA=HH..    for `console`: bytes from this address on, in hexadecimal digits, in memory at boot
+  --sense HH            for `console`: the sense switches, in two hexadecimal digits
+  --escape KEY          for `console`: the key that opens a command line, as ^E, or as two hexadecimal digits
+  --hosts N             for `console`: how many processes begin, from 2 on: the primary, its backup, and spares
+  --later K             for `console`: how many more begin as spares later, each when a host has ended
+  --patience MS         for `console`: for how many milliseconds a host may hear nothing of its peer until it suspects it
+  --remote N=COMMAND    for `console`: host N is run by this command, as `ssh alpha /opt/pair/pair`
+  --lines WHERE         for `console`: lines about the pair appear on the last row of the terminal (`row`), or where the cursor is (`here`)
 """
 
 import contextlib
@@ -28,22 +28,22 @@ import sys
 
 # The commands that each option is for.
 OPTIONS = {
-    "--load": ("script", "check", "picture", "lint", "live", "shell", "console", "hosts"),
-    "--disk": ("script", "check", "picture", "live", "shell", "console", "hosts"),
-    "--save-disk": ("live", "shell", "console", "hosts"),
-    "--type": ("live", "console", "hosts"),
+    "--load": ("script", "check", "picture", "lint", "live", "shell", "console"),
+    "--disk": ("script", "check", "picture", "live", "shell", "console"),
+    "--save-disk": ("live", "shell", "console"),
+    "--type": ("live", "console"),
     "--stop": ("live",),
     "--spares": ("live",),
     "--generations": ("live",),
-    "--setup": ("console", "hosts"),
-    "--memory": ("console", "hosts"),
-    "--sense": ("console", "hosts"),
-    "--escape": ("console", "hosts"),
-    "--lines": ("console", "hosts"),
-    "--hosts": ("hosts",),
-    "--later": ("hosts",),
-    "--patience": ("hosts",),
-    "--remote": ("hosts",),
+    "--setup": ("console",),
+    "--memory": ("console",),
+    "--sense": ("console",),
+    "--escape": ("console",),
+    "--lines": ("console",),
+    "--hosts": ("console",),
+    "--later": ("console",),
+    "--patience": ("console",),
+    "--remote": ("console",),
 }
 # The lines above that say what these options are, each with its option.
 SAID = {line.split()[0]: line for line in __doc__.splitlines() if line.startswith("  --")}

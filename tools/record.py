@@ -88,7 +88,7 @@ class Recording:
 
 def main(path, program=None):
     command = [f"{TOP}/tools/console.py", program] if program else [f"{TOP}/pair"]
-    recording = Recording([*command, "console", "--spares", "2"])
+    recording = Recording([*command, "console"])
     for text, keys in SESSION:
         recording.wait_for(text)
         recording.look(PAUSE_SECONDS)

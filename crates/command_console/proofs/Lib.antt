@@ -1,7 +1,8 @@
 pub mod Mirrors
-pub mod Booting
 pub mod Ends
-pub mod Sessions
-pub mod Served
-pub mod Tellings
+pub mod Typing
+pub mod Finishing
+pub mod Sitting
+pub mod Leaving
+pub mod Running
 pub mod Answering

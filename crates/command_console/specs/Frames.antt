@@ -30,9 +30,9 @@ pub record IsAnswer (mark : List ℕ) (drive : ℕ) (path text : List ℕ) : Typ
   pub of_copy : IfOk image (λ i. IsOfCopy drive i.items)
   pub is : text ≡ answer_of mark drive image path
 
--- the answer if no command is there that writes files
+-- the answer if no command is there that starts processes and writes files
 abbrev pub unaided_text : List ℕ
-unaided_text = codes "`save` needs the command `./pair console`, which writes files: this program opens none"
+unaided_text = codes "that needs the command `./pair`, which starts processes and writes files: this program does neither"
 
 -- a wish for a picture: the mark twice, what is wanted, the name of a file in hexadecimal digits, and the mark
 abbrev pub between : List ℕ → List ℕ → List ℕ
@@ -40,7 +40,3 @@ between mark digits = mark ++ (mark ++ (codes "picture " ++ (digits ++ mark)))
 
 abbrev pub wish_of : List ℕ → List ℕ → List ℕ
 wish_of mark path = between mark (encode_lower path)
-
--- the answer if no command is there that draws
-abbrev pub undrawn_text : List ℕ
-undrawn_text = codes "`picture` needs the command `./pair console`, which writes files: this program opens none"

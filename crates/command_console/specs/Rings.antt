@@ -1,12 +1,10 @@
 -- The rings of a console before anything has come through them.
-use Rattle.std.specs.Prelude.{◌≡◌, ◌≤◌, [], Option, Some, None}
-use Rattle.command_console.specs.declared.rings.Ends.{Ends}
+use Rattle.std.specs.Prelude.{◌≡◌, [], Option, Some, None}
 use Rattle.pair_lines.specs.declared.keyboard.Keyboard.{Keyboard}
 use Rattle.pair_lines.specs.declared.keyboard.Stroke.{Stroke}
-use Rattle.pair_lines.specs.declared.lines.Lines.{Lines}
 use Rattle.pair_lines.specs.declared.screen.Screen.{Screen}
 use Rattle.pair_lines.specs.declared.screen.Shown.{Shown}
-use Rattle.rtrb.specs.Ring.{IsPair, known_free, received, sent}
+use Rattle.rtrb.specs.Ring.{IsPair, received, sent}
 use Rattle.std.specs.Global.{Global}
 use Rattle.rtrb.specs.declared.AnyItems.{AnyItems}
 use Rattle.rtrb.specs.declared.consumer.Consumer.{Consumer}
@@ -27,12 +25,6 @@ pub record IsScreenOf (from : Consumer Shown Global AnyItems) (s : Screen) : Typ
   pub pair : IsPair to from
   pub none_sent : sent to ≡ []
   pub none_came : received from ≡ []
-
-pub record AreOpen (l : Lines) (e : Ends) : Type 0 where
-  pub keyboard0 : IsKeyboardOf e.first l.keyboard0
-  pub keyboard1 : IsKeyboardOf e.second l.keyboard1
-  pub screen : IsScreenOf e.shown l.screen
-  pub notes : 3 ≤ known_free e.notes.0
 
 -- these are the two ends of a ring; without one nothing comes out
 abbrev pub ComesOutOf : Producer Stroke Global AnyItems → Option (Consumer Stroke Global AnyItems) → Type 0

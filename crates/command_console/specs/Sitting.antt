@@ -1,32 +1,85 @@
--- A pair that runs at a console, and how it ends.
-use Rattle.std.specs.Prelude.{◌≡◌, ℕ, List, [], ◌∷◌}
-use Rattle.command_console.specs.declared.sitting.Machine.{Machine}
-use Rattle.guest_lockstep.specs.Machine as lockstep
-use Rattle.guest_parts.specs.Guest.{Guest}
-use Rattle.pair_generations.specs.Generations.{IsSettled, machine_at}
-use Rattle.pair_generations.specs.Guests.{IsGuest}
-use Rattle.pair_lines.specs.Lines.{HasShown, IsSameStart}
-use Rattle.pair_lines.specs.declared.lines.Lines.{Lines}
-use Rattle.pair_standing.specs.declared.alone.AloneEnd.{AloneEnd}
-use Rattle.pair_threads.specs.Ending.{EachScreen}
-use Rattle.pair_threads.specs.Typing.{IsTyped}
-use Rattle.shared_disk.specs.Records.{IsUnwritten}
+-- What one has typed and seen at a console while an outside went from its first state to its end.
+use Rattle.std.specs.Prelude.{◌≡◌, ◌≤◌, ℕ, true, List, [], ◌++◌, Option, Some, None}
+use Rattle.std.specs.Io.KnownBytes.{Appends, Consumes}
+use Rattle.std.specs.List.{list_any}
+use Rattle.command_console.specs.Rings.{IsKeyboardOf, IsScreenOf}
+use Rattle.command_console.specs.Keys.{at_first, keys_typed}
+use Rattle.command_hosts.specs.Runs.{Ended}
+use Rattle.command_hosts.specs.declared.session.HostsEnd.{HostsEnd}
+use Rattle.command_hosts.specs.declared.session.HostsEnd.TheVariants.{NoHosts, Settled, Silent, Stopped, UserQuit}
+use Rattle.command_hosts.specs.declared.session.Session.{Session}
+use Rattle.command_live.specs.Living.{typed_in}
+use Rattle.command_console.specs.declared.console.Streams.{Streams}
+use Rattle.command_console.specs.declared.session.Ends.{Ends}
+use Rattle.command_console.specs.declared.session.Left.{Left}
+use Rattle.console_terminal.specs.Listening.{is_quit}
+use Rattle.console_terminal.specs.Screen.{AreSeen, Piece, bytes_of, guest_in, texts_of}
+use Rattle.console_terminal.specs.Typing.{commands_at}
+use Rattle.console_terminal.specs.declared.port.Port.{Port}
+use Rattle.outside_switch.specs.Passing as passing
+use Rattle.outside_switch.specs.Passing.{Passed, typed_at}
+use Rattle.pair_lines.specs.Lines.{shown_at}
+use Rattle.pair_lines.specs.declared.screen.Shown.{Shown}
+use Rattle.pair_protocol.specs.Faithful.{IsPrefix}
+use Rattle.rtrb.specs.Ring.{known_free}
+use Rattle.script_language.specs.declared.line.Line.{Line}
 use Rattle.shared_disk.specs.declared.store.Record.{Record}
 
--- a pair may run: its guest can be copied, both nodes have it in one state, and nothing is written on its disk
-pub record MayRun {B K D S : Type 0} (state : B → S) (copied : B → Guest) (N : lockstep.Machine S) (records : D → List Record)
-    (m : Machine B K D) : Type 0 where
-  pub guest : IsGuest state copied (machine_at N (state m.workers.primary) (records m.workers.disk))
-  pub alike : state m.workers.backup ≡ state m.workers.primary
-  pub unwritten : IsUnwritten (records m.workers.disk)
+-- these are the other ends of a session's rings, and nothing has come through them
+pub record AreOpen {D S : Type 0} (session : Session D S) (ends : Ends) : Type 0 where
+  pub keyboard0 : IsKeyboardOf ends.first session.first.keyboard
+  pub keyboard1 : IsKeyboardOf ends.second session.second.keyboard
+  pub none_waits : (session.first.waiting ≡ None) × (session.second.waiting ≡ None)
+  pub screen : IsScreenOf ends.shown session.screen
+  pub notes : 3 ≤ known_free ends.notes.0
 
--- it has run over these lines, and is settled: more was typed meanwhile, just the keys that came from the keyboards, and if nothing had
--- been shown before, the screen has shown what the terminals have accepted
-pub record HasRun {B D S : Type 0} (state : B → S) (records : D → List Record) (M : lockstep.Machine S) (typed0 typed1 : List ℕ)
-    (lines : Lines) (e : AloneEnd B D) : Type 0 where
-  pub settled : IsSettled state records M e.standing
-  pub keys0 : IsTyped (typed0, lines.keyboard0) (e.standing.typed.0.items, e.keyboards.0)
-  pub keys1 : IsTyped (typed1, lines.keyboard1) (e.standing.typed.1.items, e.keyboards.1)
-  pub same : IsSameStart lines.screen.ring e.screen.ring
-  pub shown : EachScreen (HasShown lines.screen) 0 ([] ∷ [] ∷ [])
-      → EachScreen (HasShown e.screen) 0 (e.standing.accepted.0.items ∷ e.standing.accepted.1.items ∷ [])
+-- what passed between the devices and the user on the way to the end
+abbrev pub passed_to : {D S : Type 0} {end : HostsEnd} {old new : Session D S} → Ended end old new → List Passed
+passed_to ended = ended.went.passed ++ ended.stopped.passed
+
+-- These bytes were typed at a console. The keys that were typed at the terminals are those of the script and then those among the bytes,
+-- or the first of them.
+pub record HasTyped (escape : ℕ) (lines : List Line) (passed : List Passed) (bytes : List ℕ) : Type 0 where
+  pub first : IsPrefix (typed_at 0 passed) (typed_in 0 lines ++ keys_typed Port.Zero escape bytes)
+  pub second : IsPrefix (typed_at 1 passed) (typed_in 1 lines ++ keys_typed Port.One escape bytes)
+
+-- if it has ended since the user wanted it, a command to quit was among the bytes
+abbrev pub WantsEnd : HostsEnd → ℕ → List ℕ → Type 0
+WantsEnd UserQuit escape bytes = list_any is_quit (commands_at escape at_first bytes) ≡ true
+WantsEnd end escape bytes = Unit {0}
+
+pub record WasTyped {R : Type 0} (remaining : R → Option (List ℕ)) (end : HostsEnd) (escape : ℕ) (lines : List Line)
+    (passed : List Passed) (reader : R) : Type 0 where
+  pub left : R
+  pub bytes : List ℕ
+  pub read : Consumes (remaining reader) (remaining left) bytes
+  pub typed : HasTyped escape lines passed bytes
+  pub wanted : WantsEnd end escape bytes
+
+-- If no host is left, nobody waits for what is typed: what was read then is not known. Nobody has stopped it from elsewhere.
+abbrev pub WasHeard : {R : Type 0} → (R → Option (List ℕ)) → HostsEnd → ℕ → List Line → List Passed → R → Type 0
+WasHeard remaining NoHosts escape lines passed reader = Unit {0}
+WasHeard remaining Stopped escape lines passed reader = ⊥
+WasHeard remaining UserQuit escape lines passed reader = WasTyped remaining UserQuit escape lines passed reader
+WasHeard remaining Settled escape lines passed reader = WasTyped remaining Settled escape lines passed reader
+WasHeard remaining Silent escape lines passed reader = WasTyped remaining Silent escape lines passed reader
+
+-- These pieces appeared, each byte of a terminal while one looked at it. With what is kept for terminals at which nobody has looked since,
+-- they have all that the terminals accepted, in order and each byte once.
+pub record HasAppeared (passed : List Passed) (pieces : List Piece) : Type 0 where
+  pub kept : List Shown
+  pub shown : (port : ℕ) → shown_at port (guest_in pieces) ++ shown_at port kept ≡ passing.shown_at port passed
+  pub seen : AreSeen (Some Port.Zero) pieces
+
+-- all of it, over the streams of a console
+pub record HasSat {R W N D S : Type 0} (remaining : R → Option (List ℕ)) (contents : W → Option (List ℕ))
+    (notes : N → Option (List ℕ)) (escape : ℕ) (lines : List Line) (first : Session D S) (streams : Streams R W N)
+    (records : List Record) (end : HostsEnd) (writer : W) (beside : N) : Type 0 where
+  pub last : Session D S
+  pub ended : Ended end first last
+  pub heard : WasHeard remaining end escape lines (passed_to ended) streams.reader
+  pub pieces : List Piece
+  pub appeared : HasAppeared (passed_to ended) pieces
+  pub records_are : records ≡ last.switch.devices.records
+  pub written : Appends (contents streams.writer) (contents writer) (bytes_of pieces)
+  pub noted : Appends (notes streams.notes) (notes beside) (texts_of pieces)

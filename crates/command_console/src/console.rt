@@ -1,43 +1,39 @@
-//! A console, from the files that come first to the disks that are saved.
-ghost use Rattle.std.specs.Prelude.{◌≡◌, ◌++◌, IfErr, IfOk, OnOk, string_bytes};
+//! A console whose hosts are processes, from the files that come first to the disks that are saved.
+ghost use Rattle.std.specs.Prelude.{◌≡◌, ◌⊎◌, IfErr, IfOk, OnOk};
 ghost use Rattle.std.specs.Io.KnownBytes.{Appends};
-ghost use Rattle.command_console.specs.Console.{HasServed, IsAtConsole, IsOfRun, Opens, Refuses};
-ghost use Rattle.command_saving.specs.Saving.{images_of};
+ghost use Rattle.command_ending.specs.declared.failure.Failure.TheVariants.{InputOrOutput, OutOfMemory};
 ghost use Rattle.console_terminal.specs.Greeting.{greeting_of};
-ghost use Rattle.event_callbacks.specs.Keeping.{Keeps};
-ghost use Rattle.event_callbacks.specs.declared.devices.TheConstants.{SECTOR, SENT, WRITTEN};
+ghost use Rattle.command_console.specs.Console.{HasRun, HasServed, OpensFor};
+ghost use Rattle.command_console.specs.Sitting.{AreOpen};
 
-use crate::prepared::{Prepared, STEPS, prepare, with_disk};
-use crate::session::session;
-use crate::sitting::Machine;
+use crate::mirror::Mirrored;
+use crate::seats::Seats;
+use crate::session::{Desktop, Ends, Left, sit};
+use crate::store::mirrored_store;
+use crate::supervisor::Supervisor;
+use crate::teller::Teller;
 use command_ending::Failure;
+use command_host::{Pipes, add_places, read_opening};
+use command_hosts::{HostsEnd, PortEnd, Session};
 use command_input::{Input, Language, read_input};
 use command_line::ConsoleOrder;
-use command_live::{TRIES, drafted, sizes};
 use command_saving::save_disks;
-use console_terminal::greeting;
-use event_callbacks::{Completes, plain_completions};
-use guest_lockstep::Reads;
-use pair_generations::{Limits, altairs_may_go_on};
-use pair_standing::Standing;
-use shared_disk::SectorStore;
-use std::alloc::Global;
+use console_terminal::{Signs, greeting};
+use i8080_words::R;
+use pair_lines::{Keyboard, Screen};
+use rtrb::RingBuffer;
+use script_language::Script;
+use std::alloc::{AllocError, Global};
 use std::io::{IsTerminal, Read, Write};
-use std::thread::Threads;
+use std::sync::{Arc, Wait};
+use std::thread::{Parker, Threads};
 use std::time::Clock;
 
-// What each generation may take: as many turns as it likes.
-fn limits_of(reads: Reads) -> Limits
-    ensures reads { result.reads ≡ reads }
-{
-    Limits {
-        turns: u64::MAX,
-        steps: STEPS,
-        tries: TRIES,
-        rounds: TRIES,
-        reads,
-    }
-}
+// How many keys, and how many bytes that a terminal has accepted, wait at most.
+const BYTES: usize = 4_096;
+
+// How many notes, and how many lines about the hosts, wait at most.
+const LINES: usize = 1_024;
 
 /// The streams of a console.
 #[derive(Drop)]
@@ -46,199 +42,184 @@ pub struct Streams<R, W, N> {
     pub reader: R,
     /// The guest's bytes, and then the disks that are saved.
     pub writer: W,
-    /// Notes on commands, and lines about the pair.
+    /// Notes on commands, and lines about the hosts.
     pub notes: N,
 }
 
-/// Boots a pair as the images and the script say that come first, and lets one sit at it: further bytes are keys or commands, what
-/// its terminals accept is written as it is accepted, and hosts fail at command. It ends at the command `quit`, or once no more keys
-/// can come and the guest does nothing or prints nothing more. Then the disks that are saved are written, as they are once nothing is
-/// outstanding.
+/// Opens an outside as the images and the script say that come first, and lets one sit at its pair: further bytes are keys or commands,
+/// and what its terminals accept is written as it is accepted. Its hosts are at the ends of named pipes. It ends at the command `quit`, once
+/// no more keys can come and the pair does nothing more, or if no host is left; then the disks that are saved are written, as they are then.
 pub fn run_console<
-    H: Threads + Clock + Sync,
-    R: Read + IsTerminal + Drop + Send,
-    W: Write + Drop + Send,
-    N: Write + Drop + Send,
+    H: Threads + Wait + Clock + Copy + Drop + Send + Sync + 'static,
+    R: Read + IsTerminal + Drop + Send + 'static,
+    W: Write + Drop + Send + 'static,
+    N: Write + Drop + Send + 'static,
 >(
-    rt: &H,
+    rt: H,
+    files: HostRuntime,
     alloc: Global,
     order: &ConsoleOrder,
     streams: Streams<R, W, N>,
-) -> (Streams<R, W, N>, Result<(), Failure>)
-    ensures { IsAtConsole order.now (R.remaining streams.reader) (R.remaining result.0.reader)
-        (W.contents streams.writer) (W.contents result.0.writer) (N.contents streams.notes) (N.contents result.0.notes) result.1 }
+) -> Result<HostsEnd, Failure>
+    ensures { IfOk result (λ end. HasServed R.remaining W.contents N.contents order.now streams end) }
 {
     let Streams {
         mut reader,
         writer,
-        notes,
+        mut notes,
     } = streams;
-    let opening = read_opening(alloc, order, &mut reader);
+    let opening = read_opening(alloc, order.before, &mut reader)?;
+    let input = read_input(
+        alloc,
+        Language::Threads,
+        &order.images,
+        &mut opening.as_slice(),
+    )?;
+    write_greeting(alloc, order.escape, &mut notes)?;
     let streams = Streams {
         reader,
         writer,
         notes,
     };
-    match opening {
-        Ok(input) => run_input(
-            rt,
-            alloc,
-            order,
-            &input,
-            streams,
-            plain_completions::sent,
-            plain_completions::sector,
-            plain_completions::written,
-        ),
-        Err(failure) => (streams, Err(failure)),
-    }
-}
-
-// Reads the images and the script that come before the first key.
-fn read_opening<R: Read + Drop>(
-    alloc: Global,
-    order: &ConsoleOrder,
-    reader: &mut R,
-) -> Result<Input, Failure>
-    ensures opens { OnOk result (Opens order.now (R.remaining reader.old) (R.remaining reader.new) result) }
-    ensures refuses { IfErr result (λ failure. Refuses order.now (R.remaining reader.old) (R.remaining reader.new) failure) }
-{
-    let Ok(count) = usize::try_from(order.before) else {
-        return Err(Failure::OutOfMemory);
-    };
-    let mut bytes = vec![in alloc; 0u8; count]?;
-    reader.read_exact(&mut bytes)?;
-    let mut opening = bytes.as_slice();
-    read_input(alloc, Language::Threads, &order.images, &mut opening)
-}
-
-// Boots a pair as an input says, and lets one sit at it.
-fn run_input<
-    H: Threads + Clock + Sync,
-    R: Read + IsTerminal + Drop + Send,
-    O: Write + Drop + Send,
-    N: Write + Drop + Send,
-    T: Completes + Drop + Copy + Send,
-    S: Completes + Drop + Copy + Send,
-    W: Completes + Drop + Copy + Send,
->(
-    rt: &H,
-    alloc: Global,
-    order: &ConsoleOrder,
-    input: &Input,
-    streams: Streams<R, O, N>,
-    sent: T,
-    sector: S,
-    written: W,
-) -> (Streams<R, O, N>, Result<(), Failure>)
-    requires sent { Keeps (T.may sent) (T.gives sent) SENT }
-    requires sector { Keeps (S.may sector) (S.gives sector) SECTOR }
-    requires written { Keeps (W.may written) (W.gives written) WRITTEN }
-    ensures served { IfOk result.1 (λ _. HasServed input.now.script.setup input.now.sectors.items input.now.script.lines.items order.now
-        (R.remaining streams.reader) (R.remaining result.0.reader) (O.contents streams.writer) (O.contents result.0.writer)
-        (N.contents streams.notes) (N.contents result.0.notes)) }
-    ensures failed { IfErr result.1 (λ failure. IsOfRun failure) }
-{
-    altairs_may_go_on();
-    sizes(
-        &input.script.setup.guest.levels,
-        input.script.setup.guest.sense,
-    );
-    let prepared = match prepare(alloc, order, input, sent, sector, written) {
-        Ok(prepared) => prepared,
-        Err(_) => return (streams, Err(Failure::OutOfMemory)),
-    };
-    let (streams, greeted) = greet(alloc, order.escape, streams);
-    match greeted {
-        Ok(()) => {}
-        Err(failure) => return (streams, Err(failure)),
-    }
-    let Prepared {
-        workers,
-        disk,
-        shelf,
-        later,
-        lines,
-        ends,
-    } = prepared;
-    let machine = Machine {
-        workers: with_disk(drafted(workers), disk),
-        lines,
-        later,
-        limits: limits_of(order.reads),
-    };
-    let (streams, left) = session(rt, alloc, order, machine, ends, &shelf, streams);
-    let standing = match left {
-        Ok(standing) => standing,
-        Err(failure) => return (streams, Err(failure)),
-    };
-    save(alloc, order, standing, streams)
+    run_input(
+        rt,
+        files,
+        alloc,
+        order,
+        (input, Arc::new(alloc, opening)?),
+        streams,
+    )
 }
 
 // Says what this is, and which key opens a command line.
-fn greet<R, W, N: Write>(
-    alloc: Global,
-    escape: u8,
-    streams: Streams<R, W, N>,
-) -> (Streams<R, W, N>, Result<(), Failure>)
-    ensures others { (result.0.reader ≡ streams.reader) × (result.0.writer ≡ streams.writer) }
-    ensures greeted { OnOk result.1 (Appends (N.contents streams.notes) (N.contents result.0.notes) (greeting_of escape)) }
-    ensures failed { IfErr result.1 IsOfRun }
-{
-    let Streams {
-        reader,
-        writer,
-        mut notes,
-    } = streams;
-    let greeted = write_greeting(alloc, escape, &mut notes);
-    let streams = Streams {
-        reader,
-        writer,
-        notes,
-    };
-    (streams, greeted)
-}
-
-/// Says what this is, and which key opens a command line.
-pub fn write_greeting<N: Write>(alloc: Global, escape: u8, notes: &mut N) -> Result<(), Failure>
+fn write_greeting<N: Write>(alloc: Global, escape: u8, notes: &mut N) -> Result<(), Failure>
     ensures greeted { OnOk result (Appends (N.contents notes.old) (N.contents notes.new) (greeting_of escape)) }
-    ensures failed { IfErr result IsOfRun }
+    ensures failed { IfErr result (λ failure. (failure ≡ OutOfMemory) ⊎ (failure ≡ InputOrOutput)) }
 {
     let text = greeting(alloc, escape)?;
     notes.write_all(text.as_bytes())?;
     Ok(())
 }
 
-// Writes the disks that are saved.
-#[tactic(auto, using(crate::proofs::Served::of_unsaved))]
-fn save<B: Drop, D: SectorStore, R, W: Write + Drop, N>(
+// Lets one sit at the pair of an input, which its hosts are given as it came, and writes the disks that are saved.
+fn run_input<
+    H: Threads + Wait + Clock + Copy + Drop + Send + Sync + 'static,
+    R: Read + IsTerminal + Drop + Send + 'static,
+    W: Write + Drop + Send + 'static,
+    N: Write + Drop + Send + 'static,
+>(
+    rt: H,
+    files: HostRuntime,
     alloc: Global,
     order: &ConsoleOrder,
-    standing: Standing<B, D>,
+    opening: (Input, Arc<Vec<u8>>),
     streams: Streams<R, W, N>,
-) -> (Streams<R, W, N>, Result<(), Failure>)
-    ensures others { (result.0.reader ≡ streams.reader) × (result.0.notes ≡ streams.notes) }
-    ensures saved { OnOk result.1 (Appends (W.contents streams.writer) (W.contents result.0.writer)
-        (string_bytes order.now.mark ++ images_of (D.records standing.disk) order.now.saved.items)) }
-    ensures failed { IfErr result.1 IsOfRun }
+) -> Result<HostsEnd, Failure>
+    ensures { IfOk result (λ end. HasRun R.remaining W.contents N.contents order.now opening.0 streams end) }
 {
-    let Streams {
-        reader,
+    let (input, bytes) = opening;
+    let prepared = prepare(alloc, order, &input)?;
+    let Prepared {
+        mut session,
+        ends,
+        supervisor,
+        signs,
+    } = prepared;
+    let Input { script, .. } = input;
+    let Script { lines, .. } = script;
+    let wake = Arc::new(alloc, Parker::new())?;
+    let pipes = Pipes {
+        files,
+        folder: order.folder.as_str(),
+        opening: &bytes,
+    };
+    add_places(rt, alloc, &pipes, order.places, &wake, &mut session)?;
+    let desktop = Desktop {
+        escape: order.escape,
+        lines,
+        supervisor,
+        wake,
+        signs,
+    };
+    let left = sit(rt, alloc, session, ends, desktop, streams)?;
+    let Left {
+        end,
+        disk,
         mut writer,
-        notes,
-    } = streams;
-    let Standing { disk, .. } = standing;
-    let saved = save_disks(
+        notes: _notes,
+    } = left;
+    save_disks(
         alloc,
         disk,
         &order.saved,
         order.mark.as_bytes(),
         &mut writer,
+    )?;
+    Ok(end)
+}
+
+/// What a console begins with.
+#[derive(Drop)]
+struct Prepared {
+    session: Session<Mirrored, Teller>,
+    ends: Ends,
+    supervisor: Supervisor,
+    signs: Arc<Signs>,
+}
+
+// The outside of an input, with no place for a host yet.
+fn prepare(alloc: Global, order: &ConsoleOrder, input: &Input) -> R<Prepared>
+    ensures opens { IfOk result (λ p. OpensFor input.now p.session) }
+    ensures open { IfOk result (λ p. AreOpen p.session p.ends) }
+{
+    let (store, shelf) = mirrored_store(alloc, input)?;
+    let seats = Arc::new(alloc, Seats::new(alloc))?;
+    let signs = Arc::new(alloc, Signs::new())?;
+    let (first, keys0) = RingBuffer::new(alloc, BYTES)?;
+    let (second, keys1) = RingBuffer::new(alloc, BYTES)?;
+    let (screen, shown) = RingBuffer::new(alloc, BYTES)?;
+    let (quits, quits_from) = RingBuffer::new(alloc, 1)?;
+    let notes = RingBuffer::new(alloc, LINES)?;
+    let (lines_to, lines) = RingBuffer::new(alloc, LINES)?;
+    let teller = Teller::new(
+        alloc,
+        Arc::try_clone(&seats)?,
+        Arc::try_clone(&signs)?,
+        lines_to,
+        mark_of_lines(alloc, order)?,
     );
-    let streams = Streams {
-        reader,
-        writer,
+    let supervisor = Supervisor::new(alloc, seats, shelf, order.mark.clone()?);
+    let session = Session::new(
+        alloc,
+        store,
+        PortEnd::new(Keyboard::of(keys0)),
+        PortEnd::new(Keyboard::of(keys1)),
+        Screen::of(screen),
+        quits_from,
+        teller,
+    )?;
+    let ends = Ends {
+        first,
+        second,
+        quits,
+        shown,
         notes,
+        lines,
     };
-    (streams, saved)
+    Ok(Prepared {
+        session,
+        ends,
+        supervisor,
+        signs,
+    })
+}
+
+// The mark between which lines about the hosts are handed over, if they are.
+fn mark_of_lines(alloc: Global, order: &ConsoleOrder) -> Result<String, AllocError> {
+    let mark = order.mark.clone()?;
+    Ok(if order.apart {
+        mark
+    } else {
+        String::new(alloc)
+    })
 }

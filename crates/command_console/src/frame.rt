@@ -6,7 +6,7 @@ use i8080_words::{Fault, R};
 use std::alloc::{AllocError, Global};
 
 /// What is answered to one who saves the disk of a drive: its image, for the command that writes files, or why it cannot be had.
-pub fn answer(
+pub(crate) fn answer(
     alloc: Global,
     mark: &str,
     drive: u8,
@@ -59,7 +59,7 @@ fn frame(
 }
 
 /// What is answered to one who wants a picture: the name of its file, in hexadecimal digits and between marks, for the command that draws.
-pub fn wish(alloc: Global, mark: &str, path: &[u8]) -> Result<String, AllocError>
+pub(crate) fn wish(alloc: Global, mark: &str, path: &[u8]) -> Result<String, AllocError>
     ensures { IfOk result (λ text. string_bytes text ≡ wish_of mark.now path.now) }
 {
     let path = hex::encode(alloc, path)?;

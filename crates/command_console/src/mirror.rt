@@ -78,7 +78,7 @@ fn put(disk: &mut SharedDisk<MemoryStore>, write: &SectorWrite)
 
 /// A copy of a disk that threads share.
 #[derive(Drop)]
-pub struct Shelf {
+pub(crate) struct Shelf {
     mirror: Mutex<Mirror>,
     // Whether something was put on the disk that did not reach the copy.
     is_behind: AtomicBool,

@@ -1,62 +1,119 @@
-//! One sitting at a console.
-ghost use Rattle.std.specs.Prelude.{◌≡◌, IfErr, IfOk, string_bytes};
-ghost use Rattle.command_console.specs.Console.{IsOfRun};
-ghost use Rattle.command_console.specs.Rings.{AreOpen, ComesOutOf, GoesInto};
-ghost use Rattle.command_console.specs.Session.{HasSat};
-ghost use Rattle.command_console.specs.Sitting.{MayRun};
-ghost use Rattle.command_console.specs.Telling.{mark_of_lines};
-ghost use Rattle.pair_generations.specs.Generations.{machine_at};
-ghost use Rattle.pair_lines.specs.Lines.{came_by, gone_by};
+//! One sitting: the threads that hear and show, and the loop that serves the hosts between them.
+ghost use Rattle.std.specs.Prelude.{◌≡◌, ◌≤◌, IfOk, OnOk};
+ghost use Rattle.command_console.specs.Leaving.{HasLeft, HaveBegun, MayHear, MayLeave, WasHeard, WasHeardIf};
+ghost use Rattle.command_console.specs.Rings.{ComesOutOf};
+ghost use Rattle.command_console.specs.Sitting.{AreOpen, HasSat};
+ghost use Rattle.pair_lines.specs.Lines.{came_by};
 ghost use Rattle.pair_protocol.specs.Faithful.{IsPrefix};
-ghost use Rattle.rtrb.specs.Ring.{received, sent};
+ghost use Rattle.rtrb.specs.Ring.{IsPair, SameConsumer, SameProducer, known_free, received, sent};
 
 use crate::console::Streams;
-use crate::hosts::Hosts;
-use crate::mirror::Shelf;
-use crate::operator::Operator;
-use crate::rings::{Ends, compare};
-use crate::sitting::{Machine, Sat, sit};
-use clone_state::Copies;
+use crate::hearing::{Hearing, HearingThread, start_hearing};
+use crate::mirror::Mirrored;
+use crate::showing::{Showing, finish, is_all, start_showing};
+use crate::supervisor::Supervisor;
+use crate::teller::Teller;
+use crate::waking::WakingKeys;
 use command_ending::Failure;
-use command_line::ConsoleOrder;
-use console_terminal::{Desk, Display, Listener, Port, Signs, TerminalKeys};
-use i8080_words::{Fault, R};
-use pair_lines::{Keyboard, Screen, Shown, Stroke};
-use pair_standing::{AloneEnd, Standing};
+use command_hosts::{HostsEnd, Quit, Session, SessionParts, run_hosts};
+use console_terminal::{
+    Desk, Display, Ending, Interpreter, KeySource, Listener, Note, Port, Signs, TerminalKeys,
+};
+use pair_lines::{Keyboard, Shown, Stroke};
 use rtrb::{Consumer, Producer};
-use shared_disk::SectorStore;
+use script_language::Line;
+use shared_disk::SharedDisk;
 use std::alloc::Global;
-use std::io::{self, IsTerminal, Read, Write};
-use std::thread::Threads;
+use std::io::{IsTerminal, Read, Write};
+use std::sync::{Arc, Wait};
+use std::thread::{Parker, Threads};
 use std::time::Clock;
 
-/// Lets one sit at a pair until it is over. What it leaves is settled.
-pub(crate) fn session<
-    B: Copies<K> + Send + Drop,
-    K: Drop + Send,
-    D: SectorStore + Send,
-    H: Threads + Clock + Sync,
-    R: Read + IsTerminal + Drop + Send,
-    W: Write + Drop + Send,
-    N: Write + Drop + Send,
+/// The ends of the rings that are not the session's own.
+#[derive(Drop)]
+pub(crate) struct Ends {
+    /// Where the keys of port 0 go, and those of port 1.
+    pub(crate) first: Producer<Stroke>,
+    pub(crate) second: Producer<Stroke>,
+    /// Where it is told that the user wants all to end.
+    pub(crate) quits: Producer<Quit>,
+    /// Where the bytes come from that the terminals have accepted.
+    pub(crate) shown: Consumer<Shown>,
+    /// Where notes on commands go, and where they come from.
+    pub(crate) notes: (Producer<Note>, Consumer<Note>),
+    /// Where lines about the hosts come from.
+    pub(crate) lines: Consumer<String>,
+}
+
+/// What is heard and carried out, and how.
+#[derive(Drop)]
+pub(crate) struct Desktop {
+    pub(crate) escape: u8,
+    /// What the script types first.
+    pub(crate) lines: Vec<Line>,
+    pub(crate) supervisor: Supervisor,
+    /// Wakes the loop that serves the hosts.
+    pub(crate) wake: Arc<Parker>,
+    pub(crate) signs: Arc<Signs>,
+}
+
+/// What a sitting leaves: why it has ended, the disk of then, and the streams that are written.
+#[derive(Drop)]
+pub(crate) struct Left<W, N> {
+    pub(crate) end: HostsEnd,
+    pub(crate) disk: SharedDisk<Mirrored>,
+    pub(crate) writer: W,
+    pub(crate) notes: N,
+}
+
+// The threads beside the loop.
+struct Beside<S: KeySource, I: Interpreter, W: Write, N: Write> {
+    hearing: HearingThread<S, I>,
+    showing: Showing<W, N>,
+}
+
+/// Lets one sit at a pair until there is a reason to end.
+pub(crate) fn sit<
+    H: Threads + Wait + Clock + Copy + Drop + Send + Sync + 'static,
+    R: Read + IsTerminal + Drop + Send + 'static,
+    W: Write + Drop + Send + 'static,
+    N: Write + Drop + Send + 'static,
 >(
-    rt: &H,
+    rt: H,
     alloc: Global,
-    order: &ConsoleOrder,
-    machine: Machine<B, K, D>,
+    mut session: Session<Mirrored, Teller>,
     ends: Ends,
-    shelf: &Shelf,
+    desktop: Desktop,
     streams: Streams<R, W, N>,
-) -> (Streams<R, W, N>, Result<Standing<B, D>, Failure>)
-    requires runs { MayRun B.state B.copied B.machine D.records machine }
-    requires open { AreOpen machine.lines ends }
-    ensures sat { IfOk result.1 (HasSat B.state D.records R.remaining W.contents N.contents
-        (machine_at B.machine (B.state machine.workers.primary) (D.records machine.workers.disk))
-        machine.workers.typed0.items machine.workers.typed1.items order.now.escape streams result.0) }
-    ensures failed { IfErr result.1 IsOfRun }
+) -> Result<Left<W, N>, Failure>
+    requires { AreOpen session ends }
+    ensures { IfOk result (λ left. HasSat R.remaining W.contents N.contents desktop.escape desktop.lines.items session streams
+        left.disk.store left.end left.writer left.notes) }
 {
-    let hosts = Hosts::new(order.spares);
-    let signs = Signs::new();
+    let wake = Arc::try_clone(&desktop.wake)?;
+    let signs = Arc::try_clone(&desktop.signs)?;
+    let beside = begin(rt, alloc, ends, desktop, streams)?;
+    let end = run_hosts(&rt, alloc, &mut session, &wake);
+    signs.stop();
+    leave(rt, end, session.into_parts(), beside, &signs)
+}
+
+// Starts the threads beside the loop.
+fn begin<
+    H: Threads + Wait + Clock + Copy + Drop + Send + Sync + 'static,
+    R: Read + IsTerminal + Drop + Send + 'static,
+    W: Write + Drop + Send + 'static,
+    N: Write + Drop + Send + 'static,
+>(
+    rt: H,
+    alloc: Global,
+    ends: Ends,
+    desktop: Desktop,
+    streams: Streams<R, W, N>,
+) -> Result<Beside<WakingKeys<TerminalKeys<R>>, Supervisor, W, N>, Failure>
+    requires { 3 ≤ known_free ends.notes.0 }
+    ensures { IfOk result (λ beside. HaveBegun ends desktop streams beside) }
+{
     let Streams {
         reader,
         writer,
@@ -65,116 +122,137 @@ pub(crate) fn session<
     let Ends {
         first,
         second,
+        quits,
         shown,
         notes: (notes_to, notes_from),
-        lines: (lines_to, lines_from),
+        lines: told,
     } = ends;
+    let Desktop {
+        escape,
+        lines,
+        supervisor,
+        wake,
+        signs,
+    } = desktop;
     let listener = Listener {
-        source: TerminalKeys::new(reader),
-        desk: Desk::new(Port::Zero, order.escape),
+        source: WakingKeys::new(TerminalKeys::new(reader), wake),
+        desk: Desk::new(Port::Zero, escape),
         first,
         second,
         notes: notes_to,
-        interpreter: Operator::new(alloc, &hosts, order.mark.as_str(), shelf),
+        interpreter: supervisor,
     };
-    let display = Display::new(
-        alloc,
-        writer,
-        notes,
-        Port::Zero,
-        shown,
-        notes_from,
-        lines_from,
-    );
-    let Sat {
+    let hearing = Hearing {
         listener,
-        display,
-        written,
-        end,
-    } = sit(
-        rt,
-        alloc,
-        machine,
-        listener,
-        display,
-        lines_to,
-        mark_of_lines(order),
-        &hosts,
-        &signs,
-    );
-    let Listener {
-        source,
-        first,
-        second,
-        ..
-    } = listener;
-    let (writer, notes, shown) = display.into_parts();
-    let streams = Streams {
-        reader: source.into_reader(),
-        writer,
-        notes,
+        lines,
+        quits,
     };
-    match ended(written, end) {
-        Ok(end) => (streams, Ok(leave(end, first, second, shown))),
-        Err(failure) => (streams, Err(failure)),
-    }
+    let display = Display::new(alloc, writer, notes, Port::Zero, shown, notes_from, told);
+    let hearing = start_hearing(rt, hearing, Arc::try_clone(&signs)?)?;
+    let showing = start_showing(rt, display, signs)?;
+    Ok(Beside { hearing, showing })
 }
 
-// The mark between which lines about the pair are handed over, if they are.
-fn mark_of_lines(order: &ConsoleOrder) -> &str
-    ensures { result.now ≡ mark_of_lines order.now.apart (string_bytes order.now.mark) }
+// Waits for the threads beside the loop. If no host is left, whoever hears may wait for a key, and is not waited for.
+fn leave<
+    H: Threads + Clock + Copy + Drop + Send + Sync + 'static,
+    S: KeySource + Drop + Send + 'static,
+    I: Interpreter + Drop + Send + 'static,
+    W: Write + Drop + Send + 'static,
+    N: Write + Drop + Send + 'static,
+>(
+    rt: H,
+    end: HostsEnd,
+    parts: SessionParts<Mirrored, Teller>,
+    beside: Beside<S, I, W, N>,
+    signs: &Signs,
+) -> Result<Left<W, N>, Failure>
+    requires { MayLeave parts beside }
+    ensures { IfOk result (λ left. HasLeft S.left I.given W.contents N.contents end parts beside left) }
 {
-    if order.apart { order.mark.as_str() } else { "" }
-}
-
-// The end of the pair, if all that appeared was written.
-fn ended<B: Drop, D: SectorStore>(
-    written: io::Result<()>,
-    end: R<AloneEnd<B, D>>,
-) -> Result<AloneEnd<B, D>, Failure>
-    ensures end { IfOk result (λ e. end ≡ Ok e) }
-    ensures written { IfOk result (λ e. written ≡ Ok tt) }
-    ensures failed { IfErr result IsOfRun }
-{
-    let end = match end {
-        Ok(end) => end,
-        Err(Fault::Stalled) => return Err(Failure::Stalled),
-        Err(_) => return Err(Failure::OutOfMemory),
-    };
-    match written {
-        Ok(()) => Ok(end),
-        Err(_) => Err(Failure::InputOrOutput),
-    }
-}
-
-// What is left of a pair. Both ends of its lines are here again: what came out of each is the first part of what went in.
-fn leave<B: Drop, D: SectorStore>(
-    end: AloneEnd<B, D>,
-    first: Producer<Stroke>,
-    second: Producer<Stroke>,
-    shown: Consumer<Shown>,
-) -> Standing<B, D>
-    requires keyboard0 { ComesOutOf first end.keyboards.0.ring }
-    requires keyboard1 { ComesOutOf second end.keyboards.1.ring }
-    requires screen { GoesInto end.screen.ring shown }
-    ensures standing { result ≡ end.standing }
-    ensures keys0 { IsPrefix (came_by end.keyboards.0.ring) (sent first) }
-    ensures keys1 { IsPrefix (came_by end.keyboards.1.ring) (sent second) }
-    ensures screen { IsPrefix (received shown) (gone_by end.screen.ring) }
-{
-    let AloneEnd {
-        standing,
-        keyboards: (keyboard0, keyboard1),
+    let SessionParts {
+        disk,
+        keyboards,
         screen,
-    } = end;
+        quits: _quits,
+        steward: _steward,
+    } = parts;
+    let Beside { hearing, showing } = beside;
+    let finished = finish(screen);
+    await_hearing(rt, end, hearing, keyboards, signs)?;
+    signs.show_all();
+    let (display, written) = showing.join(&rt);
+    written?;
+    let (writer, notes, shown) = display.into_parts();
+    let Some(finished) = finished else {
+        return Err(Failure::InputOrOutput);
+    };
+    if !is_all(finished, shown) {
+        return Err(Failure::InputOrOutput);
+    }
+    Ok(Left {
+        end,
+        disk,
+        writer,
+        notes,
+    })
+}
+
+// Waits for the thread that hears, unless no host is left: then it may wait for a key.
+fn await_hearing<
+    H: Threads + Clock + Copy + Drop + Send + Sync + 'static,
+    S: KeySource + Drop + Send + 'static,
+    I: Interpreter + Drop + Send + 'static,
+>(
+    rt: H,
+    end: HostsEnd,
+    hearing: HearingThread<S, I>,
+    keyboards: (Keyboard, Keyboard),
+    signs: &Signs,
+) -> Result<(), Failure>
+    requires { MayHear hearing.promise.0.value keyboards }
+    ensures { OnOk result (WasHeardIf end S.left I.given hearing.promise.0.value keyboards) }
+{
+    match end {
+        HostsEnd::NoHosts => {
+            signs.hear_all();
+            Ok(())
+        }
+        HostsEnd::Settled | HostsEnd::Silent => {
+            let _ending = await_keys(rt, hearing, keyboards)?;
+            Ok(())
+        }
+        HostsEnd::UserQuit => match await_keys(rt, hearing, keyboards)? {
+            Ending::Quit => Ok(()),
+            _ => Err(Failure::Stalled),
+        },
+        HostsEnd::Stopped => Err(Failure::InputOrOutput),
+    }
+}
+
+// Waits for the thread that hears, which has ended or does so soon: the user has quit, or no more keys can come.
+fn await_keys<
+    H: Threads + Clock + Copy + Drop + Send + Sync + 'static,
+    S: KeySource + Drop + Send + 'static,
+    I: Interpreter + Drop + Send + 'static,
+>(rt: H, hearing: HearingThread<S, I>, keyboards: (Keyboard, Keyboard)) -> Result<Ending, Failure>
+    requires { MayHear hearing.promise.0.value keyboards }
+    ensures { IfOk result (λ e. WasHeard S.left I.given e hearing.promise.0.value keyboards) }
+{
+    let (heard, ending) = hearing.join(&rt);
+    let Some(ending) = ending else {
+        return Err(Failure::Stalled);
+    };
+    let Hearing { listener, .. } = heard;
+    let Listener { first, second, .. } = listener;
+    let (keyboard0, keyboard1) = keyboards;
     compare_keys(first, keyboard0);
     compare_keys(second, keyboard1);
-    compare_screen(screen, shown);
-    standing
+    Ok(ending)
 }
 
-/// The keys that came from a keyboard are the first of those that were sent to it.
-pub fn compare_keys(mut to: Producer<Stroke>, keyboard: Keyboard)
+// The keys that came from a keyboard are the first of those that were sent to it.
+fn compare_keys(mut to: Producer<Stroke>, keyboard: Keyboard)
     requires { ComesOutOf to keyboard.ring }
     ensures { IsPrefix (came_by keyboard.ring) (sent to) }
 {
@@ -183,12 +261,11 @@ pub fn compare_keys(mut to: Producer<Stroke>, keyboard: Keyboard)
     }
 }
 
-// The bytes that came out of a screen's ring are the first of those that it has shown.
-fn compare_screen(screen: Screen, mut from: Consumer<Shown>)
-    requires { GoesInto screen.ring from }
-    ensures { IsPrefix (received from) (gone_by screen.ring) }
+// What has come out of a ring is the first part of what went in.
+fn compare<T: Drop>(to: &mut Producer<T>, from: &mut Consumer<T>)
+    requires { IsPair to.old from.old }
+    ensures front { IsPrefix (received from.old) (sent to.old) }
+    ensures same { SameProducer to.old to.new × SameConsumer from.old from.new }
 {
-    if let Some(mut to) = screen.into_ring() {
-        compare(&mut to, &mut from);
-    }
+    let _ = from.slots_beside(to);
 }

@@ -35,26 +35,30 @@ module _ {D S : Type 0} where
     second_port = refl;
     screen = refl;
     quits = refl;
+    counts = refl;
   }
 
   pub adds_same : (a b c : Session D S) → AddsPlaces a b → seen c.switch ≡ seen b.switch → c.first ≡ b.first →
-      c.second ≡ b.second → c.screen ≡ b.screen → c.quits ≡ b.quits → AddsPlaces a c
-  adds_same a b c p same first second screen quits = record {
+      c.second ≡ b.second → c.screen ≡ b.screen → c.quits ≡ b.quits → c.flood ≡ b.flood → AddsPlaces a c
+  adds_same a b c p same first second screen quits counts = record {
     devices = ap (λ (s : Seen). s.devices) same ∙ p.devices;
     numbers = λ numbers. subst (λ (s : Seen). HasFirstNumbers s.lines) (sym same) (p.numbers numbers);
     first_port = first ∙ p.first_port;
     second_port = second ∙ p.second_port;
     screen = screen ∙ p.screen;
     quits = quits ∙ p.quits;
+    counts = counts ∙ p.counts;
   }
 
   pub adds_one : (a b c : Session D S) (line : HostLine) → AddsPlaces a b → Adds line (seen b.switch) (seen c.switch) →
-      c.first ≡ b.first → c.second ≡ b.second → c.screen ≡ b.screen → c.quits ≡ b.quits → AddsPlaces a c
-  adds_one a b c line p adds first second screen quits = record {
+      c.first ≡ b.first → c.second ≡ b.second → c.screen ≡ b.screen → c.quits ≡ b.quits → c.flood ≡ b.flood →
+      AddsPlaces a c
+  adds_one a b c line p adds first second screen quits counts = record {
     devices = adds.devices ∙ p.devices;
     numbers = λ numbers. numbers_more line (seen b.switch) (seen c.switch) adds (p.numbers numbers);
     first_port = first ∙ p.first_port;
     second_port = second ∙ p.second_port;
     screen = screen ∙ p.screen;
     quits = quits ∙ p.quits;
+    counts = counts ∙ p.counts;
   }

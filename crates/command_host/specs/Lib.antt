@@ -1,2 +1,3 @@
 pub mod Serving
 pub mod Places
+pub mod Endings

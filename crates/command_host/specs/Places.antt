@@ -17,3 +17,4 @@ pub record AddsPlaces {D S : Type 0} (old new : Session D S) : Type 0 where
   pub second_port : new.second ≡ old.second
   pub screen : new.screen ≡ old.screen
   pub quits : new.quits ≡ old.quits
+  pub counts : new.flood ≡ old.flood

@@ -1,7 +1,9 @@
 -- What a host boots with, and what it does from then on.
-use Rattle.std.specs.Prelude.{◌≡◌, ℕ, []}
+use Rattle.std.specs.Prelude.{◌≡◌, ℕ, [], List, IfSome, IsSome, Option}
 use Rattle.command_host.specs.declared.booting.Booted.{Booted}
 use Rattle.command_host.specs.declared.booting.Booted.TheVariants as booted
+use Rattle.command_host.specs.declared.host.Served.{Served}
+use Rattle.frame_streams.specs.Threads.{HasHeard, IsWritten}
 use Rattle.ft_node.specs.AnyNode.{IsNode}
 use Rattle.ft_node.specs.Calls.{Begins}
 use Rattle.ft_node.specs.declared.node.Node as code
@@ -12,7 +14,7 @@ use Rattle.host_node.specs.Ends.{IsEnd}
 use Rattle.host_node.specs.Goes.{Goes}
 use Rattle.host_node.specs.declared.host.HostNode.{HostNode}
 use Rattle.host_node.specs.declared.host.Hosted.TheVariants as hosted
-use Rattle.host_node.specs.declared.pace.End.{End}
+use Rattle.host_node.specs.declared.pace.End.TheVariants as of_end
 use Rattle.pair_protocol.specs.Copying.{Copying}
 use Rattle.pair_protocol.specs.Node.{Node, Role, Primary, Backup}
 
@@ -32,8 +34,11 @@ Boots state M (booted.Spare callbacks) host = host.node ≡ hosted.Spare callbac
 
 -- Such a host, to which nothing had come and from which nothing had gone, went on to its last state: its node made a run of
 -- the law's host, which takes only what came, and what went from it spells what that run sends. Its loop ended for this reason.
-pub record HasServed {B S : Type 0} {H : Type 0} (state : B → S) (M : Machine S) (copied : B → Guest) (drives : ℕ)
-    (with : Booted B H) (end : End) : Type 0 where
+-- If it is because the stream to it has ended, that is handed back, and what came are the bodies of its frames, but for those
+-- that it says are left. What went from it was written to the other stream, and nothing else, unless that says why not.
+pub record HasServed {B S : Type 0} {H I O : Type 0} (state : B → S) (M : Machine S) (copied : B → Guest)
+    (left : I → Option (List ℕ)) (contents : O → Option (List ℕ)) (drives : ℕ) (with : Booted B H) (streams : I × O)
+    (served : Served I O) : Type 0 where
   pub first : HostNode B H
   pub last : HostNode B H
   pub boots : Boots state M with first
@@ -41,4 +46,7 @@ pub record HasServed {B S : Type 0} {H : Type 0} (state : B → S) (M : Machine 
   pub none_came : first.mail.came ≡ []
   pub none_gone : first.mail.gone ≡ []
   pub went : Goes state M copied first last
-  pub why : IsEnd state M copied end first last
+  pub why : IsEnd state M copied served.end first last
+  pub waited : served.end ≡ of_end.Closed → IsSome served.heard
+  pub heard : IfSome served.heard (HasHeard left streams.0 last.mail.came)
+  pub said : IsWritten contents streams.1 last.mail.gone served.said

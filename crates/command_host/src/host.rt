@@ -1,21 +1,28 @@
 //! One host in a process: what it boots with and then frames come on one stream, and frames go on another.
-ghost use Rattle.std.specs.Prelude.{IfOk};
+ghost use Rattle.std.specs.Prelude.{◌≡◌, IfOk, IfSome, IsSome};
 ghost use Rattle.command_host.specs.Serving.{HasServed};
 ghost use Rattle.event_callbacks.specs.Keeping.{Keeps};
 ghost use Rattle.event_callbacks.specs.declared.devices.TheConstants.{SECTOR, SENT, WRITTEN};
+ghost use Rattle.frame_streams.specs.Reading.{contents_of};
+ghost use Rattle.frame_streams.specs.Threads.{HasHeard, ReadsInto};
+ghost use Rattle.host_node.specs.declared.pace.End.TheVariants as of_end;
+ghost use Rattle.rtrb.specs.Ring.{received};
 
 use crate::booting::{Booted, board_of, host_of};
-use crate::frames::{Writing, read_from, write_to};
 use crate::opening::read_opening;
 use clone_state::Copies;
 use command_ending::Failure;
 use command_input::{Language, read_input};
 use command_line::{HostOrder, HostRole};
 use event_callbacks::{Callbacks, Completes, plain_completions};
+use frame_streams::{
+    ReadStream, Reading, WrittenStream, end_reading, end_writing, start_reading, start_writing,
+};
 use guest_board::Setup;
 use host_node::{End, Mail, Settings, serve};
 use i8080_words::R;
 use key_room::{KeyRoom, OutstandingWrites};
+use rtrb::Consumer;
 use std::alloc::Global;
 use std::io::{Read, Write};
 use std::sync::{Arc, Wait};
@@ -31,6 +38,20 @@ const BEAT: u64 = 100_000;
 // How many milliseconds pass between two ticks of the outside.
 const TICK: u64 = 50;
 
+// How many frames wait on a ring at most.
+const FRAMES: usize = 1_024;
+
+/// How a host has ended, and its streams then.
+#[derive(Drop)]
+pub struct Served<I, O> {
+    /// Why its loop has ended.
+    pub end: End,
+    /// The stream of frames to it, if that has ended; none if the host has ended before, as more may come then.
+    pub heard: Option<ReadStream<I>>,
+    /// The stream of frames from it, to which all that it said is written, unless that says why not.
+    pub said: WrittenStream<O>,
+}
+
 /// Runs a host until there is a reason to end, which is returned: its stream of frames ends, for one. What it wrote is then
 /// whole frames, unless the stream failed.
 pub fn run_host<
@@ -45,7 +66,7 @@ pub fn run_host<
         &order.images,
         &mut opening.as_slice(),
     )?;
-    Ok(run_setup(
+    let served = run_setup(
         rt,
         alloc,
         order,
@@ -54,7 +75,8 @@ pub fn run_host<
         plain_completions::sent,
         plain_completions::sector,
         plain_completions::written,
-    )?)
+    )?;
+    Ok(served.end)
 }
 
 // Runs a host whose pair has the machine of this setup.
@@ -74,7 +96,7 @@ fn run_setup<
     sent: T,
     sector: S,
     written: W,
-) -> R<End>
+) -> R<Served<I, O>>
     requires sent { Keeps (T.may sent) (T.gives sent) SENT }
     requires sector { Keeps (S.may sector) (S.gives sector) SECTOR }
     requires written { Keeps (W.may written) (W.gives written) WRITTEN }
@@ -88,7 +110,9 @@ fn run_setup<
     run_booted(rt, alloc, settings(order), setup.drives, booted, streams)
 }
 
-/// Runs a host that boots with this, over a stream of frames to it and one from it, until there is a reason to end.
+/// Runs a host that boots with this, over a stream of frames to it and one from it, until there is a reason to end, and then until
+/// all that it said is written. If it ends before the stream to it does, nobody waits for that: then nothing is said of what was
+/// read.
 pub fn run_booted<
     B: Copies<K> + KeyRoom + OutstandingWrites + Drop,
     K: Drop,
@@ -102,26 +126,36 @@ pub fn run_booted<
     drives: u8,
     booted: Booted<B, K>,
     streams: (I, O),
-) -> R<End>
-    ensures { IfOk result (HasServed B.state B.machine B.copied drives booted) }
+) -> R<Served<I, O>>
+    ensures { IfOk result (HasServed B.state B.machine B.copied I.remaining O.contents drives booted streams) }
 {
     let (reader, writer) = streams;
     let mine = Arc::new(alloc, Parker::new())?;
-    let bodies = read_from(rt, alloc, reader, &mine)?;
-    let Writing {
-        frames,
-        wake,
-        thread,
-    } = write_to(rt, alloc, writer)?;
+    let (bodies, reading) = start_reading(rt, alloc, FRAMES, reader, &mine)?;
+    let (frames, wake, writing) = start_writing(rt, alloc, FRAMES, writer)?;
     let mail = Mail::new(alloc, bodies, frames, wake)?;
     let host = host_of(alloc, drives, booted, mail)?;
-    let end = {
-        let (host, end) = serve(&rt, host, settings, &mine);
-        drop(host);
-        end
-    };
-    let _ = thread.join(&rt);
-    Ok(end)
+    let (host, end) = serve(&rt, host, settings, &mine);
+    let mail = host.into_mail();
+    let (bodies, frames) = mail.into_rings();
+    let said = end_writing(rt, writing, frames);
+    let heard = heard_of(rt, end, reading, bodies);
+    Ok(Served { end, heard, said })
+}
+
+// The stream to a host whose loop has ended so, once that stream has ended too. None if more may come on it: nobody waits for that.
+fn heard_of<
+    H: Threads + Wait + Clock + Copy + Drop + Send + Sync + 'static,
+    I: Read + Drop + Send + 'static,
+>(rt: H, end: End, reading: Reading<I>, bodies: Consumer<Vec<u8>>) -> Option<ReadStream<I>>
+    requires { ReadsInto reading.promise.reader.value.source bodies reading.promise.reader.value }
+    ensures waits { end ≡ of_end.Closed → IsSome result }
+    ensures heard { IfSome result (HasHeard I.remaining reading.promise.reader.value.source (contents_of (received bodies))) }
+{
+    match end {
+        End::Closed => Some(end_reading(rt, reading, bodies)),
+        _ => None,
+    }
 }
 
 // How its loop goes. The outside ticks only while it runs itself, so that nobody is suspected because it was stopped.

@@ -3,13 +3,12 @@
 
 mod booting;
 mod ending;
-mod frames;
 mod host;
 mod opening;
 mod places;
 
 pub use booting::Booted;
-pub use ending::{ending_of_host, ending_of_hosts};
-pub use host::{run_booted, run_host};
+pub use ending::{ending_of_console, ending_of_host};
+pub use host::{Served, run_booted, run_host};
 pub use opening::read_opening;
 pub use places::{Pipes, add_places};

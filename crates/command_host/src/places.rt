@@ -51,7 +51,7 @@ pub fn add_places<
 
 // Starts the thread that reads the frames of the host at a place. Its pipe is opened when the host opens it, which need not be
 // soon.
-fn read_place<H: Threads + Clock + Copy + Drop + Send + Sync + 'static>(
+fn read_place<H: Threads + Wait + Clock + Copy + Drop + Send + Sync + 'static>(
     rt: H,
     alloc: Global,
     pipes: &Pipes<'_>,

@@ -1,3 +1,4 @@
 pub mod Typing
 pub mod Passing
+pub mod Cutting
 pub mod Going

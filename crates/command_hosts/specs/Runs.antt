@@ -1,5 +1,5 @@
 -- What a run of the outside comes to, and why it ends.
-use Rattle.std.specs.Prelude.{◌≡◌, ℕ, Bool, ◌||◌, is_none, true, List, [], ◌∷◌, ◌++◌, Some, slice_index}
+use Rattle.std.specs.Prelude.{◌≡◌, ℕ, Bool, ◌||◌, is_none, true, false, List, [], ◌∷◌, ◌++◌, Some, slice_get, slice_index}
 use Rattle.std.specs.List.{list_all}
 use Rattle.rtrb.specs.Ring.{received}
 use Rattle.outside_switch.specs.Goes.{GoesWith}
@@ -10,10 +10,11 @@ use Rattle.outside_switch.specs.declared.heard.Heard.TheVariants.{Shown}
 use Rattle.outside_switch.specs.declared.line.HostLine.{HostLine}
 use Rattle.pair_lines.specs.Lines.{HasRoom, HasShown, IsSameStart}
 use Rattle.pair_lines.specs.declared.screen.Screen.{Screen}
+use Rattle.command_hosts.specs.Judging.{FloodersAreCut}
 use Rattle.command_hosts.specs.Ports.{BeginsAt, IsOver, Types}
 use Rattle.command_hosts.specs.declared.live.Live.{Live}
 use Rattle.command_hosts.specs.declared.session.HostsEnd.{HostsEnd}
-use Rattle.command_hosts.specs.declared.session.HostsEnd.TheVariants.{NoHosts, Settled, Stopped, UserQuit}
+use Rattle.command_hosts.specs.declared.session.HostsEnd.TheVariants.{NoHosts, Settled, Silent, Stopped, UserQuit}
 use Rattle.command_hosts.specs.declared.session.Quit.{Quit}
 use Rattle.command_hosts.specs.declared.session.Session.{Session}
 
@@ -22,13 +23,15 @@ pub record Shows (passed : List Passed) (old new : Screen) : Type 0 where
   pub same : IsSameStart old.ring new.ring
   pub shown : (at : ℕ) (before : List ℕ) → HasShown old at before → HasShown new at (before ++ shown_at at passed)
 
--- the switch went on, and what passed meanwhile between its devices and the user was typed at both ports and shown
+-- The switch went on, and what passed meanwhile between its devices and the user was typed at both ports and shown. A host that has
+-- sent too much was cut off.
 pub record Went {D S : Type 0} (old new : Session D S) : Type 0 where
   pub passed : List Passed
   pub goes : GoesWith passed (seen old.switch) (seen new.switch)
   pub first : Types (typed_at 0 passed) old.first new.first
   pub second : Types (typed_at 1 passed) old.second new.second
   pub screen : Shows passed old.screen new.screen
+  pub cut : FloodersAreCut old → FloodersAreCut new
 
 -- this was shown, and all else is as it was
 pub record IsTold {D S : Type 0} (passed : List Passed) (old new : Session D S) : Type 0 where
@@ -36,6 +39,7 @@ pub record IsTold {D S : Type 0} (passed : List Passed) (old new : Session D S) 
   pub first : new.first ≡ old.first
   pub second : new.second ≡ old.second
   pub screen : Shows passed old.screen new.screen
+  pub flood : new.flood ≡ old.flood
 
 -- the screen has room for a byte that is to be shown
 abbrev pub MayShow : Screen → Heard → Type 0
@@ -53,10 +57,25 @@ pub data SeesLive {D S : Type 0} (live : Live) (old new : Session D S) : Type 0 
 abbrev pub have_no_machine : List HostLine → Bool
 have_no_machine lines = list_all (λ (line : HostLine). is_none line.to || is_none line.number) lines
 
--- the user has asked for it; no keys are left at either port; no host is left that has the machine; or the steward has its own reason
+-- the live host, and what it reported last
+pub record IsLive (lines : List HostLine) (live : Live) : Type 0 where
+  pub line : HostLine
+  pub at : slice_get lines live.place ≡ Some line
+  pub is_there : is_none line.to ≡ false
+  pub reported : line.report ≡ Some live.report
+
+-- its guest waits for a key, and nothing is on its way to a device
+pub record HasIdleGuest (lines : List HostLine) : Type 0 where
+  pub live : Live
+  pub is : IsLive lines live
+  pub idle : live.report.is_idle ≡ true
+
+-- The user has asked for it; no keys are left at either port, and the guest waits for one, or has been silent for long; no host is left that
+-- has the machine; or the steward has its own reason.
 abbrev pub IsWhy : {D S : Type 0} → HostsEnd → Session D S → Type 0
 IsWhy UserQuit s = (before : List Quit) × (quit : Quit) × (received s.quits ≡ before ++ quit ∷ [])
-IsWhy Settled s = IsOver s.first × IsOver s.second
+IsWhy Settled s = IsOver s.first × IsOver s.second × HasIdleGuest s.switch.lines.items
+IsWhy Silent s = IsOver s.first × IsOver s.second
 IsWhy NoHosts s = have_no_machine s.switch.lines.items ≡ true
 IsWhy Stopped s = Unit {0}
 

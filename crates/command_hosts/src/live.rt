@@ -1,4 +1,6 @@
 //! Which host is live, and which spare is next.
+ghost use Rattle.std.specs.Prelude.{◌≡◌, ◌⊎◌, IfSome};
+ghost use Rattle.command_hosts.specs.Runs.{IsLive};
 
 use host_frames::Report;
 use outside_switch::HostLine;
@@ -13,9 +15,14 @@ pub(crate) struct Live {
 
 /// The host of the greatest generation that reports that it is primary or alone. One that is alone has won its generation, so
 /// it comes before a primary of that generation, which has yet to hear that it has lost.
-pub(crate) fn live_of(lines: &[HostLine]) -> Option<Live> {
+pub(crate) fn live_of(lines: &[HostLine]) -> Option<Live>
+    ensures { IfSome result (IsLive lines.now) }
+{
     let mut found = None;
     for place in 0..=u8::MAX {
+        if usize::from(place) >= lines.len() {
+            break;
+        }
         found = later_of(found, live_at(lines, place));
     }
     found
@@ -38,7 +45,9 @@ pub(crate) fn spare_for(lines: &[HostLine], generation: u32) -> Option<u8> {
     found
 }
 
-fn live_at(lines: &[HostLine], place: u8) -> Option<Live> {
+fn live_at(lines: &[HostLine], place: u8) -> Option<Live>
+    ensures { IfSome result (IsLive lines.now) }
+{
     let line = lines.get(usize::from(place))?;
     if line.is_cut() {
         return None;
@@ -51,7 +60,9 @@ fn live_at(lines: &[HostLine], place: u8) -> Option<Live> {
 }
 
 // The one of the later generation, or the one that has won it, or the first.
-fn later_of(found: Option<Live>, other: Option<Live>) -> Option<Live> {
+fn later_of(found: Option<Live>, other: Option<Live>) -> Option<Live>
+    ensures { (result ≡ found) ⊎ (result ≡ other) }
+{
     let Some(live) = found else {
         return other;
     };

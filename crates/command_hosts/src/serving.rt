@@ -44,7 +44,8 @@ fn serve<D: SectorStore, S: Steward + Drop, C: Wait + Clock>(
         if let Some(end) = session.end(now) {
             return end;
         }
-        if !is_busy {
+        let may_rest = session.may_rest(is_busy);
+        if may_rest {
             wake.park_timeout(rt, Duration::from_millis(REST));
         }
     }

@@ -5,7 +5,9 @@ ghost use Rattle.outside_devices.specs.Held.{at_boot};
 ghost use Rattle.outside_switch.specs.Goes.{Adds};
 ghost use Rattle.outside_switch.specs.declared.line.HostLine.{HostLine};
 ghost use Rattle.outside_switch.specs.Meets.{seen};
+ghost use Rattle.command_hosts.specs.Floods.{count_at, unheard};
 
+use crate::flood::Flood;
 use crate::port::PortEnd;
 use crate::steward::Steward;
 use i8080_words::R;
@@ -26,8 +28,10 @@ pub struct Quit;
 pub enum HostsEnd {
     /// The user wants it.
     UserQuit,
-    /// No more keys can come, all that came were taken, and for a second the pair has written and shown nothing more.
+    /// No more keys can come, all that came were taken, and the guest waits for one, with nothing on its way to a device.
     Settled,
+    /// No more keys can come, all that came were taken, and for ten seconds the pair has written and shown nothing, though its guest runs.
+    Silent,
     /// No host is left that has the machine.
     NoHosts,
     /// The steward has stopped it.
@@ -44,6 +48,7 @@ pub struct Session<D: SectorStore, S: Steward + Drop> {
     pub(crate) quits: Consumer<Quit>,
     pub(crate) steward: S,
     pub(crate) moments: Moments,
+    pub(crate) flood: Flood,
 }
 
 /// When something happened last, in microseconds.
@@ -52,9 +57,15 @@ pub(crate) struct Moments {
     // The last turn; 0 if there was none.
     pub(crate) turned: u64,
     pub(crate) ticked: u64,
+    // The number of the last tick.
+    pub(crate) tick: u64,
     pub(crate) begun: u64,
     // A key was typed, or the pair has shown or written something.
     pub(crate) moved: u64,
+    // In how many turns nothing has come.
+    pub(crate) idle: u64,
+    // The user has asked for the end; and the number of the last tick by then.
+    pub(crate) asked: Option<(u64, u64)>,
     // Which host is live, and of which generation.
     pub(crate) live: Option<(u8, u32)>,
 }
@@ -73,6 +84,7 @@ impl<D: SectorStore, S: Steward + Drop> Session<D, S> {
         ensures ok { IfOk result (λ session. (session.first ≡ first) × (session.second ≡ second)
             × (session.screen ≡ screen) × (session.quits ≡ quits) × (seen session.switch
             ≡ record { devices = record (at_boot (D.records store) (D.may_fail store)) { hosts = 2 }; lines = [] })) }
+        ensures unheard { IfOk result (λ session. session.flood ≡ unheard) }
         ensures only_memory { IsOkUnless result OutOfMemory }
     {
         let switch = Switch::new(alloc, store)?;
@@ -86,10 +98,14 @@ impl<D: SectorStore, S: Steward + Drop> Session<D, S> {
             moments: Moments {
                 turned: 0,
                 ticked: 0,
+                tick: 0,
                 begun: 0,
                 moved: 0,
+                idle: 0,
+                asked: None,
                 live: None,
             },
+            flood: Flood::new(),
         })
     }
 
@@ -107,8 +123,17 @@ impl<D: SectorStore, S: Steward + Drop> Session<D, S> {
             (λ fault. fault ≡ (if nat_lt (length self.old.switch.lines.items) 256 then OutOfMemory else Unknown)) }
         ensures others { (self.new.first ≡ self.old.first) × (self.new.second ≡ self.old.second)
             × (self.new.screen ≡ self.old.screen) × (self.new.quits ≡ self.old.quits) }
+        ensures flood { self.new.flood ≡ self.old.flood }
     {
         self.switch.add(from, to, wake)
+    }
+
+    /// How many bodies of the host at a place were refused: those that are no frame or mean nothing where they come from, the one
+    /// that was too many, and those that came after the host was cut off.
+    pub fn refused(&self, place: u8) -> u64
+        ensures { result ≡ count_at self.now.flood.refused place }
+    {
+        self.flood.refused(place)
     }
 
     /// What it is made of, once it has gone to its end.

@@ -1,4 +1,4 @@
-//! Whoever is told what becomes of the hosts, and says what becomes of packets between them.
+//! Whoever is told what becomes of the hosts, and says what becomes of packets between them, and how fast the guest runs.
 
 use outside_switch::{Fate, HostLine};
 use pair_events::Role;
@@ -20,6 +20,8 @@ pub enum HostEvent {
     Unwritten,
     /// It has sent what is no frame, or means nothing where it comes from, and is cut off.
     Failed,
+    /// It has sent more frames than any host does, and is cut off.
+    Flooded,
     /// Its stream has ended.
     Gone,
 }
@@ -29,12 +31,18 @@ pub trait Steward {
     /// Something becomes of the host at a place.
     fn hears(&mut self, place: u8, event: HostEvent);
 
-    /// The hosts are so now, and what each reported last. It is told so now and then.
-    fn looks(&mut self, _lines: &[HostLine]) {}
+    /// The hosts are so now, what each reported last, and how many of its frames were refused, by their places. It is told so now
+    /// and then.
+    fn looks(&mut self, _lines: &[HostLine], _refused: &[u64]) {}
 
     /// Whether all is to end, for a reason of the caller's own.
     fn is_over(&mut self) -> bool {
         false
+    }
+
+    /// How many steps a second the guest makes at most from now on; 0 if it runs as fast as it can.
+    fn speed(&mut self) -> u64 {
+        0
     }
 
     /// What becomes of packets between hosts from now on.

@@ -1,12 +1,17 @@
 //! One turn of the outside.
 ghost use Rattle.std.specs.Prelude.{IfSome, ◌≡◌, ◌∷◌, [], true};
+ghost use Rattle.outside_switch.specs.Goes.{GoesWith};
+ghost use Rattle.outside_switch.specs.Meets.{seen};
 ghost use Rattle.outside_switch.specs.Passing.{Shown, passed_of};
 ghost use Rattle.outside_switch.specs.declared.heard.Heard.{Heard};
 ghost use Rattle.outside_switch.specs.declared.heard.Heard.TheVariants as of_heard;
 ghost use Rattle.outside_switch.specs.Heeds.{HasRoomFor};
-ghost use Rattle.command_hosts.specs.Runs.{IsTold, IsWhy, MayShow, SeesLive, Went, have_no_machine};
+ghost use Rattle.command_hosts.specs.Floods.{has_flooded, refused_one, sent_one, ticked};
+ghost use Rattle.command_hosts.specs.Judging.{HearsAndCounts, HearsOne, IsCutOff, Judges, TakesOne, is_due, is_open};
+ghost use Rattle.command_hosts.specs.Runs.{HasIdleGuest, IsTold, IsWhy, MayShow, SeesLive, Went, have_no_machine};
 ghost use Rattle.command_hosts.specs.declared.session.HostsEnd.TheVariants as ending;
 
+use crate::flood::{Came, came_of};
 use crate::live::{Live, live_of, spare_for};
 use crate::session::{HostsEnd, Session};
 use crate::steward::{HostEvent, Steward};
@@ -25,8 +30,14 @@ const TICK: u64 = 50_000;
 /// After how many microseconds a host that is alone is told again to begin.
 const BEGIN: u64 = 500_000;
 
-/// For how many microseconds nothing is written and shown if all has settled.
-const SETTLED: u64 = 1_000_000;
+/// After how many turns in which nothing comes the loop rests.
+const IDLE_TURNS: u64 = 20;
+
+/// For how many microseconds nothing may be written and shown by a guest that runs.
+const SILENT: u64 = 10_000_000;
+
+/// For how many microseconds writes of the guest may be on their way after the user has asked for the end.
+const DRAINS: u64 = 2_000_000;
 
 /// After how many microseconds without a turn the outside was itself stopped: nothing that it has not seen says anything of a host.
 const STOPPED: u64 = 250_000;
@@ -110,9 +121,17 @@ impl<D: SectorStore, S: Steward + Drop> Session<D, S> {
     {
         let mut has_heard = false;
         for place in 0..=u8::MAX {
+            if !self.has_place(place) {
+                break;
+            }
             has_heard |= self.hear_host(alloc, now, place);
         }
         has_heard
+    }
+
+    // Whether there is such a place.
+    fn has_place(&self, place: u8) -> bool {
+        usize::from(place) < self.switch.lines().len()
     }
 
     // Hears the host at one place.
@@ -130,14 +149,73 @@ impl<D: SectorStore, S: Steward + Drop> Session<D, S> {
         has_heard
     }
 
-    // Hears the next body of a host, and shows what there is to show. Returns false if there is none.
+    // Hears the next body of a host, and counts it. Returns false if there is none.
+    #[tactic(auto, using(crate::proofs::Going::and_then))]
     fn hear_next(&mut self, alloc: Global, now: u64, place: u8) -> bool
-        ensures { Went self.old self.new }
+        ensures went { Went self.old self.new }
+        ensures hears { HearsAndCounts place self.old self.new }
+    {
+        let is_open = self.is_open(place);
+        let heard = self.hear_one(alloc, now, place);
+        self.judge(alloc, place, came_of(heard, is_open));
+        !matches!(heard, Heard::Nothing)
+    }
+
+    // Whether a host is at a place and not cut off.
+    fn is_open(&self, place: u8) -> bool
+        ensures { result ≡ is_open self.now.switch place }
+    {
+        match self.switch.lines().get(usize::from(place)) {
+            Some(line) => !line.is_cut(),
+            None => false,
+        }
+    }
+
+    // Hears the next body of a host, and shows what there is to show.
+    fn hear_one(&mut self, alloc: Global, now: u64, place: u8) -> Heard
+        ensures went { Went self.old self.new }
+        ensures hears { HearsOne place result self.old self.new }
     {
         let rooms = self.rooms();
         let heard = self.switch.hear(alloc, place, rooms);
         self.tell(now, place, heard);
-        !matches!(heard, Heard::Nothing)
+        heard
+    }
+
+    // Counts what became of the next body of a host.
+    #[tactic(auto, using(crate::proofs::Going::rested_one, crate::proofs::Going::refused_one))]
+    fn judge(&mut self, alloc: Global, place: u8, came: Came)
+        ensures went { Went self.old self.new }
+        ensures judges { Judges came place self.old self.new }
+    {
+        match came {
+            Came::Nothing => self.flood.rest(place),
+            Came::Refused => self.flood.refuse(place),
+            Came::Taken => self.take(alloc, place),
+        }
+    }
+
+    // Counts a body that was taken of a host, which is cut off if that is one too many.
+    #[tactic(auto, using(crate::proofs::Going::takes, crate::proofs::Cutting::few, crate::proofs::Cutting::many))]
+    fn take(&mut self, alloc: Global, place: u8)
+        ensures went { Went self.old self.new }
+        ensures takes { TakesOne (has_flooded (sent_one place self.old.flood) place) place self.old self.new }
+    {
+        if self.flood.take(place) {
+            self.cut_off(alloc, place);
+        }
+    }
+
+    // Cuts off a host that has sent too much; what was too much is refused.
+    fn cut_off(&mut self, alloc: Global, place: u8)
+        ensures goes { GoesWith [] (seen self.old.switch) (seen self.new.switch) }
+        ensures cut { IsCutOff place (refused_one place self.old.flood) self.old self.new }
+        ensures ports { (self.new.first ≡ self.old.first) × (self.new.second ≡ self.old.second) }
+        ensures screen { self.new.screen ≡ self.old.screen }
+    {
+        self.flood.refuse(place);
+        self.switch.gone(alloc, place);
+        self.steward.hears(place, HostEvent::Flooded);
     }
 
     // Whether the screen has room for a byte of each port.
@@ -193,6 +271,9 @@ impl<D: SectorStore, S: Steward + Drop> Session<D, S> {
         ensures { Went self.old self.new }
     {
         for place in 0..=u8::MAX {
+            if !self.has_place(place) {
+                break;
+            }
             self.see_end(alloc, place);
         }
     }
@@ -274,17 +355,36 @@ impl<D: SectorStore, S: Steward + Drop> Session<D, S> {
         self.steward.hears(spare, HostEvent::Joins(generation));
     }
 
-    // Tells all hosts that the switch is there.
-    #[tactic(auto, using(crate::proofs::Going::stays, crate::proofs::Going::switched))]
+    // Tells all hosts that the switch is there, if it is time for that.
+    #[tactic(auto, using(crate::proofs::Going::same, crate::proofs::Going::switched))]
     fn tick(&mut self, alloc: Global, now: u64)
-        ensures { Went self.old self.new }
+        ensures went { Went self.old self.new }
+        ensures ticks { self.new.flood ≡ ticked (is_due now self.old.moments.ticked) self.old.flood }
     {
-        if now.saturating_sub(self.moments.ticked) < TICK {
+        let is_due = now.saturating_sub(self.moments.ticked) >= TICK;
+        self.flood.end_turn(is_due);
+        if !is_due {
             return;
         }
         self.moments.ticked = now;
-        self.switch.tick(alloc);
-        self.steward.looks(self.switch.lines());
+        self.moments.tick = self.moments.tick.saturating_add(1);
+        let speed = self.steward.speed();
+        self.switch.tick(alloc, self.moments.tick, speed);
+        self.steward
+            .looks(self.switch.lines(), self.flood.all_refused());
+    }
+
+    /// Whether the loop may rest: nothing has come for some turns. What wakes it takes longer than these.
+    #[tactic(auto, using(crate::proofs::Going::same))]
+    pub(crate) fn may_rest(&mut self, is_busy: bool) -> bool
+        ensures { Went self.old self.new }
+    {
+        if is_busy {
+            self.moments.idle = 0;
+            return false;
+        }
+        self.moments.idle = self.moments.idle.saturating_add(1);
+        self.moments.idle > IDLE_TURNS
     }
 
     /// Why all ends now, if it does.
@@ -293,7 +393,7 @@ impl<D: SectorStore, S: Steward + Drop> Session<D, S> {
         ensures went { Went self.old self.new }
         ensures why { IfSome result (λ end. IsWhy end self.new) }
     {
-        if self.quits.pop().is_ok() {
+        if self.has_quit(now) {
             return Some(HostsEnd::UserQuit);
         }
         if self.steward.is_over() {
@@ -302,20 +402,61 @@ impl<D: SectorStore, S: Steward + Drop> Session<D, S> {
         if is_deserted(self.switch.lines()) {
             return Some(HostsEnd::NoHosts);
         }
-        if self.has_settled(now) {
+        self.end_of_keys(now)
+    }
+
+    // Whether the user has asked for the end, and no write of the guest is on its way to the disk.
+    #[tactic(auto, using(crate::proofs::Going::same))]
+    fn has_quit(&mut self, now: u64) -> bool
+        ensures went { Went self.old self.new }
+        ensures why { result ≡ true → IsWhy ending.UserQuit self.new }
+    {
+        if self.quits.is_empty() || !self.is_drained(now) {
+            return false;
+        }
+        self.quits.pop().is_ok()
+    }
+
+    // Whether a live host has said, since the user has asked for the end, that no write is on its way; or it has not for long.
+    #[tactic(auto, using(crate::proofs::Going::same))]
+    fn is_drained(&mut self, now: u64) -> bool
+        ensures went { Went self.old self.new }
+        ensures quits { self.new.quits ≡ self.old.quits }
+    {
+        let Some((asked, tick)) = self.moments.asked else {
+            self.moments.asked = Some((now, self.moments.tick));
+            return false;
+        };
+        match live_of(self.switch.lines()) {
+            Some(live) if live.report.tick > tick && live.report.writes == 0 => true,
+            _ => now.saturating_sub(asked) >= DRAINS,
+        }
+    }
+
+    // Why all ends now, if no keys are left.
+    fn end_of_keys(&self, now: u64) -> Option<HostsEnd>
+        ensures { IfSome result (λ end. IsWhy end self.now) }
+    {
+        if !self.first.is_over() || !self.second.is_over() {
+            return None;
+        }
+        if self.is_idle() {
             return Some(HostsEnd::Settled);
+        }
+        if now.saturating_sub(self.moments.moved) >= SILENT {
+            return Some(HostsEnd::Silent);
         }
         None
     }
 
-    // Whether no keys are left, and the pair has shown and written nothing for a while.
-    fn has_settled(&self, now: u64) -> bool
-        ensures { result ≡ true → IsWhy ending.Settled self.now }
+    // Whether the guest of the live host waits for a key, with nothing on its way to a device.
+    fn is_idle(&self) -> bool
+        ensures { result ≡ true → HasIdleGuest self.now.switch.lines.items }
     {
-        if !self.first.is_over() || !self.second.is_over() {
-            return false;
+        match live_of(self.switch.lines()) {
+            Some(live) => live.report.is_idle,
+            None => false,
         }
-        now.saturating_sub(self.moments.moved) >= SETTLED
     }
 }
 

@@ -24,7 +24,7 @@ by_default text option = record option { defaults = text ∷ [] }
 abbrev pub flag_option : Text → Rule
 flag_option name = record (new_rule name) { long = Some name; action = Some SetTrue }
 
--- the link and the drives, as two commands have them
+-- the link and the drives of `live`
 abbrev pub link_and_disks : List Rule
 link_and_disks = text_option (codes "link") ∷ text_option (codes "images") ∷ text_option (codes "saved") ∷ []
 
@@ -44,18 +44,6 @@ abbrev pub live_options : List Rule
 live_options = turn_options ++ (link_and_disks
     ++ (text_option (codes "next") ∷ text_option (codes "next-at") ∷ flag_option (codes "told") ∷ []))
 
--- the options of `console` that are given numbers: spare hosts, the escape key, and how many bytes come before the first key
-abbrev pub console_numbers : List Rule
-console_numbers = by_default (codes "2") (number_option (codes "spares") 0 97)
-    ∷ by_default (codes "5") (number_option (codes "escape") 0 255)
-    ∷ by_default (codes "0") (number_option (codes "before") 0 1099511627776)
-    ∷ []
-
--- the options of `console`
-abbrev pub console_options : List Rule
-console_options = console_numbers ++ (link_and_disks
-    ++ (by_default (codes "logged") (text_option (codes "reads")) ∷ text_option (codes "mark") ∷ flag_option (codes "apart") ∷ []))
-
 -- the options of `host`
 abbrev pub host_options : List Rule
 host_options = by_default (codes "spare") (text_option (codes "role"))
@@ -64,17 +52,18 @@ host_options = by_default (codes "spare") (text_option (codes "role"))
     ∷ text_option (codes "images")
     ∷ []
 
--- the options of `hosts`
-abbrev pub hosts_options : List Rule
-hosts_options = by_default (codes ".") (text_option (codes "folder"))
+-- where the hosts of `console` are, the key that opens a command line, and how many bytes come before the first key
+abbrev pub sitting_options : List Rule
+sitting_options = by_default (codes ".") (text_option (codes "folder"))
     ∷ by_default (codes "3") (number_option (codes "places") 2 99)
     ∷ by_default (codes "5") (number_option (codes "escape") 0 255)
     ∷ by_default (codes "0") (number_option (codes "before") 0 1099511627776)
-    ∷ text_option (codes "images")
-    ∷ text_option (codes "saved")
-    ∷ text_option (codes "mark")
-    ∷ flag_option (codes "apart")
     ∷ []
+
+-- the options of `console`
+abbrev pub console_options : List Rule
+console_options = sitting_options
+    ++ (text_option (codes "images") ∷ text_option (codes "saved") ∷ text_option (codes "mark") ∷ flag_option (codes "apart") ∷ [])
 
 -- a command with these options
 abbrev pub command : Text → List Rule → Shape
@@ -96,7 +85,6 @@ pair_app = record {
       ∷ command (codes "live") live_options
       ∷ command (codes "console") console_options
       ∷ command (codes "host") host_options
-      ∷ command (codes "hosts") hosts_options
       ∷ [];
 }
 

@@ -13,15 +13,12 @@ pieces_of text = slice_split (λ byte. byte == 44) text
 abbrev pub pieces_in : List Row → Text → List Text
 pieces_in rows option = option_map_or pieces_of (first_of option rows) []
 
--- the fates of a packet, who asks, what the log has of a sector, what a host is at boot, and the drives, by their names
+-- the fates of a packet, who asks, what a host is at boot, and the drives, by their names
 abbrev pub fates : List Text
 fates = codes "pass" ∷ codes "drop" ∷ codes "twice" ∷ []
 
 abbrev pub askers : List Text
 askers = codes "nobody" ∷ codes "primary" ∷ codes "backup" ∷ []
-
-abbrev pub readings : List Text
-readings = codes "logged" ∷ codes "shared" ∷ []
 
 abbrev pub roles : List Text
 roles = codes "primary" ∷ codes "backup" ∷ codes "spare" ∷ []
@@ -48,5 +45,4 @@ lists_hold rows = are_among fates (pieces_in rows (codes "link"))
     && (are_among drives (pieces_in rows (codes "saved"))
     && (are_among askers (pieces_in rows (codes "next"))
     && (are_turns (pieces_in rows (codes "next-at"))
-    && (is_among readings rows (codes "reads")
-    && is_among roles rows (codes "role"))))))
+    && is_among roles rows (codes "role")))))

@@ -10,17 +10,14 @@ use Rattle.command_ending.specs.declared.failure.Failure.TheVariants as failure
 use Rattle.command_line.specs.Commands.{pair_app}
 use Rattle.command_line.specs.Lists.{lists_hold, pieces_in}
 use Rattle.command_line.specs.declared.console_order.ConsoleOrder.{ConsoleOrder}
-use Rattle.command_line.specs.declared.hosts_order.HostOrder.{HostOrder}
-use Rattle.command_line.specs.declared.hosts_order.HostRole.{HostRole}
-use Rattle.command_line.specs.declared.hosts_order.HostRole.TheVariants as role
-use Rattle.command_line.specs.declared.hosts_order.HostsOrder.{HostsOrder}
+use Rattle.command_line.specs.declared.host_order.HostOrder.{HostOrder}
+use Rattle.command_line.specs.declared.host_order.HostRole.{HostRole}
+use Rattle.command_line.specs.declared.host_order.HostRole.TheVariants as role
 use Rattle.command_line.specs.declared.live_order.Asker.{Asker}
 use Rattle.command_line.specs.declared.live_order.Asker.TheVariants.{Nobody, Primary, Backup}
 use Rattle.command_line.specs.declared.live_order.LiveOrder.{LiveOrder}
 use Rattle.command_line.specs.declared.options.Request.{Request}
 use Rattle.command_line.specs.declared.options.Request.TheVariants as request
-use Rattle.guest_lockstep.specs.declared.reads.Reads.{Reads}
-use Rattle.guest_lockstep.specs.declared.reads.Reads.TheVariants.{Logged, Shared}
 use Rattle.pair_threads.specs.declared.link.Fate.{Fate}
 use Rattle.pair_threads.specs.declared.link.Fate.TheVariants.{Pass, Drop, Twice}
 
@@ -28,10 +25,6 @@ use Rattle.pair_threads.specs.declared.link.Fate.TheVariants.{Pass, Drop, Twice}
 abbrev pub fate_of : List ℕ → Fate
 fate_of word =
     if bytes_eq word (codes "drop") then Drop else (if bytes_eq word (codes "twice") then Twice else Pass)
-
--- what the log has of a sector that the primary reads, by its name; `logged` is the second
-abbrev pub reads_of : List ℕ → Reads
-reads_of word = if bytes_eq word (codes "shared") then Shared else Logged
 
 -- who asks to go on alone, by the name; `nobody` is the third
 abbrev pub asker_of : List ℕ → Asker
@@ -89,21 +82,6 @@ pub record IsOrdered (rows : List Row) (images : List ℕ) (order : LiveOrder) :
 abbrev pub text_given : List Row → Text → List ℕ
 text_given rows option = unwrap_or (first_of option rows) []
 
--- each option of `console` sets what it says: how many spare hosts there are, the escape key, how much comes before the first key, these
--- fates in this order, what the log has of a sector, the drives whose disks are saved, the mark before these, and whether lines are
--- handed over; the drives with images
--- are given
-pub record IsConsoleOrdered (rows : List Row) (images : List ℕ) (order : ConsoleOrder) : Type 0 where
-  pub spares : IsGivenOr 64 2 (one_of (codes "spares") rows) order.spares
-  pub escape : IsGivenOr 8 5 (one_of (codes "escape") rows) order.escape
-  pub before : IsGivenOr 64 0 (one_of (codes "before") rows) order.before
-  pub link : order.link.items ≡ map fate_of (pieces_in rows (codes "link"))
-  pub reads : order.reads ≡ reads_of (text_given rows (codes "reads"))
-  pub images_are : order.images.items ≡ images
-  pub saved : order.saved.items ≡ drives_in rows (codes "saved")
-  pub mark : string_bytes order.mark ≡ text_given rows (codes "mark")
-  pub apart : IsFlag (one_of (codes "apart") rows) order.apart
-
 -- what a host is at boot, by its name; `spare` is the third
 abbrev pub role_of : List ℕ → HostRole
 role_of word =
@@ -118,9 +96,9 @@ pub record IsHostOrdered (rows : List Row) (images : List ℕ) (order : HostOrde
   pub before : IsGivenOr 64 0 (one_of (codes "before") rows) order.before
   pub images_are : order.images.items ≡ images
 
--- the same of `hosts`: its folder, how many places there are, the key that opens a command line, how much comes before the first key, the drives
+-- the same of `console`: its folder, how many places there are, the key that opens a command line, how much comes before the first key, the drives
 -- whose disks are saved, and the mark before these
-pub record IsHostsOrdered (rows : List Row) (images : List ℕ) (order : HostsOrder) : Type 0 where
+pub record IsConsoleOrdered (rows : List Row) (images : List ℕ) (order : ConsoleOrder) : Type 0 where
   pub folder : string_bytes order.folder ≡ text_given rows (codes "folder")
   pub places : IsGivenOr 64 3 (one_of (codes "places") rows) order.places
   pub escape : IsGivenOr 8 5 (one_of (codes "escape") rows) order.escape
@@ -148,7 +126,6 @@ pub record IsOfScript (name : Text) : Type 0 where
   pub live : name ≢ codes "live"
   pub console : name ≢ codes "console"
   pub host : name ≢ codes "host"
-  pub hosts : name ≢ codes "hosts"
 
 -- the command of this name is asked for, with the options that clap has found after it
 abbrev pub Asks : Text → List Row → Request → Type 0
@@ -159,7 +136,6 @@ Asks name rows request.Lint = name ≡ codes "lint"
 Asks name rows (request.Live order) = (name ≡ codes "live") × IsOrdered rows (drives_in rows (codes "images")) order
 Asks name rows (request.Console order) = (name ≡ codes "console") × IsConsoleOrdered rows (drives_in rows (codes "images")) order
 Asks name rows (request.Host order) = (name ≡ codes "host") × IsHostOrdered rows (drives_in rows (codes "images")) order
-Asks name rows (request.Hosts order) = (name ≡ codes "hosts") × IsHostsOrdered rows (drives_in rows (codes "images")) order
 Asks name rows request.Shell = name ≡ codes "shell"
 Asks name rows (request.Help text) = ⊥
 

@@ -1,6 +1,6 @@
 //! The program's commands and their options, as clap takes them.
 ghost use Rattle.std.specs.Prelude.{◌≡◌, [], IfOk, codes};
-ghost use Rattle.command_line.specs.Commands.{Adds, AddsScriptCommands, IsCommand, IsOption, alone, by_default, command, console_numbers, console_options, flag_option, host_options, hosts_options, link_and_disks, live_options, number_option, pair_app, program_shape, script_options, text_option, turn_options};
+ghost use Rattle.command_line.specs.Commands.{Adds, AddsScriptCommands, IsCommand, IsOption, alone, by_default, command, console_options, flag_option, host_options, link_and_disks, live_options, number_option, pair_app, program_shape, script_options, sitting_options, text_option, turn_options};
 
 use clap::builder::ValueParser;
 use clap::{Arg, ArgAction, Command};
@@ -33,9 +33,6 @@ pub(crate) static FATES: &[&str] = &["pass", "drop", "twice"];
 // Who asks to go on alone in a further generation.
 pub(crate) static ASKERS: &[&str] = &["nobody", "primary", "backup"];
 
-// What a packet of the log has of a sector.
-pub(crate) static READS: &[&str] = &["logged", "shared"];
-
 pub(crate) static DRIVES: &[&str] = &["0", "1", "2", "3"];
 
 // What a host is when its pair boots.
@@ -56,9 +53,6 @@ pub(crate) const MOST_TURNS: u64 = 1_000_000_000;
 const TURNS_HELP: &str =
     "In how many turns the primary, and the backup, may make progress; one that finds nothing to do is none of them";
 
-const SPARES_HELP: &str =
-    "How many spare hosts there are; when a host has failed, the guest is copied to the next one";
-
 const ESCAPE_HELP: &str =
     "The key that opens a command line, as the number of its byte; 5 is Ctrl-E";
 
@@ -67,9 +61,6 @@ const BEFORE_HELP: &str =
 
 // How many bytes come before the first key at most.
 const MOST_BEFORE: u64 = 1_099_511_627_776;
-
-const READS_HELP: &str =
-    "Whether the log carries each sector that the primary reads, or names it, so that the backup reads it from the shared disk";
 
 const MARK: &str =
     "What is written between the guest's output and the disks of --saved; ./pair looks for it";
@@ -125,18 +116,13 @@ const LIVE: (&str, &str) = (
 );
 
 const CONSOLE: (&str, &str) = (
-    "Runs a pair that one sits at: keys from standard input, the guest's output as it is accepted",
+    "Runs a pair that one sits at, whose hosts are processes: its terminals, its disk and its arbiter",
     "pair console [OPTIONS] (keys come from standard input, after what --before says)",
 );
 
 const HOST: (&str, &str) = (
     "Runs one host of a pair: frames from standard input, frames to standard output",
     "pair host [OPTIONS] (frames come from standard input, after what --before says)",
-);
-
-const HOSTS: (&str, &str) = (
-    "Runs the outside of a pair whose hosts are processes: its terminals, its disk and its arbiter",
-    "pair hosts [OPTIONS] (keys come from standard input, after what --before says)",
 );
 
 /// How clap takes the list of an option. Its contract says what it finds in words only if it leaves lists whole; what it tells of a
@@ -156,8 +142,7 @@ pub(crate) fn pair_command<'a>(alloc: Global, lists: Lists) -> Result<Command<'a
     let pair = pair.subcommand(plain_command(alloc, "shell", SHELL))?;
     let pair = pair.subcommand(live_command(alloc, lists)?)?;
     let pair = pair.subcommand(console_command(alloc, lists)?)?;
-    let pair = pair.subcommand(host_command(alloc, lists)?)?;
-    pair.subcommand(hosts_command(alloc, lists)?)
+    pair.subcommand(host_command(alloc, lists)?)
 }
 
 // The program without its commands.
@@ -218,18 +203,6 @@ fn live_command<'a>(alloc: Global, lists: Lists) -> Result<Command<'a>, AllocErr
         .arg(told(alloc))
 }
 
-// The command that runs a pair that one sits at.
-fn console_command<'a>(alloc: Global, lists: Lists) -> Result<Command<'a>, AllocError>
-    ensures { IfOk result (λ c. lists ≡ Lists.Whole → IsCommand (alone (command (codes "console") console_options)) c) }
-{
-    let console = with_console_numbers(alloc, plain_command(alloc, "console", CONSOLE))?;
-    let console = with_link_and_disks(alloc, lists, console)?;
-    console
-        .arg(reads(alloc, lists))?
-        .arg(mark(alloc))?
-        .arg(apart(alloc))
-}
-
 // The command that runs one host.
 fn host_command<'a>(alloc: Global, lists: Lists) -> Result<Command<'a>, AllocError>
     ensures { IfOk result (λ c. lists ≡ Lists.Whole → IsCommand (alone (command (codes "host") host_options)) c) }
@@ -240,19 +213,27 @@ fn host_command<'a>(alloc: Global, lists: Lists) -> Result<Command<'a>, AllocErr
         .arg(images(alloc, lists))
 }
 
-// The command that runs the outside of hosts.
-fn hosts_command<'a>(alloc: Global, lists: Lists) -> Result<Command<'a>, AllocError>
-    ensures { IfOk result (λ c. lists ≡ Lists.Whole → IsCommand (alone (command (codes "hosts") hosts_options)) c) }
+// The command that runs a pair that one sits at.
+fn console_command<'a>(alloc: Global, lists: Lists) -> Result<Command<'a>, AllocError>
+    ensures { IfOk result (λ c. lists ≡ Lists.Whole → IsCommand (alone (command (codes "console") console_options)) c) }
 {
-    let hosts = plain_command(alloc, "hosts", HOSTS).arg(folder(alloc))?;
-    hosts
-        .arg(places(alloc))?
-        .arg(escape(alloc))?
-        .arg(before(alloc))?
+    let console = with_sitting(alloc, plain_command(alloc, "console", CONSOLE))?;
+    console
         .arg(images(alloc, lists))?
         .arg(saved(alloc, lists))?
         .arg(mark(alloc))?
         .arg(apart(alloc))
+}
+
+// The command with its options that say where hosts are, which key opens a command line, and how much comes before the first key.
+fn with_sitting<'a>(alloc: Global, console: Command<'a>) -> Result<Command<'a>, AllocError>
+    ensures { IfOk result (Adds sitting_options console.entry) }
+{
+    console
+        .arg(folder(alloc))?
+        .arg(places(alloc))?
+        .arg(escape(alloc))?
+        .arg(before(alloc))
 }
 
 // The command with its options that say for how many turns, and when somebody asks.
@@ -271,19 +252,6 @@ fn with_turns<'a>(alloc: Global, live: Command<'a>) -> Result<Command<'a>, Alloc
     live.arg(turns)?.arg(primary_asks)?.arg(backup_asks)
 }
 
-// The command with its options whose values are numbers from 0 on.
-fn with_console_numbers<'a>(alloc: Global, console: Command<'a>) -> Result<Command<'a>, AllocError>
-    ensures { IfOk result (Adds console_numbers console.entry) }
-{
-    let spares = number(alloc, "spares", 0, 97)
-        .default_value("2")
-        .help(SPARES_HELP);
-    let before = number(alloc, "before", 0, MOST_BEFORE)
-        .default_value("0")
-        .help(BEFORE_HELP);
-    console.arg(spares)?.arg(escape(alloc))?.arg(before)
-}
-
 // The command with its options for the link and the disks.
 fn with_link_and_disks<'a>(
     alloc: Global,
@@ -296,18 +264,6 @@ fn with_link_and_disks<'a>(
         .arg(link(alloc, lists))?
         .arg(images(alloc, lists))?
         .arg(saved(alloc, lists))
-}
-
-fn reads<'a>(alloc: Global, lists: Lists) -> Arg<'a>
-    ensures { lists ≡ Lists.Whole → IsOption (by_default (codes "logged") (text_option (codes "reads"))) result }
-{
-    let reads = text(alloc, "reads", "HOW")
-        .default_value("logged")
-        .help(READS_HELP);
-    match lists {
-        Lists::Whole => reads,
-        Lists::Cut => reads.value_parser(ValueParser::Names(READS)),
-    }
 }
 
 fn role<'a>(alloc: Global, lists: Lists) -> Arg<'a>

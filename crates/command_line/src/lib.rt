@@ -3,12 +3,12 @@
 
 mod commands;
 mod console_order;
-mod hosts_order;
+mod host_order;
 mod lists;
 mod live_order;
 mod options;
 
 pub use console_order::ConsoleOrder;
-pub use hosts_order::{HostOrder, HostRole, HostsOrder};
+pub use host_order::{HostOrder, HostRole};
 pub use live_order::{Asker, LiveOrder};
 pub use options::{Request, request_of};

@@ -3,9 +3,9 @@ ghost use Rattle.std.specs.Prelude.{◌≡◌, IfOk, bytes_eq, codes, map, optio
 ghost use Rattle.std.specs.List.{list_any};
 ghost use Rattle.clap.specs.ValueTests.{is_unsigned_in};
 ghost use Rattle.clap.specs.Words.{first_of, found_of, rows_of};
-ghost use Rattle.command_line.specs.Lists.{are_among, are_turns, is_among, lists_hold, pieces_in, pieces_of, readings, roles};
+ghost use Rattle.command_line.specs.Lists.{are_among, are_turns, is_among, lists_hold, pieces_in, pieces_of, roles};
 
-use crate::commands::{ASKERS, DRIVES, FATES, MOST_TURNS, READS, ROLES};
+use crate::commands::{ASKERS, DRIVES, FATES, MOST_TURNS, ROLES};
 use clap::ArgMatches;
 use std::alloc::{AllocError, Global};
 
@@ -18,7 +18,7 @@ pub(crate) fn lists_hold(alloc: Global, found: &ArgMatches<'_>) -> Result<bool, 
     let saved = are_among(pieces_in(alloc, found, "saved")?.as_slice(), DRIVES);
     let next = are_among(pieces_in(alloc, found, "next")?.as_slice(), ASKERS);
     let next_at = are_turns(pieces_in(alloc, found, "next-at")?.as_slice());
-    Ok(link && images && saved && next && next_at && reads_hold(found) && role_holds(found))
+    Ok(link && images && saved && next && next_at && role_holds(found))
 }
 
 /// The pieces of the list that an option was given; none if it was not.
@@ -94,16 +94,6 @@ fn is_turn(word: &str) -> bool
     match word.parse::<u64>() {
         Ok(turn) => turn <= MOST_TURNS,
         Err(_) => false,
-    }
-}
-
-// Whether what the log is to have of a sector is one of the two names, if it is said.
-fn reads_hold(found: &ArgMatches<'_>) -> bool
-    ensures { result ≡ is_among readings (rows_of (found_of found.now)) (codes "reads") }
-{
-    match given_in(found, "reads") {
-        Some(reads) => READS.contains(&reads),
-        None => true,
     }
 }
 

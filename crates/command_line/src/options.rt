@@ -4,17 +4,16 @@ ghost use Rattle.clap.specs.Words.{HasKind, fault_of, found_of, kind_of, one_of,
 ghost use Rattle.command_ending.specs.Statuses.{is_of_command_line};
 ghost use Rattle.command_line.specs.Commands.{pair_app};
 ghost use Rattle.command_line.specs.Lists.{pieces_in};
-ghost use Rattle.command_line.specs.Orders.{AreTurns, Asks, AsksHelp, HasFound, IsAsked, IsConsoleOrdered, IsFlag, IsGiven, IsGivenOr, IsHostOrdered, IsHostsOrdered, IsOrdered, IsRefused, command_word, asker_of, drive_of, drives_in, fate_of, reads_of, role_of, text_given};
+ghost use Rattle.command_line.specs.Orders.{AreTurns, Asks, AsksHelp, HasFound, IsAsked, IsConsoleOrdered, IsFlag, IsGiven, IsGivenOr, IsHostOrdered, IsOrdered, IsRefused, command_word, asker_of, drive_of, drives_in, fate_of, role_of, text_given};
 
 use crate::commands::{Lists, pair_command};
 use crate::console_order::ConsoleOrder;
-use crate::hosts_order::{HostOrder, HostRole, HostsOrder};
+use crate::host_order::{HostOrder, HostRole};
 use crate::lists::{given_in, lists_hold, pieces_in};
 use crate::live_order::{Asker, LiveOrder};
 use clap::error::ErrorKind;
 use clap::{ArgMatches, Error};
 use command_ending::Failure;
-use guest_lockstep::Reads;
 use pair_threads::Fate;
 use std::alloc::{AllocError, Global};
 
@@ -31,12 +30,10 @@ pub enum Request {
     Lint,
     /// To run a pair on threads.
     Live(LiveOrder),
-    /// To run a pair that one sits at.
+    /// To run the outside of a pair that one sits at: its terminals, its disk and its arbiter.
     Console(ConsoleOrder),
     /// To run one host of a pair, over standard input and standard output.
     Host(HostOrder),
-    /// To run the outside of a pair whose hosts are processes.
-    Hosts(HostsOrder),
     /// To answer lines as they come.
     Shell,
     /// To print this text, which says what there is to ask for; it ends with a line end.
@@ -48,9 +45,6 @@ const UNTOLD: &str = "error: a command line that asks for nothing\n";
 
 // How many turns there are if the command line does not say.
 const TURNS: u64 = 1_000_000;
-
-// How many spare hosts a console has if the command line does not say.
-const SPARES: u64 = 2;
 
 // The key that opens a command line if it does not say: Ctrl-E.
 const ESCAPE: u8 = 5;
@@ -165,7 +159,6 @@ fn request_named(
         "live" => Ok(Request::Live(live_order(alloc, found, images)?)),
         "console" => Ok(Request::Console(console_order(alloc, found, images)?)),
         "host" => Ok(Request::Host(host_order(found, images))),
-        "hosts" => Ok(Request::Hosts(hosts_order(alloc, found, images)?)),
         _ => Ok(Request::Script(images)),
     }
 }
@@ -220,36 +213,6 @@ fn live_order(
     })
 }
 
-// What the words after `console` say.
-#[tactic(auto, using(crate::proofs::Orders::given_or))]
-fn console_order(
-    alloc: Global,
-    matches: &ArgMatches<'_>,
-    images: Vec<u8>,
-) -> Result<ConsoleOrder, AllocError>
-    ensures { IfOk result (λ order. IsConsoleOrdered (rows_of (found_of matches.now)) images.items order) }
-{
-    let spares = number(matches, "spares").unwrap_or(SPARES);
-    let escape = byte(matches, "escape").unwrap_or(ESCAPE);
-    let before = number(matches, "before").unwrap_or(0);
-    let link = link_in(alloc, matches)?;
-    let saved = saved_in(alloc, matches)?;
-    let reads = reads_in(matches);
-    let mark = text(alloc, matches, "mark")?;
-    let apart = flag(matches, "apart");
-    Ok(ConsoleOrder {
-        spares,
-        escape,
-        before,
-        link,
-        reads,
-        images,
-        saved,
-        mark,
-        apart,
-    })
-}
-
 // What the words after `host` say.
 #[tactic(auto, using(crate::proofs::Orders::given_or))]
 fn host_order(matches: &ArgMatches<'_>, images: Vec<u8>) -> HostOrder
@@ -277,14 +240,14 @@ fn role_of(word: &str) -> HostRole
     }
 }
 
-// What the words after `hosts` say.
+// What the words after `console` say.
 #[tactic(auto, using(crate::proofs::Orders::given_or))]
-fn hosts_order(
+fn console_order(
     alloc: Global,
     matches: &ArgMatches<'_>,
     images: Vec<u8>,
-) -> Result<HostsOrder, AllocError>
-    ensures { IfOk result (λ order. IsHostsOrdered (rows_of (found_of matches.now)) images.items order) }
+) -> Result<ConsoleOrder, AllocError>
+    ensures { IfOk result (λ order. IsConsoleOrdered (rows_of (found_of matches.now)) images.items order) }
 {
     let folder = text(alloc, matches, "folder")?;
     let places = number(matches, "places").unwrap_or(PLACES);
@@ -293,7 +256,7 @@ fn hosts_order(
     let saved = saved_in(alloc, matches)?;
     let mark = text(alloc, matches, "mark")?;
     let apart = flag(matches, "apart");
-    Ok(HostsOrder {
+    Ok(ConsoleOrder {
         folder,
         places,
         escape,
@@ -333,23 +296,6 @@ fn text(alloc: Global, matches: &ArgMatches<'_>, option: &str) -> Result<String,
     match given_in(matches, option) {
         Some(text) => String::from_str(alloc, text),
         None => Ok(String::new(alloc)),
-    }
-}
-
-// What the log has of a sector: `logged` if the option was not given.
-fn reads_in(matches: &ArgMatches<'_>) -> Reads
-    ensures { result ≡ reads_of (text_given (rows_of (found_of matches.now)) (codes "reads")) }
-{
-    reads_of(given_in(matches, "reads").unwrap_or(""))
-}
-
-// What the log has of a sector, by its name.
-fn reads_of(word: &str) -> Reads
-    ensures { result ≡ reads_of word.now }
-{
-    match word {
-        "shared" => Reads::Shared,
-        _ => Reads::Logged,
     }
 }
 

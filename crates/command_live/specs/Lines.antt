@@ -99,6 +99,7 @@ line_text (Line.Won host replay) = won_text host replay
 line_text (Line.Copies host) = copies_text host
 line_text (Line.Lost host) = codes "host " ++ (decimal host ++ codes " has failed before it had the machine")
 line_text (Line.CutOff host) = codes "host " ++ (decimal host ++ codes " is cut off: it has sent what no host sends")
+line_text (Line.Flooded host) = codes "host " ++ (decimal host ++ codes " is cut off: it has sent too much")
 line_text (Line.Begins generation primary backup) = begins_text generation primary backup
 line_text (Line.Alone host) = codes "no spare host is left; host "
     ++ (decimal host ++ codes " goes on without a backup until `spare` brings one")

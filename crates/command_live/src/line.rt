@@ -35,6 +35,10 @@ pub enum Line {
     CutOff {
         host: u32,
     },
+    /// This one is cut off, since it has sent more than any host does.
+    Flooded {
+        host: u32,
+    },
     /// Two hosts have the machine.
     Begins {
         generation: u32,
@@ -107,6 +111,9 @@ impl fmt::Display for Line {
                     host,
                     " is cut off: it has sent what no host sends",
                 )
+            }
+            Line::Flooded { host } => {
+                write_host(f, "host ", host, " is cut off: it has sent too much")
             }
             Line::Begins {
                 generation,

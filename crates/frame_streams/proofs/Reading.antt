@@ -17,7 +17,7 @@ streams_both [] ys = refl
 streams_both (x ∷ xs) ys =
     ap (λ l. framed x ++ l) (streams_both xs ys) ∙ sym (append_assoc (framed x) (stream_of xs) (stream_of ys))
 
-contents_both : (xs ys : List (Vec ℕ)) → contents_of (xs ++ ys) ≡ contents_of xs ++ contents_of ys
+pub contents_both : (xs ys : List (Vec ℕ)) → contents_of (xs ++ ys) ≡ contents_of xs ++ contents_of ys
 contents_both [] ys = refl
 contents_both (x ∷ xs) ys = ap (λ l. x.items ∷ l) (contents_both xs ys)
 

@@ -1,8 +1,14 @@
 //! The threads at the two ends of a stream of frames: one reads frames and hands them on, one writes those that it is given.
 #![tactic(auto)]
 
+mod failures;
+mod read_thread;
 mod reader;
+mod write_thread;
 mod writer;
 
+pub use failures::{Deserted, ReadFailed, Unwritten, WriteFailed};
+pub use read_thread::{ReadEnd, ReadStream, Reading, ReadsAll, end_reading, start_reading};
 pub use reader::{FrameReader, StreamEnd, read_frames};
+pub use write_thread::{WritesAll, Writing, WrittenStream, end_writing, start_writing};
 pub use writer::{FrameWriter, write_frames};

@@ -1,15 +1,17 @@
 //! The thread that reads frames from a stream.
-ghost use Rattle.std.specs.Prelude.{◌≡◌, ◌<◌, ◌≤◌, ◌++◌, None, Some, IsTrue, length, take};
+ghost use Rattle.std.specs.Prelude.{◌≡◌, ◌<◌, ◌≤◌, ◌++◌, None, Some, OnOk, length, take};
 ghost use Rattle.std.specs.Io.KnownBytes.{Consumes};
 ghost use Rattle.rtrb.specs.Ring.{ProducerLooked, known_free};
 ghost use Rattle.host_frames.specs.Stream.{IsPartial};
 ghost use Rattle.frame_streams.specs.Reading.{HandsNext, Reads, end_of};
 
+use crate::failures::{Deserted, ReadFailed, left_by_taker, read};
 use host_frames::{FrameBuffer, streams_stand_apart};
 use i8080_words::Fault;
 use rtrb::Producer;
 use std::alloc::Global;
-use std::io::{ErrorKind, Read};
+use std::io::Read;
+use std::sync::Wait;
 use std::thread::{self, Parker};
 use std::time::{Clock, Duration};
 
@@ -17,17 +19,17 @@ use std::time::{Clock, Duration};
 const PIECE_BYTES: usize = 4096;
 
 /// Why no more frames are read.
-#[derive(Debug, Clone, Copy, PartialEq, Eq)]
+#[derive(Clone, Copy)]
 pub enum StreamEnd {
     /// Whoever wrote the stream has closed it.
     Closed,
     /// A read failed.
-    Failed,
+    Failed(ReadFailed),
     /// What came is no stream of frames.
     Malformed,
     OutOfMemory,
     /// Nobody takes frames any more.
-    Abandoned,
+    Deserted(Deserted),
 }
 
 /// A stream, what has come of its next frame, and where the bodies of its frames go.
@@ -40,39 +42,39 @@ pub struct FrameReader<S> {
 
 /// Reads frames until the stream ends, fails or is none of frames, and hands their bodies on through the ring; waits while the
 /// ring is full. Wakes whoever takes them, also when it ends: the ring is dropped then, which its other end can see.
-pub fn read_frames<C: Clock, S: Read + Drop>(
-    clock: &C,
+pub fn read_frames<C: Wait + Clock, S: Read + Drop>(
+    rt: &C,
     alloc: Global,
     mut reader: FrameReader<S>,
     wake: &Parker,
 ) -> (FrameReader<S>, StreamEnd)
     ensures { Reads S.remaining (Some result.1) reader result.0 }
 {
-    let end = reader.read_all(clock, alloc, wake);
+    let end = reader.read_all(rt, alloc, wake);
     (reader, end)
 }
 
 impl<S: Read> FrameReader<S> {
     // Reads frames until there is a reason to end.
     #[tactic(auto, using(crate::proofs::Reading::none_yet, crate::proofs::Reading::and_then))]
-    fn read_all<C: Clock>(&mut self, clock: &C, alloc: Global, wake: &Parker) -> StreamEnd
+    fn read_all<C: Wait + Clock>(&mut self, rt: &C, alloc: Global, wake: &Parker) -> StreamEnd
         ensures { Reads S.remaining (Some result) self.old self.new }
     {
-        for _ in 0..u64::MAX {
-            let end = self.turn(clock, alloc, wake);
+        for _ in rt.forever() {
+            let end = self.turn(rt, alloc, wake);
             if let Some(end) = end {
                 return end;
             }
         }
-        StreamEnd::Failed
+        unreachable!()
     }
 
     // Hands on the frames that are whole, and reads a piece more.
     #[tactic(auto, using(crate::proofs::Reading::and_then))]
-    fn turn<C: Clock>(&mut self, clock: &C, alloc: Global, wake: &Parker) -> Option<StreamEnd>
+    fn turn<C: Wait + Clock>(&mut self, rt: &C, alloc: Global, wake: &Parker) -> Option<StreamEnd>
         ensures { Reads S.remaining result self.old self.new }
     {
-        let end = self.hand_on(clock, alloc, wake);
+        let end = self.hand_on(rt, alloc, wake);
         if end.is_some() {
             return end;
         }
@@ -81,32 +83,37 @@ impl<S: Read> FrameReader<S> {
 
     // Hands on the frames that are whole.
     #[tactic(auto, using(crate::proofs::Reading::none_yet, crate::proofs::Reading::and_then))]
-    fn hand_on<C: Clock>(&mut self, clock: &C, alloc: Global, wake: &Parker) -> Option<StreamEnd>
+    fn hand_on<C: Wait + Clock>(
+        &mut self,
+        rt: &C,
+        alloc: Global,
+        wake: &Parker,
+    ) -> Option<StreamEnd>
         ensures reads { Reads S.remaining result self.old self.new }
         ensures part { result ≡ None → IsPartial self.new.pending }
     {
-        for _ in 0..u64::MAX {
-            let next = self.hand_next(clock, alloc, wake);
+        for _ in rt.forever() {
+            let next = self.hand_next(rt, alloc, wake);
             match next {
                 Ok(true) => {}
                 Ok(false) => return None,
                 Err(end) => return Some(end),
             }
         }
-        Some(StreamEnd::Failed)
+        unreachable!()
     }
 
     // Hands on the next frame, if it is whole.
-    fn hand_next<C: Clock>(
+    fn hand_next<C: Wait + Clock>(
         &mut self,
-        clock: &C,
+        rt: &C,
         alloc: Global,
         wake: &Parker,
     ) -> Result<bool, StreamEnd>
         ensures { HandsNext S.remaining result self.old self.new }
     {
-        if !self.waits_for_room(clock) {
-            return Err(StreamEnd::Abandoned);
+        if let Err(deserted) = self.wait_for_room(rt) {
+            return Err(StreamEnd::Deserted(deserted));
         }
         match self.pending.next(alloc) {
             Ok(Some(body)) => {
@@ -119,23 +126,23 @@ impl<S: Read> FrameReader<S> {
         }
     }
 
-    // Waits until the ring takes one more body. Returns false if nobody takes them.
-    fn waits_for_room<C: Clock>(&mut self, clock: &C) -> bool
+    // Waits until the ring takes one more body, unless nobody takes them any more.
+    fn wait_for_room<C: Wait + Clock>(&mut self, rt: &C) -> Result<(), Deserted>
         ensures source { self.new.source ≡ self.old.source }
         ensures pending { self.new.pending ≡ self.old.pending }
         ensures looked { ProducerLooked self.old.bodies self.new.bodies }
-        ensures room { IsTrue result → 0 < known_free self.new.bodies }
+        ensures room { OnOk result (0 < known_free self.new.bodies) }
     {
-        for _ in 0..u64::MAX {
+        for _ in rt.forever() {
             if !self.bodies.is_full() {
-                return true;
+                return Ok(());
             }
-            if self.bodies.is_abandoned() {
-                return false;
+            if let Some(deserted) = left_by_taker(&mut self.bodies) {
+                return Err(deserted);
             }
-            thread::sleep(clock, Duration::from_micros(100));
+            thread::sleep(rt, Duration::from_micros(100));
         }
-        false
+        unreachable!()
     }
 
     // Reads a piece, for which there is room. A read that was interrupted is made again by the next turn.
@@ -145,14 +152,14 @@ impl<S: Read> FrameReader<S> {
     {
         streams_stand_apart();
         let mut piece = [0u8; PIECE_BYTES];
-        match self.source.read(&mut piece) {
+        match read(&mut self.source, &mut piece) {
             Ok(0) => Some(StreamEnd::Closed),
             Ok(count) => {
                 self.pending.feed(&piece[..count]);
                 None
             }
-            Err(error) if error.kind() == ErrorKind::Interrupted => None,
-            Err(_) => Some(StreamEnd::Failed),
+            Err(failed) if failed.is_interrupted() => None,
+            Err(failed) => Some(StreamEnd::Failed(failed)),
         }
     }
 }

@@ -1,11 +1,11 @@
 //! The thread that writes frames to a stream.
 ghost use Rattle.std.specs.Prelude.{◌≡◌, ◌++◌, [], Ok, false, OnOk, IfOk};
-ghost use Rattle.std.specs.Io.KnownBytes.{Appends};
-ghost use Rattle.rtrb.specs.Ring.{SameConsumer, known_items, received};
+ghost use Rattle.rtrb.specs.Ring.{IsFinishedOf, SameConsumer, all_sent, known_items, received};
 ghost use Rattle.frame_streams.specs.Writing.{Wrote};
 
-use rtrb::Consumer;
-use std::io::{self, ErrorKind, Write};
+use crate::failures::{WriteFailed, flush, put};
+use rtrb::{Consumer, Finished};
+use std::io::Write;
 use std::sync::Wait;
 use std::thread::Parker;
 use std::time::Duration;
@@ -29,7 +29,7 @@ pub fn write_frames<C: Wait, W: Write + Drop>(
     rt: &C,
     mut writer: FrameWriter<W>,
     wake: &Parker,
-) -> (FrameWriter<W>, io::Result<()>)
+) -> (FrameWriter<W>, Result<(), WriteFailed>)
     ensures wrote { OnOk result.1 (Wrote W.contents writer result.0) }
     ensures rest { OnOk result.1 (known_items result.0.frames ≡ []) }
 {
@@ -40,11 +40,11 @@ pub fn write_frames<C: Wait, W: Write + Drop>(
 impl<W: Write> FrameWriter<W> {
     // Writes what comes until no more can come.
     #[tactic(auto, using(crate::proofs::Writing::nothing_yet, crate::proofs::Writing::and_then))]
-    fn write_all<C: Wait>(&mut self, rt: &C, wake: &Parker) -> io::Result<()>
+    fn write_all<C: Wait>(&mut self, rt: &C, wake: &Parker) -> Result<(), WriteFailed>
         ensures wrote { OnOk result (Wrote W.contents self.old self.new) }
         ensures rest { OnOk result (known_items self.new.frames ≡ []) }
     {
-        for _ in 0..u64::MAX {
+        for _ in rt.forever() {
             let is_over = self.frames.is_abandoned();
             if self.write_some()? {
                 continue;
@@ -54,12 +54,12 @@ impl<W: Write> FrameWriter<W> {
             }
             wake.park_timeout(rt, Duration::from_millis(REST));
         }
-        Err(io::Error::from(ErrorKind::TimedOut))
+        unreachable!()
     }
 
     // Writes the frames that wait, up to `MOST_AT_ONCE`. Returns whether there was one.
     #[tactic(auto, using(crate::proofs::Writing::and_then, crate::proofs::Writing::flushed))]
-    fn write_some(&mut self) -> io::Result<bool>
+    fn write_some(&mut self) -> Result<bool, WriteFailed>
         ensures wrote { OnOk result (Wrote W.contents self.old self.new) }
         ensures rest { result ≡ Ok false → known_items self.new.frames ≡ [] }
     {
@@ -67,13 +67,13 @@ impl<W: Write> FrameWriter<W> {
             return Ok(false);
         }
         self.write_more()?;
-        self.sink.flush()?;
+        flush(&mut self.sink)?;
         Ok(true)
     }
 
     // Writes further frames that wait.
     #[tactic(auto, using(crate::proofs::Writing::nothing_yet, crate::proofs::Writing::and_then))]
-    fn write_more(&mut self) -> io::Result<()>
+    fn write_more(&mut self) -> Result<(), WriteFailed>
         ensures { OnOk result (Wrote W.contents self.old self.new) }
     {
         for _ in 1..MOST_AT_ONCE {
@@ -86,14 +86,29 @@ impl<W: Write> FrameWriter<W> {
 
     // Writes the next frame, if one waits.
     #[tactic(auto, using(crate::proofs::Writing::nothing_yet, crate::proofs::Writing::of_one))]
-    fn write_next(&mut self) -> io::Result<bool>
+    fn write_next(&mut self) -> Result<bool, WriteFailed>
         ensures wrote { OnOk result (Wrote W.contents self.old self.new) }
         ensures rest { result ≡ Ok false → known_items self.new.frames ≡ [] }
     {
         let Ok(frame) = self.frames.pop() else {
             return Ok(false);
         };
-        self.sink.write_all(&frame)?;
+        put(&mut self.sink, &frame)?;
         Ok(true)
+    }
+
+    // Writes all frames that are left in the ring, into which nothing more is put.
+    #[tactic(auto, using(crate::proofs::Writing::nothing_yet, crate::proofs::Writing::and_then, crate::proofs::Writing::of_one, crate::proofs::Writing::flushed))]
+    pub(crate) fn write_rest(&mut self, mut finished: Finished<Vec<u8>>) -> Result<(), WriteFailed>
+        requires { IsFinishedOf finished self.old.frames }
+        ensures wrote { OnOk result (Wrote W.contents self.old self.new) }
+        ensures all { OnOk result (received self.new.frames ≡ all_sent finished) }
+    {
+        let count = self.frames.slots_after(&mut finished);
+        for _done in 0..count {
+            let left = self.frames.pop_known();
+            put(&mut self.sink, &left)?;
+        }
+        flush(&mut self.sink)
     }
 }

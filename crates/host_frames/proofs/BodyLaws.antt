@@ -77,7 +77,7 @@ notice_tagged (Begin g h) = refl
 notice_tagged (Join g h d c) = refl
 notice_tagged (Report r) = refl
 notice_tagged (Progress h m n) = refl
-notice_tagged Tick = refl
+notice_tagged (Tick m n) = refl
 notice_tagged Stop = refl
 
 pub frame_again : (f : Said) → is_frame f ≡ true → frame_at (body_of f) ≡ Some f
@@ -134,5 +134,5 @@ body_within (Tells (Begin g h)) e = record { some = omega arith; most = omega ar
 body_within (Tells (Join g h d c)) e = record { some = omega arith; most = omega arith }
 body_within (Tells (Report r)) e = record { some = omega arith; most = omega arith }
 body_within (Tells (Progress h m n)) e = record { some = omega arith; most = omega arith }
-body_within (Tells Tick) e = record { some = omega arith; most = omega arith }
+body_within (Tells (Tick m n)) e = record { some = omega arith; most = omega arith }
 body_within (Tells Stop) e = record { some = omega arith; most = omega arith }

@@ -15,8 +15,8 @@ use Rattle.log_entry.proofs.GenerationLaws.{generation_again, generation_takes}
 use Rattle.log_entry.proofs.ReadingLaws.{IsBytes-take, not_refused}
 use Rattle.pair_events.specs.declared.reply.Role.{Role}
 use Rattle.pair_events.specs.declared.reply.Role.TheVariants.{Primary, Backup, Joining, Draining, Alone, Halted}
-use Rattle.host_frames.specs.Frames.{are_numbers, is_drives, is_generation, is_number, is_port, is_standing, role_code}
-use Rattle.host_frames.specs.Reading.{address, begin, content, drives, generation, is_role, join, key, port, port_count, progress, report, role, role_of, standing, two_numbers, word}
+use Rattle.host_frames.specs.Frames.{are_numbers, flag_code, is_drives, is_generation, is_number, is_port, is_standing, role_code}
+use Rattle.host_frames.specs.Reading.{address, begin, content, drives, flag, generation, is_role, join, key, measures, port, port_count, progress, report, role, role_of, standing, tick, two_numbers, word}
 
 -- ---- tests
 
@@ -134,6 +134,25 @@ role_spells =
     back (suc (suc (suc (suc (suc (suc zero)))))) h = refl
     back (suc (suc (suc (suc (suc (suc (suc n))))))) h = absurd (omega (arith, h))
 
+pub flag_again : (b : Bool) → Again flag b
+unfolding flag
+flag_again b = code_again (λ code. ltb code 2) flag_code (λ code. eqb code 1) back b
+  where
+    back : (b : Bool) → (ltb (flag_code b) 2 ≡ true) × (eqb (flag_code b) 1 ≡ b)
+    back true = (refl, refl)
+    back false = (refl, refl)
+
+pub flag_spells : Spells flag Anything
+unfolding flag
+flag_spells =
+    by_spells (only one (λ code. ltb code 2)) flag_code (λ code. eqb code 1)
+    (only_spells one (λ code. ltb code 2) one_spells) (λ n h. back n (ltb-true n 2 h.1)) (λ n h. tt)
+  where
+    back : (n : ℕ) → n < 2 → flag_code (eqb n 1) ≡ n
+    back zero h = refl
+    back (suc zero) h = refl
+    back (suc (suc n)) h = absurd (omega (arith, h))
+
 pub address_again : (a : SectorAddress) → Again address a
 unfolding address
 address_again a =
@@ -246,17 +265,45 @@ standing_spells : Spells standing (λ r. is_standing r.0 r.1 ≡ true)
 unfolding standing
 standing_spells = weaker (only_spells (both word role) (λ r. is_standing r.0 r.1) (both_spells word role word_spells role_spells)) (λ r h. h.1)
 
-pub report_again : (g : ℕ) (o : Option Role) (n : ℕ) (ks cs : List ℕ) → is_standing g o ≡ true → is_number n ≡ true
-    → are_numbers ks ≡ true → are_numbers cs ≡ true → Again report ((g, o), (n, (ks, cs)))
+pub tick_again : (m n : ℕ) → is_number m ≡ true → is_number n ≡ true → Again tick (m, n)
+unfolding tick
+tick_again m n e f = both_again number number m n (is_number_again m e) (is_number_again n f)
+
+pub tick_spells : Spells tick (λ r. (is_number r.0 ≡ true) × (is_number r.1 ≡ true))
+unfolding tick
+tick_spells = both_spells number number is_number_spells is_number_spells
+
+pub measures_again : (n l w t : ℕ) → is_number n ≡ true → is_number l ≡ true → is_number w ≡ true → is_number t ≡ true
+    → Again measures (n, (l, (w, t)))
+unfolding measures
+measures_again n l w t e f h k =
+    both_again number _ n (l, (w, t)) (is_number_again n e)
+    (both_again number _ l (w, t) (is_number_again l f)
+    (both_again number number w t (is_number_again w h) (is_number_again t k)))
+
+pub measures_spells : Spells measures
+    (λ m. (is_number m.0 ≡ true) × ((is_number m.1.0 ≡ true) × ((is_number m.1.1.0 ≡ true) × (is_number m.1.1.1 ≡ true))))
+unfolding measures
+measures_spells =
+    both_spells number _ is_number_spells
+    (both_spells number _ is_number_spells (both_spells number number is_number_spells is_number_spells))
+
+pub report_again : (g : ℕ) (o : Option Role) (i : Bool) (m : ℕ × (ℕ × (ℕ × ℕ))) (ks cs : List ℕ) → is_standing g o ≡ true
+    → Again measures m → are_numbers ks ≡ true → are_numbers cs ≡ true → Again report ((g, o), (i, (m, (ks, cs))))
 unfolding report
-report_again g o n ks cs e f h k =
-    both_again standing _ (g, o) (n, (ks, cs)) (standing_again g o e)
-    (both_again number _ n (ks, cs) (is_number_again n f)
-    (both_again two_numbers two_numbers ks cs (two_numbers_again ks h) (two_numbers_again cs k)))
+report_again g o i m ks cs e f h k =
+    both_again standing _ (g, o) (i, (m, (ks, cs))) (standing_again g o e)
+    (both_again flag _ i (m, (ks, cs)) (flag_again i)
+    (both_again measures _ m (ks, cs) f
+    (both_again two_numbers two_numbers ks cs (two_numbers_again ks h) (two_numbers_again cs k))))
 
 pub report_spells : Spells report
-    (λ r. (is_standing r.0.0 r.0.1 ≡ true) × ((is_number r.1.0 ≡ true) × ((are_numbers r.1.1.0 ≡ true) × (are_numbers r.1.1.1 ≡ true))))
+    (λ r. (is_standing r.0.0 r.0.1 ≡ true) × (Anything r.1.0
+    × (((is_number r.1.1.0.0 ≡ true) × ((is_number r.1.1.0.1.0 ≡ true)
+    × ((is_number r.1.1.0.1.1.0 ≡ true) × (is_number r.1.1.0.1.1.1 ≡ true))))
+    × ((are_numbers r.1.1.1.0 ≡ true) × (are_numbers r.1.1.1.1 ≡ true)))))
 unfolding report
 report_spells =
     both_spells standing _ standing_spells
-    (both_spells number _ is_number_spells (both_spells two_numbers two_numbers two_numbers_spells two_numbers_spells))
+    (both_spells flag _ flag_spells
+    (both_spells measures _ measures_spells (both_spells two_numbers two_numbers two_numbers_spells two_numbers_spells)))

@@ -10,13 +10,13 @@ use Rattle.clone_state.specs.Codec.{Again, Codec, both, by, bytes, number, one, 
 use Rattle.disk_dcdd.specs.declared.address.SectorAddress.{SectorAddress}
 use Rattle.log_entry.specs.Numbers.{◌>>=◌, IsBytes}
 use Rattle.log_entry.proofs.ReadingLaws.{admitted, first_read}
-use Rattle.host_frames.specs.Frames.{are_numbers, is_drives, is_generation, is_notice, is_number, is_port, is_standing, is_transfer, notice_body, transfer_body}
-use Rattle.host_frames.specs.Reading.{address, begin, content, drives, generation, join, key, kind, notice_at, only_tag, port, port_count, progress, read_with, report, report_with, role, standing, transfer_at, two_numbers, word, write_with}
+use Rattle.host_frames.specs.Frames.{are_measures, are_numbers, is_drives, is_generation, is_notice, is_number, is_port, is_standing, is_transfer, notice_body, transfer_body}
+use Rattle.host_frames.specs.Reading.{address, begin, content, drives, flag, generation, join, key, kind, measures, notice_at, only_tag, port, port_count, progress, read_with, report, report_with, role, standing, tick, transfer_at, two_numbers, word, write_with}
 use Rattle.host_frames.specs.declared.frame.Notice.{Notice}
 use Rattle.host_frames.specs.declared.frame.Notice.TheVariants.{Suspect, Won, Lost, Gone, Begin, Join, Report, Progress, Tick, Stop}
 use Rattle.host_frames.specs.declared.frame.Transfer.{Transfer}
 use Rattle.host_frames.specs.declared.frame.Transfer.TheVariants.{Byte, Key, Accepted, Write, Written, Failed, Get, Sector}
-use Rattle.host_frames.proofs.FieldLaws.{address_again, address_spells, any_byte, begin_again, begin_spells, both_are, content_again, content_spells, first_true, generation_is, generation_spells, is_number_again, is_number_spells, join_again, join_spells, key_again, key_spells, port_count_again, port_count_spells, progress_again, progress_spells, report_again, report_spells, second_true}
+use Rattle.host_frames.proofs.FieldLaws.{address_again, address_spells, any_byte, begin_again, begin_spells, both_are, content_again, content_spells, first_true, generation_is, generation_spells, is_number_again, is_number_spells, join_again, join_spells, key_again, key_spells, measures_again, port_count_again, port_count_spells, progress_again, progress_spells, report_again, report_spells, second_true, tick_again, tick_spells}
 
 -- what is in range and has this body
 abbrev pub Has : {B : Type 0} → (B → Bool) → (B → List ℕ) → ℕ → List ℕ → B → Type 0
@@ -135,7 +135,7 @@ no_notice (Sector r) = refl
 
 pub notice_takes : (tag : ℕ) (xs : List ℕ) (n : Notice) → IsBytes xs → notice_at tag xs ≡ Some n
     → Has is_notice notice_body tag xs n
-unfolding notice_at generation begin join standing report two_numbers role word drives progress both by only one number bytes
+unfolding notice_at generation begin join standing report measures two_numbers tick role flag word drives progress both by only one number bytes
 notice_takes tag xs n all e =
     let goal : ℕ → Type 0 = λ j. Has is_notice notice_body j xs n in
     by_tag tag 0x55 n goal e
@@ -155,18 +155,26 @@ notice_takes tag xs n all e =
     (λ r. refl) xs n all) (λ e.
     by_tag tag 0x45 n goal e
     (kind_takes is_notice notice_body 0x45 report report_spells (λ r. Report (report_with r))
-    (λ r h. both_are (is_standing r.0.0 r.0.1) (is_number r.1.0 && (are_numbers r.1.1.0 && are_numbers r.1.1.1)) h.0
-    (both_are (is_number r.1.0) (are_numbers r.1.1.0 && are_numbers r.1.1.1) h.1.0
-    (both_are (are_numbers r.1.1.0) (are_numbers r.1.1.1) h.1.1.0 h.1.1.1)))
+    (λ r h. both_are (is_standing r.0.0 r.0.1)
+    ((is_number r.1.1.0.0 && (is_number r.1.1.0.1.0 && (is_number r.1.1.0.1.1.0 && is_number r.1.1.0.1.1.1)))
+    && (are_numbers r.1.1.1.0 && are_numbers r.1.1.1.1)) h.0
+    (both_are (is_number r.1.1.0.0 && (is_number r.1.1.0.1.0 && (is_number r.1.1.0.1.1.0 && is_number r.1.1.0.1.1.1)))
+    (are_numbers r.1.1.1.0 && are_numbers r.1.1.1.1)
+    (both_are (is_number r.1.1.0.0) (is_number r.1.1.0.1.0 && (is_number r.1.1.0.1.1.0 && is_number r.1.1.0.1.1.1)) h.1.1.0.0
+    (both_are (is_number r.1.1.0.1.0) (is_number r.1.1.0.1.1.0 && is_number r.1.1.0.1.1.1) h.1.1.0.1.0
+    (both_are (is_number r.1.1.0.1.1.0) (is_number r.1.1.0.1.1.1) h.1.1.0.1.1.0 h.1.1.0.1.1.1)))
+    (both_are (are_numbers r.1.1.1.0) (are_numbers r.1.1.1.1) h.1.1.1.0 h.1.1.1.1)))
     (λ r. refl) xs n all) (λ e.
     by_tag tag 0x52 n goal e
     (kind_takes is_notice notice_body 0x52 progress progress_spells (λ r. Progress r.0 r.1.0 r.1.1)
     (λ r h. both_are (is_number r.1.0) (is_number r.1.1) h.1.0 h.1.1) (λ r. refl) xs n all) (λ e.
-    by_tag tag 0x54 n goal e (tag_takes 0x54 Tick refl refl xs n) (λ e.
+    by_tag tag 0x54 n goal e
+    (kind_takes is_notice notice_body 0x54 tick tick_spells (λ r. Tick r.0 r.1)
+    (λ r h. both_are (is_number r.0) (is_number r.1) h.0 h.1) (λ r. refl) xs n all) (λ e.
     by_tag tag 0x5A n goal e (tag_takes 0x5A Stop refl refl xs n) (λ e. absurd (none-some n e)))))))))))
 
 pub notice_again : (n : Notice) → is_notice n ≡ true → read_notice (notice_body n) ≡ Some n
-unfolding notice_at generation begin join standing report two_numbers role word drives progress both by only one number bytes
+unfolding notice_at generation begin join standing report measures two_numbers tick role flag word drives progress both by only one number bytes
 notice_again (Suspect g) e = kind_again generation (λ n. Suspect n) g (generation_is g e)
 notice_again (Won g) e = kind_again generation (λ n. Won n) g (generation_is g e)
 notice_again (Lost g) e = kind_again generation (λ n. Lost n) g (generation_is g e)
@@ -179,15 +187,25 @@ notice_again (Join g h d c) e =
     (first_true (is_drives d) (is_number c) rest) (second_true (is_drives d) (is_number c) rest))
 notice_again (Report r) e =
     let keys = are_numbers r.taken && are_numbers r.covered in
-    let rest = second_true (is_standing r.generation r.role) (is_number r.count && keys) e in
-    let last = second_true (is_number r.count) keys rest in
-    kind_again report (λ r. Report (report_with r)) ((r.generation, r.role), (r.count, (r.taken, r.covered)))
-    (report_again r.generation r.role r.count r.taken r.covered
-    (first_true (is_standing r.generation r.role) (is_number r.count && keys) e) (first_true (is_number r.count) keys rest)
-    (first_true (are_numbers r.taken) (are_numbers r.covered) last)
-    (second_true (are_numbers r.taken) (are_numbers r.covered) last))
+    let last = is_number r.writes && is_number r.tick in
+    let rest = second_true (is_standing r.generation r.role) (are_measures r && keys) e in
+    let measured = first_true (are_measures r) keys rest in
+    let told = second_true (are_measures r) keys rest in
+    let behind = second_true (is_number r.count) (is_number r.lag && last) measured in
+    let waits = second_true (is_number r.lag) last behind in
+    kind_again report (λ r. Report (report_with r))
+    ((r.generation, r.role), (r.is_idle, ((r.count, (r.lag, (r.writes, r.tick))), (r.taken, r.covered))))
+    (report_again r.generation r.role r.is_idle (r.count, (r.lag, (r.writes, r.tick))) r.taken r.covered
+    (first_true (is_standing r.generation r.role) (are_measures r && keys) e)
+    (measures_again r.count r.lag r.writes r.tick (first_true (is_number r.count) (is_number r.lag && last) measured)
+    (first_true (is_number r.lag) last behind) (first_true (is_number r.writes) (is_number r.tick) waits)
+    (second_true (is_number r.writes) (is_number r.tick) waits))
+    (first_true (are_numbers r.taken) (are_numbers r.covered) told)
+    (second_true (are_numbers r.taken) (are_numbers r.covered) told))
 notice_again (Progress h m n) e =
     kind_again progress (λ r. Progress r.0 r.1.0 r.1.1) (h, (m, n))
     (progress_again h m n (first_true (is_number m) (is_number n) e) (second_true (is_number m) (is_number n) e))
-notice_again Tick e = refl
+notice_again (Tick m n) e =
+    kind_again tick (λ r. Tick r.0 r.1) (m, n)
+    (tick_again m n (first_true (is_number m) (is_number n) e) (second_true (is_number m) (is_number n) e))
 notice_again Stop e = refl

@@ -10,6 +10,7 @@ use Rattle.host_frames.specs.declared.frame.Frame.{Frame}
 use Rattle.host_frames.specs.declared.frame.Frame.TheVariants as frame
 use Rattle.host_frames.specs.declared.frame.Notice.{Notice}
 use Rattle.host_frames.specs.declared.frame.Notice.TheVariants.{Suspect, Won, Lost, Gone, Begin, Join, Report, Progress, Tick, Stop}
+use Rattle.host_frames.specs.declared.frame.Report as host
 use Rattle.host_frames.specs.declared.frame.Transfer.{Transfer}
 use Rattle.host_frames.specs.declared.frame.Transfer.TheVariants.{Byte, Key, Accepted, Write, Written, Failed, Get, Sector}
 
@@ -36,9 +37,16 @@ role_code (Some Draining) = 4
 role_code (Some Alone) = 5
 role_code (Some Halted) = 6
 
+abbrev pub flag_code : Bool → ℕ
+flag_code flag = if flag then 1 else 0
+
 -- a number for each port
 abbrev pub of_ports : List ℕ → List ℕ
 of_ports numbers = big_bytes 8 (slice_index numbers 0) ++ big_bytes 8 (slice_index numbers 1)
+
+-- how far the machine of a host is, and what waits
+abbrev pub measures_of : host.Report → List ℕ
+measures_of r = big_bytes 8 r.count ++ (big_bytes 8 r.lag ++ (big_bytes 8 r.writes ++ big_bytes 8 r.tick))
 
 abbrev pub transfer_body : Transfer → List ℕ
 transfer_body (Byte port number byte) = 0x42 ∷ port ∷ byte ∷ big_bytes 8 number
@@ -60,9 +68,9 @@ notice_body (Join generation host drives count) =
     0x4A ∷ big_bytes 4 generation ++ (host ∷ drives ∷ big_bytes 8 count)
 notice_body (Report r) =
     0x45 ∷ big_bytes 4 r.generation
-    ++ (role_code r.role ∷ big_bytes 8 r.count ++ (of_ports r.taken ++ of_ports r.covered))
+    ++ (role_code r.role ∷ flag_code r.is_idle ∷ measures_of r ++ (of_ports r.taken ++ of_ports r.covered))
 notice_body (Progress host entries count) = 0x52 ∷ host ∷ big_bytes 8 entries ++ big_bytes 8 count
-notice_body Tick = 0x54 ∷ []
+notice_body (Tick number speed) = 0x54 ∷ big_bytes 8 number ++ big_bytes 8 speed
 notice_body Stop = 0x5A ∷ []
 
 abbrev pub body_of : Said → List ℕ
@@ -99,6 +107,9 @@ is_standing generation (Some role) = is_generation generation
 abbrev pub are_numbers : List ℕ → Bool
 are_numbers numbers = length numbers == 2 && (is_number (slice_index numbers 0) && is_number (slice_index numbers 1))
 
+abbrev pub are_measures : host.Report → Bool
+are_measures r = is_number r.count && (is_number r.lag && (is_number r.writes && is_number r.tick))
+
 abbrev pub is_transfer : Transfer → Bool
 is_transfer (Byte port number byte) = is_port port && is_number number
 is_transfer (Key port index byte) = is_port port && is_number index
@@ -117,9 +128,10 @@ is_notice (Gone host) = true
 is_notice (Begin generation host) = is_generation generation
 is_notice (Join generation host drives count) = is_generation generation && (is_drives drives && is_number count)
 is_notice (Report r) =
-    is_standing r.generation r.role && (is_number r.count && (are_numbers r.taken && are_numbers r.covered))
+    is_standing r.generation r.role
+    && (are_measures r && (are_numbers r.taken && are_numbers r.covered))
 is_notice (Progress host entries count) = is_number entries && is_number count
-is_notice Tick = true
+is_notice (Tick number speed) = is_number number && is_number speed
 is_notice Stop = true
 
 -- a body has at most 4,092 bytes

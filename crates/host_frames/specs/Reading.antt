@@ -9,7 +9,7 @@ use Rattle.log_entry.specs.Numbers.{◌>>=◌, generation_from}
 use Rattle.pair_events.specs.declared.reply.Role.{Role}
 use Rattle.pair_events.specs.declared.reply.Role.TheVariants.{Primary, Backup, Joining, Draining, Alone, Halted}
 use Rattle.shared_disk.specs.declared.disk.SectorRead.{SectorRead}
-use Rattle.host_frames.specs.Frames.{Said, Packet, Transfers, Tells, is_drives, is_port, is_standing, role_code}
+use Rattle.host_frames.specs.Frames.{Said, Packet, Transfers, Tells, flag_code, is_drives, is_port, is_standing, role_code}
 use Rattle.host_frames.specs.declared.frame.Notice.{Notice}
 use Rattle.host_frames.specs.declared.frame.Notice.TheVariants.{Suspect, Won, Lost, Gone, Begin, Join, Report, Progress, Tick, Stop}
 use Rattle.host_frames.specs.declared.frame.Report as host
@@ -50,6 +50,9 @@ is_role code = nat_lt code 7
 unfoldable pub role : Codec (Option Role)
 role = by (only one is_role) role_code role_of
 
+unfoldable pub flag : Codec Bool
+flag = by (only one (λ code. nat_lt code 2)) flag_code (λ code. code == 1)
+
 unfoldable pub address : Codec SectorAddress
 address = by (both one (both one one)) (λ a. (a.drive, (a.track, a.sector)))
     (λ r. record { drive = r.0; track = r.1.0; sector = r.1.1 })
@@ -77,8 +80,14 @@ join = both generation (both one (both drives number))
 unfoldable pub standing : Codec (ℕ × Option Role)
 standing = only (both word role) (λ r. is_standing r.0 r.1)
 
-unfoldable pub report : Codec ((ℕ × Option Role) × (ℕ × (List ℕ × List ℕ)))
-report = both standing (both number (both two_numbers two_numbers))
+unfoldable pub measures : Codec (ℕ × (ℕ × (ℕ × ℕ)))
+measures = both number (both number (both number number))
+
+unfoldable pub report : Codec ((ℕ × Option Role) × (Bool × ((ℕ × (ℕ × (ℕ × ℕ))) × (List ℕ × List ℕ))))
+report = both standing (both flag (both measures (both two_numbers two_numbers)))
+
+unfoldable pub tick : Codec (ℕ × ℕ)
+tick = both number number
 
 unfoldable pub progress : Codec (ℕ × (ℕ × ℕ))
 progress = both one (both number number)
@@ -99,8 +108,18 @@ write_with r = record { number = r.1.0; drive = r.0.drive; track = r.0.track; se
 abbrev pub read_with : SectorAddress × (ℕ × List ℕ) → SectorRead
 read_with r = record { number = r.1.0; drive = r.0.drive; track = r.0.track; sector = r.0.sector; bytes = r.1.1 }
 
-abbrev pub report_with : (ℕ × Option Role) × (ℕ × (List ℕ × List ℕ)) → host.Report
-report_with r = record { generation = r.0.0; role = r.0.1; count = r.1.0; taken = r.1.1.0; covered = r.1.1.1 }
+abbrev pub report_with : (ℕ × Option Role) × (Bool × ((ℕ × (ℕ × (ℕ × ℕ))) × (List ℕ × List ℕ))) → host.Report
+report_with r = record {
+  generation = r.0.0;
+  role = r.0.1;
+  is_idle = r.1.0;
+  count = r.1.1.0.0;
+  lag = r.1.1.0.1.0;
+  writes = r.1.1.0.1.1.0;
+  tick = r.1.1.0.1.1.1;
+  taken = r.1.1.1.0;
+  covered = r.1.1.1.1;
+}
 
 unfoldable pub transfer_at : ℕ → List ℕ → Option Transfer
 transfer_at tag xs =
@@ -124,7 +143,7 @@ notice_at tag xs =
     else if tag == 0x4A then kind join (λ r. Join r.0 r.1.0 r.1.1.0 r.1.1.1) xs
     else if tag == 0x45 then kind report (λ r. Report (report_with r)) xs
     else if tag == 0x52 then kind progress (λ r. Progress r.0 r.1.0 r.1.1) xs
-    else if tag == 0x54 then only_tag Tick xs
+    else if tag == 0x54 then kind tick (λ r. Tick r.0 r.1) xs
     else if tag == 0x5A then only_tag Stop xs
     else None
 

@@ -147,3 +147,13 @@ pub(crate) fn progress_of(bytes: &[u8]) -> Option<(u8, u64, u64)>
     let (count, rest) = number_at(rest)?;
     rest.is_empty().then_some((*host, entries, count))
 }
+
+/// Two numbers.
+#[tactic(auto, unfolding(crate::specs::Reading::tick, clone_state::specs::Codec::both, clone_state::specs::Codec::number))]
+pub(crate) fn tick_of(bytes: &[u8]) -> Option<(u64, u64)>
+    ensures { result ≡ read_all grammar.tick bytes.now }
+{
+    let (number, rest) = number_at(bytes)?;
+    let (speed, rest) = number_at(rest)?;
+    rest.is_empty().then_some((number, speed))
+}

@@ -66,8 +66,11 @@ pub enum Notice {
         entries: u64,
         count: u64,
     },
-    /// The switch is there.
-    Tick,
+    /// The switch is there, for the so manieth time, and a guest is to make at most so many steps a second; 0 if it runs as fast as it can.
+    Tick {
+        number: u64,
+        speed: u64,
+    },
     /// The process is to end.
     Stop,
 }
@@ -79,8 +82,16 @@ pub struct Report {
     pub generation: u32,
     /// None if it is a spare.
     pub role: Option<Role>,
+    /// Whether its guest waits for a key, and nothing of it is on its way to a device.
+    pub is_idle: bool,
     /// How many steps its machine has made.
     pub count: u64,
+    /// How many it has yet to make up to where its primary said last that it is; 0 of all but a backup.
+    pub lag: u64,
+    /// How many writes of its guest are on their way to the disk.
+    pub writes: u64,
+    /// The number of the last tick that it has heard; 0 if it has heard none.
+    pub tick: u64,
     /// How many keys of each port it has taken.
     pub taken: [u64; PORTS],
     /// How many of those the terminal need not keep any longer.

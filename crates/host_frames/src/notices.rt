@@ -24,7 +24,8 @@ pub(crate) fn notice_length(notice: &Notice) -> usize
         Notice::Join { .. } => 15,
         Notice::Report(_) => REPORT_BYTES,
         Notice::Progress { .. } => 18,
-        Notice::Tick | Notice::Stop => 1,
+        Notice::Tick { .. } => 17,
+        Notice::Stop => 1,
     }
 }
 
@@ -51,7 +52,7 @@ pub(crate) fn write_notice(out: &mut Vec<u8>, notice: &Notice) -> R<()>
             entries,
             count,
         } => append(out, &progress_body(*host, *entries, *count)),
-        Notice::Tick => append(out, &[0x54]),
+        Notice::Tick { number, speed } => append(out, &tick_body(*number, *speed)),
         Notice::Stop => append(out, &[0x5a]),
     }
 }
@@ -92,6 +93,16 @@ fn join_body(generation: u32, host: u8, drives: u8, count: u64) -> [u8; 15]
     bytes[5] = host;
     bytes[6] = drives;
     bytes[7..].copy_from_slice(&spelled_number(count));
+    bytes
+}
+
+fn tick_body(number: u64, speed: u64) -> [u8; 17]
+    ensures { result ≡ notice_body (notice.Tick number speed) }
+{
+    let mut bytes = [0; 17];
+    bytes[0] = 0x54;
+    bytes[1..9].copy_from_slice(&spelled_number(number));
+    bytes[9..].copy_from_slice(&spelled_number(speed));
     bytes
 }
 

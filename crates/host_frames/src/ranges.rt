@@ -61,13 +61,22 @@ fn is_content(number: u64, bytes: &[u8; SECTOR_BYTES]) -> bool
     bytes.len() == SECTOR_BYTES && is_number(number)
 }
 
+// How far its machine is, and what waits.
+fn are_measures(report: &Report) -> bool
+    ensures { result ≡ table.are_measures report.now }
+{
+    is_number(report.count)
+        && is_number(report.lag)
+        && is_number(report.writes)
+        && is_number(report.tick)
+}
+
 fn is_report(report: &Report) -> bool
     ensures { result ≡ (table.is_standing report.now.generation report.now.role
-        && (table.is_number report.now.count
-        && (table.are_numbers report.now.taken && table.are_numbers report.now.covered))) }
+        && (table.are_measures report.now && (table.are_numbers report.now.taken && table.are_numbers report.now.covered))) }
 {
     is_standing(report.generation, report.role)
-        && is_number(report.count)
+        && are_measures(report)
         && are_numbers(report.taken)
         && are_numbers(report.covered)
 }
@@ -104,6 +113,7 @@ pub(crate) fn is_notice(notice: &Notice) -> bool
         } => is_generation(*generation) && is_drives(*drives) && is_number(*count),
         Notice::Report(report) => is_report(report),
         Notice::Progress { entries, count, .. } => is_number(*entries) && is_number(*count),
-        Notice::Gone(_) | Notice::Tick | Notice::Stop => true,
+        Notice::Tick { number, speed } => is_number(*number) && is_number(*speed),
+        Notice::Gone(_) | Notice::Stop => true,
     }
 }

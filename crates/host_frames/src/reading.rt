@@ -6,7 +6,7 @@ ghost use Rattle.host_frames.specs.Reading as grammar;
 
 use crate::fields::{
     address_of, begin_of, byte_of, content_of, generation_of, join_of, key_of, number_of,
-    port_count_of, progress_of,
+    port_count_of, progress_of, tick_of,
 };
 use crate::frame::{Frame, Notice, Transfer};
 use crate::report::report_of;
@@ -83,7 +83,10 @@ fn notice_of(tag: u8, rest: &[u8]) -> Option<Notice>
                 count,
             })
         }
-        0x54 => rest.is_empty().then_some(Notice::Tick),
+        0x54 => {
+            let (number, speed) = tick_of(rest)?;
+            Some(Notice::Tick { number, speed })
+        }
         0x5a => rest.is_empty().then_some(Notice::Stop),
         _ => None,
     }

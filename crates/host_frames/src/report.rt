@@ -15,7 +15,7 @@ use log_entry::{number_at, spelled_number};
 use pair_events::Role;
 
 // How many bytes the body of a report has.
-pub(crate) const REPORT_BYTES: usize = 46;
+pub(crate) const REPORT_BYTES: usize = 71;
 
 // The byte of a role, 0 of a spare.
 fn role_code(role: Option<Role>) -> u8
@@ -73,6 +73,26 @@ fn standing_at(bytes: &[u8]) -> Option<(u32, Option<Role>, &[u8])>
     Some((generation, role, rest))
 }
 
+// The byte of a yes or no.
+fn flag_code(flag: bool) -> u8
+    ensures { result ≡ table.flag_code flag }
+{
+    if flag { 1 } else { 0 }
+}
+
+#[tactic(auto, unfolding(crate::specs::Reading::flag, clone_state::specs::Codec::by, clone_state::specs::Codec::only, clone_state::specs::Codec::one))]
+fn flag_at(bytes: &[u8]) -> Option<(bool, &[u8])>
+    ensures { option_map (λ found. (found.0, found.1.now)) result ≡ grammar.flag.read bytes.now }
+{
+    let [code, rest @ ..] = bytes else {
+        return None;
+    };
+    if *code > 1 {
+        return None;
+    }
+    Some((*code == 1, rest))
+}
+
 #[tactic(auto, unfolding(crate::specs::Reading::two_numbers, clone_state::specs::Codec::both, clone_state::specs::Codec::by, clone_state::specs::Codec::number))]
 fn two_numbers_at(bytes: &[u8]) -> Option<([u64; PORTS], &[u8])>
     ensures { option_map (λ found. (found.0, found.1.now)) result ≡ grammar.two_numbers.read bytes.now }
@@ -82,14 +102,27 @@ fn two_numbers_at(bytes: &[u8]) -> Option<([u64; PORTS], &[u8])>
     Some(([first, second], rest))
 }
 
+#[tactic(auto, unfolding(crate::specs::Reading::measures, clone_state::specs::Codec::both, clone_state::specs::Codec::number))]
+fn measures_at(bytes: &[u8]) -> Option<(u64, u64, u64, u64, &[u8])>
+    ensures { option_map (λ found. ((found.0, (found.1, (found.2, found.3))), found.4.now)) result
+        ≡ grammar.measures.read bytes.now }
+{
+    let (count, rest) = number_at(bytes)?;
+    let (lag, rest) = number_at(rest)?;
+    let (writes, rest) = number_at(rest)?;
+    let (tick, rest) = number_at(rest)?;
+    Some((count, lag, writes, tick, rest))
+}
+
 /// What a host says of itself.
-#[tactic(auto, unfolding(crate::specs::Reading::report, clone_state::specs::Codec::both, clone_state::specs::Codec::number))]
+#[tactic(auto, unfolding(crate::specs::Reading::report, clone_state::specs::Codec::both))]
 pub(crate) fn report_of(bytes: &[u8]) -> Option<Report>
-    ensures { option_map (λ r. ((r.generation, r.role), (r.count, (r.taken, r.covered)))) result
+    ensures { option_map (λ r. ((r.generation, r.role), (r.is_idle, ((r.count, (r.lag, (r.writes, r.tick))), (r.taken, r.covered))))) result
         ≡ read_all grammar.report bytes.now }
 {
     let (generation, role, rest) = standing_at(bytes)?;
-    let (count, rest) = number_at(rest)?;
+    let (is_idle, rest) = flag_at(rest)?;
+    let (count, lag, writes, tick, rest) = measures_at(rest)?;
     let (taken, rest) = two_numbers_at(rest)?;
     let (covered, rest) = two_numbers_at(rest)?;
     if !rest.is_empty() {
@@ -98,7 +131,11 @@ pub(crate) fn report_of(bytes: &[u8]) -> Option<Report>
     Some(Report {
         generation,
         role,
+        is_idle,
         count,
+        lag,
+        writes,
+        tick,
         taken,
         covered,
     })
@@ -123,8 +160,12 @@ pub(crate) fn report_body(report: &Report) -> [u8; REPORT_BYTES]
     bytes[0] = 0x45;
     BigEndian::write_u32(&mut bytes[1..5], report.generation);
     bytes[5] = role_code(report.role);
-    bytes[6..14].copy_from_slice(&spelled_number(report.count));
-    bytes[14..30].copy_from_slice(&port_numbers(report.taken));
-    bytes[30..].copy_from_slice(&port_numbers(report.covered));
+    bytes[6] = flag_code(report.is_idle);
+    bytes[7..15].copy_from_slice(&spelled_number(report.count));
+    bytes[15..23].copy_from_slice(&spelled_number(report.lag));
+    bytes[23..31].copy_from_slice(&spelled_number(report.writes));
+    bytes[31..39].copy_from_slice(&spelled_number(report.tick));
+    bytes[39..55].copy_from_slice(&port_numbers(report.taken));
+    bytes[55..].copy_from_slice(&port_numbers(report.covered));
     bytes
 }

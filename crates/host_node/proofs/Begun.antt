@@ -77,6 +77,7 @@ module _ {B S : Type 0} {H : Type 0} (state : B → S) (M : Machine S) (copied :
         stays = λ joined. (subst (λ h. HasJoined h) (sym is) tt, same.number);
         joins = λ joined. inl (subst (λ h. HasJoined h) (sym was) tt);
         drives = same.drives;
+        rings = same.rings;
         runs = λ C me copies numbered x hosted frames brought.
             (let drives = old.drives in
             let h = subst (λ h. HasNode state M C drives old.number me h x) was hosted in
@@ -132,6 +133,7 @@ module _ {B S : Type 0} {H : Type 0} (state : B → S) (M : Machine S) (copied :
           (subst (λ c. IsFrom c (Tells (notice.Join generation place old.drives count))) (sym (ap (λ p. p.came) mail)) from);
     });
     drives = drives;
+    rings = ap (λ p. p.rings) mail;
     runs = λ C me copies numbered x hosted frames brought.
         (let spare = subst (λ h. HasNode state M C old.drives old.number me h x) was hosted in
         let mine = sym number ∙ numbered (subst (λ h. HasJoined h) (sym is) tt) in

@@ -81,6 +81,7 @@ module _ {B S : Type 0} {H : Type 0} (state : B → S) (M : Machine S) (copied :
     stays = λ joined. (subst (λ n. HasJoined n) (sym node) joined, number.number);
     joins = λ joined. inl (subst (λ n. HasJoined n) node joined);
     drives = number.drives;
+    rings = number.rings;
     runs = λ C me copies is x hosted frames brought. record {
       y = x;
       ran = ran_none M C old.drives me x frames;

@@ -1,6 +1,7 @@
 pub mod Roles
 pub mod Going
 pub mod Keeping
+pub mod Staying
 pub mod Calling
 pub mod Stepping
 pub mod Taking

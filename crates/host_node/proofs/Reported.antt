@@ -30,6 +30,7 @@ use Rattle.host_node.specs.Reports.{HasCovered, IsCovered, Reports, covered_by}
 use Rattle.host_node.specs.declared.host.HostNode.{HostNode}
 use Rattle.host_node.specs.declared.host.Hosted.{Hosted}
 use Rattle.host_node.specs.declared.host.Hosted.TheVariants as hosted
+use Rattle.host_node.specs.declared.reporting.Known.{Known}
 use Rattle.i8080_words.specs.declared.refusal.Fault.{Fault}
 use Rattle.pair_protocol.specs.Copying.{Copying}
 use Rattle.pair_protocol.specs.Node.{Node, Spare}
@@ -82,6 +83,7 @@ module _ {B S : Type 0} {H : Type 0} (state : B → S) (M : Machine S) (copied :
     stays = λ joined. (subst (λ h. HasJoined h) (sym is) joined, same.number);
     joins = λ joined. inl (subst (λ h. HasJoined h) (sym was) tt);
     drives = same.drives;
+    rings = same.rings;
     runs = λ C me copies numbered x hosted frames brought.
         (let h = subst (λ h. HasNode state M C old.drives old.number me h x) was hosted in
         let y = h.1.y in
@@ -137,8 +139,8 @@ module _ {B S : Type 0} {H : Type 0} (state : B → S) (M : Machine S) (copied :
   reports_of hosted.Halted old new report was is same came went first second =
       reports_none old new report is same came went first second
 
-  pub reports : (old new : HostNode B H) (report : Report) → new.node ≡ old.node → SameHost old new
+  pub reports : (known : Known) (old new : HostNode B H) (report : Report) → new.node ≡ old.node → SameHost old new
       → new.mail.came ≡ old.mail.came → HasSaid (Tells (notice.Report report)) old.mail.gone new.mail.gone
-      → Reports state M old.number old.node report → Goes state M copied old new
-  reports old new report is same came went says =
+      → Reports state M known old.number old.node report → Goes state M copied old new
+  reports known old new report is same came went says =
       reports_of old.node old new report refl is same came went says.first says.second

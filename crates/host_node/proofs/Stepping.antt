@@ -86,6 +86,7 @@ module _ {B S : Type 0} {H : Type 0} (state : B → S) (M : Machine S) (copied :
     stays = λ joined. (subst (λ h. HasJoined h) (sym is) tt, number.number);
     joins = λ joined. inl (subst (λ h. HasJoined h) (sym was) tt);
     drives = number.drives;
+    rings = number.rings;
     runs = λ C me copies numbered x hosted frames brought.
         (let drives = old.drives in
         let h = subst (λ h. HasNode state M C drives old.number me h x) was hosted in

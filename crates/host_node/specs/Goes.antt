@@ -50,7 +50,7 @@ pub record IsAsked (came : List (List ℕ)) (number : ℕ) : Type 0 where
 
 -- One move of a host: bodies came, and then frames went, and whatever node of the law the host has, this node has made a run
 -- that leads to the one that it has then. It holds of whatever list of frames has what the bodies mean that ever came, and of
--- the number that the host has then. A spare gets its number from a body that came, and keeps it.
+-- the number that the host has then. A spare gets its number from a body that came, and keeps it. The mail stays at its rings.
 pub record Moves {B S : Type 0} {H : Type 0} (state : B → S) (M : Machine S) (copied : B → Guest) (old new : HostNode B H)
     : Type 0 where
   pub heard : List (List ℕ)
@@ -60,6 +60,7 @@ pub record Moves {B S : Type 0} {H : Type 0} (state : B → S) (M : Machine S) (
   pub stays : HasJoined old.node → HasJoined new.node × (new.number ≡ old.number)
   pub joins : HasJoined new.node → HasJoined old.node ⊎ IsAsked new.mail.came new.number
   pub drives : new.drives ≡ old.drives
+  pub rings : new.mail.rings ≡ old.mail.rings
   pub runs : (C : Copying S) (me : ℕ) → CopiesAs state copied old.drives C.parts C.part_count C.assemble →
       IsNumber me new → (x : Node S) → IsHosted state M C old.drives me old x → (frames : List Frame) →
       AllBring old.drives me new.mail.came frames → RunsTo state M C old.drives me x frames said new

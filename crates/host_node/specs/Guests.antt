@@ -6,7 +6,7 @@ use Rattle.host_node.specs.Looks.{HasGuest}
 use Rattle.host_node.specs.declared.host.Hosted.{Hosted}
 use Rattle.std.specs.List.{find}
 use Rattle.std.specs.Option.{option_map, option_map_or}
-use Rattle.std.specs.Prelude.{◌≡◌, ℕ, nat_le, nat_lt, Bool, false, ◌||◌, if◌then◌else◌, Option, Some, None, List}
+use Rattle.std.specs.Prelude.{◌≡◌, ℕ, nat_le, nat_lt, Bool, false, ◌||◌, if◌then◌else◌, Option, Some, None, List, length}
 
 -- the number of the first write from this number on; writes are in order of number
 abbrev pub number_from : List Place → (from : ℕ) → Option ℕ
@@ -38,3 +38,7 @@ module _ {B S : Type 0} {H : Type 0} (state : B → S) (M : Machine S) where
   -- the number of the first outstanding write of its guest from this number on
   abbrev pub HasWriteFrom : (B → List Place) → Hosted B H → (from : ℕ) → Option ℕ → Type 0
   HasWriteFrom writes h from given = Says (λ guest. number_from (writes guest) from) h None given
+
+  -- how many writes of its guest are outstanding
+  abbrev pub HasWrites : (B → List Place) → Hosted B H → ℕ → Type 0
+  HasWrites writes h given = Says (λ guest. length (writes guest)) h 0 given

@@ -39,10 +39,11 @@ HasJoined (hosted.Spare callbacks) = ⊥
 HasJoined (hosted.Node node) = Unit {0}
 HasJoined hosted.Halted = Unit {0}
 
--- it is the same host: its number, and the drives of the pair's machines
+-- it is the same host: its number, the drives of the pair's machines, and the rings of its mail
 pub record SameHost {B : Type 0} {H : Type 0} (old new : HostNode B H) : Type 0 where
   pub number : new.number ≡ old.number
   pub drives : new.drives ≡ old.drives
+  pub rings : new.mail.rings ≡ old.mail.rings
 
 -- this is its number, if it has one
 abbrev pub IsNumber : {B : Type 0} {H : Type 0} → ℕ → HostNode B H → Type 0

@@ -22,6 +22,16 @@ abbrev pub is_far_behind : Option Lead → (count : ℕ) → Bool
 is_far_behind None count = false
 is_far_behind (Some lead) count = is_too_far lead.count count
 
+-- a guest of this count has yet to make these steps up to where the peer said last that it is
+abbrev pub behind : Option Lead → (count : ℕ) → ℕ
+behind None count = 0
+behind (Some lead) count = lead.count - count
+
+-- only a backup lags
+abbrev pub lag_of : Option shown.Role → (behind : ℕ) → ℕ
+lag_of (Some shown_as.Backup) steps = steps
+lag_of role steps = 0
+
 -- a count is said at first, and again half a million steps after it was said last
 abbrev pub is_due : Option ℕ → (count : ℕ) → Bool
 is_due None count = true

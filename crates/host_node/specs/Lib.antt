@@ -7,5 +7,6 @@ pub mod Looks
 pub mod Guests
 pub mod Reports
 pub mod Lagging
+pub mod Speeds
 pub mod Ends
 pub mod Boots

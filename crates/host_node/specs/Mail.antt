@@ -1,12 +1,18 @@
 -- What came to a host and what went from it, in bytes, and what is kept of it.
 use Rattle.std.specs.Prelude.{◌≡◌, ℕ, ◌==◌, if◌then◌else◌, List, [], ◌∷◌, ◌++◌}
+use Rattle.frame_streams.specs.Rings.{Ring}
 use Rattle.host_frames.specs.Frames.{IsBodyOf, IsSpelling, Said, Transfers}
 use Rattle.host_frames.specs.declared.frame.Transfer.TheVariants.{Key}
 use Rattle.host_node.specs.declared.mail.KeptKey.{KeptKey}
 use Rattle.pair_protocol.specs.Lawful.{Among}
 
+-- the ring that bodies come out of, and the one that frames go into
+pub record Rings : Type 0 where
+  pub inbox : Ring
+  pub outbox : Ring
+
 -- the bodies that came, those that are known to wait, the frames that went, how many more the ring takes that are known of,
--- and the keys of each port that wait
+-- the keys of each port that wait, and the rings
 pub record Post : Type 0 where
   pub came : List (List ℕ)
   pub waits : List (List ℕ)
@@ -14,6 +20,7 @@ pub record Post : Type 0 where
   pub room : ℕ
   pub first : List KeptKey
   pub second : List KeptKey
+  pub rings : Rings
 
 -- the keys of a port that wait
 abbrev pub keys_at : Post → ℕ → List KeptKey

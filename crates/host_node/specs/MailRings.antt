@@ -1,9 +1,18 @@
 -- What the fields of a host's mail mean, and what holds of them.
-use Rattle.std.specs.Prelude.{All}
+use Rattle.std.specs.Prelude.{ℕ, All}
+use Rattle.std.specs.Global.{Global, Vec}
 use Rattle.frame_streams.specs.Reading.{contents_of}
-use Rattle.host_node.specs.Mail.{CameAsKey, Post}
+use Rattle.frame_streams.specs.Rings.{put_into, taken_from}
+use Rattle.host_node.specs.Mail.{CameAsKey, Post, Rings}
 use Rattle.host_node.specs.declared.mail.Mail.TheInside.{Inside}
 use Rattle.rtrb.specs.Ring.{known_free, known_items, received, sent}
+use Rattle.rtrb.specs.declared.AnyItems.{AnyItems}
+use Rattle.rtrb.specs.declared.consumer.Consumer.{Consumer}
+use Rattle.rtrb.specs.declared.producer.Producer.{Producer}
+
+-- the rings of these two ends
+abbrev pub rings_of : Consumer (Vec ℕ) Global AnyItems → Producer (Vec ℕ) Global AnyItems → Rings
+rings_of bodies frames = record { inbox = taken_from bodies; outbox = put_into frames }
 
 abbrev pub post_in : Inside → Post
 post_in m = record {
@@ -13,6 +22,7 @@ post_in m = record {
   room = known_free m.frames;
   first = m.first.items;
   second = m.second.items;
+  rings = rings_of m.bodies m.frames;
 }
 
 -- the keys that wait came

@@ -9,6 +9,7 @@ use Rattle.host_frames.specs.declared.frame.Report.{Report}
 use Rattle.host_node.specs.Looks.{HasCount, HasGeneration, HasKeys, HasRole, OfNode}
 use Rattle.host_node.specs.Mail.{HasSaid}
 use Rattle.host_node.specs.declared.host.HostNode.{HostNode}
+use Rattle.host_node.specs.declared.reporting.Known.{Known}
 use Rattle.host_node.specs.declared.host.Hosted.{Hosted}
 use Rattle.host_node.specs.declared.host.Hosted.TheVariants as hosted
 use Rattle.i8080_words.specs.declared.refusal.Fault.{Fault}
@@ -34,17 +35,21 @@ module _ {B S : Type 0} {H : Type 0} (state : B → S) (M : Machine S) where
   ReportsGeneration number hosted.Halted generation = generation ≡ max number 1
   ReportsGeneration number h generation = HasGeneration state M h generation
 
-  -- what the host of a number says of itself
-  pub record Reports (number : ℕ) (h : Hosted B H) (report : Report) : Type 0 where
+  -- what the host of a number says of itself whose loop knows this
+  pub record Reports (known : Known) (number : ℕ) (h : Hosted B H) (report : Report) : Type 0 where
     pub role : HasRole state M h report.role
     pub generation : ReportsGeneration number h report.generation
     pub count : HasCount state M h report.count
+    pub idle : report.is_idle ≡ known.is_idle
+    pub behind : report.lag ≡ known.lag
+    pub waits : report.writes ≡ known.writes
+    pub tick : report.tick ≡ known.tick
     pub taken : HasKeys state M h report.taken
     pub first : HasCovered h 0 (slice_index report.covered 0)
     pub second : HasCovered h 1 (slice_index report.covered 1)
 
   -- such a report went, or none did
-  abbrev pub SaysReport : Bool → HostNode B H → HostNode B H → Type 0
-  SaysReport true old new =
-      (report : Report) × Reports old.number old.node report × HasSaid (frames.Tells (notice.Report report)) old.mail.gone new.mail.gone
-  SaysReport false old new = new.mail.gone ≡ old.mail.gone
+  abbrev pub SaysReport : Known → Bool → HostNode B H → HostNode B H → Type 0
+  SaysReport known true old new =
+      (report : Report) × Reports known old.number old.node report × HasSaid (frames.Tells (notice.Report report)) old.mail.gone new.mail.gone
+  SaysReport known false old new = new.mail.gone ≡ old.mail.gone

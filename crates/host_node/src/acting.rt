@@ -156,13 +156,27 @@ impl<B: Copies<H> + KeyRoom + OutstandingWrites + Drop, H: Drop> Serving<B, H> {
         self.make_steps()
     }
 
-    // Makes steps.
+    // How many steps its guest makes at most now.
+    fn turns(&mut self) -> u64
+        ensures { self.new.host ≡ self.old.host }
+    {
+        let now = self.pace.now;
+        self.pace.speed.see(now);
+        self.pace.speed.turns(now, self.settings.steps)
+    }
+
+    // Makes steps, unless they were too many for the guest's speed.
     #[tactic(auto, using(crate::proofs::Going::stays, crate::proofs::Going::and_then))]
     fn make_steps(&mut self) -> R<bool>
         ensures { Goes B.state B.machine B.copied self.old.host self.new.host }
     {
-        match self.host.step(self.settings.steps) {
+        let turns = self.turns();
+        if turns == 0 {
+            return Ok(false);
+        }
+        match self.host.step(turns) {
             Ok(ran) => {
+                self.pace.speed.make(ran.steps);
                 self.pace.is_idle = matches!(ran.why, StopReason::Refused(Fault::Idle));
                 Ok(ran.steps > 0 && !self.pace.is_idle)
             }

@@ -41,6 +41,6 @@ pub enum Heard {
     Begun,
     /// The host joins a generation.
     Joined,
-    /// The outside is there.
-    Tick,
+    /// The outside is there, by its tick of this number, and a guest makes at most so many steps a second; 0 if it runs as fast as it can.
+    Tick { number: u64, speed: u64 },
 }

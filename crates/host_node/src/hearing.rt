@@ -160,7 +160,7 @@ impl<B: Copies<H> + Drop, H: Drop> HostNode<B, H> {
                 entries,
                 count,
             } if host == self.peer => Ok(Heard::Progress(Lead { entries, count })),
-            Notice::Tick => Ok(Heard::Tick),
+            Notice::Tick { number, speed } => Ok(Heard::Tick { number, speed }),
             Notice::Progress { .. } | Notice::Suspect(_) | Notice::Report(_) | Notice::Stop => {
                 Ok(Heard::Nothing)
             }

@@ -164,4 +164,12 @@ impl<B: Copies<H> + Drop, H: Drop> HostNode<B, H> {
     {
         self.mail.is_over()
     }
+
+    /// Its mail; all else that it has is dropped.
+    pub fn into_mail(self) -> Mail
+        ensures { result ≡ self.mail }
+    {
+        let HostNode { mail, .. } = self;
+        mail
+    }
 }

@@ -1,6 +1,6 @@
 //! How far the hosts of a pair are, and how far a backup may be behind.
 ghost use Rattle.std.specs.Prelude.{◌≡◌, None, Some};
-ghost use Rattle.host_node.specs.Lagging.{is_due, is_far_behind, is_too_far, waits_for};
+ghost use Rattle.host_node.specs.Lagging.{behind, is_due, is_far_behind, is_too_far, lag_of, waits_for};
 
 use ft_node::Lead;
 use pair_events::Role;
@@ -57,6 +57,16 @@ impl Lag {
         }
     }
 
+    /// How many steps a guest of this count has yet to make up to where the peer is.
+    pub fn behind(&self, count: u64) -> u64
+        ensures { result ≡ behind self.now.heard count }
+    {
+        match self.heard {
+            Some(lead) => lead.count.saturating_sub(count),
+            None => 0,
+        }
+    }
+
     /// Whether it is time to say that this host has come to a count.
     pub fn is_due(&self, count: u64) -> bool
         ensures { result ≡ is_due self.now.said count }
@@ -98,5 +108,15 @@ pub fn waits_for(role: Option<Role>, is_copying: bool, is_behind: bool) -> bool
     match role {
         Some(Role::Primary) => is_behind && !is_copying,
         _ => false,
+    }
+}
+
+/// By how many steps a node in this role lags: a backup does by those up to where its primary is.
+pub fn lag_of(role: Option<Role>, behind: u64) -> u64
+    ensures { result ≡ lag_of role behind }
+{
+    match role {
+        Some(Role::Backup) => behind,
+        _ => 0,
     }
 }

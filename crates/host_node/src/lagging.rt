@@ -3,7 +3,7 @@
 ghost use Rattle.host_node.specs.Goes.{Goes};
 ghost use Rattle.host_node.specs.Lagging.{HoldsBack};
 
-use crate::lag::waits_for;
+use crate::lag::{lag_of, waits_for};
 use crate::serving::Serving;
 use clone_state::Copies;
 use guest_lockstep::StopReason;
@@ -18,6 +18,11 @@ impl<B: Copies<H> + KeyRoom + OutstandingWrites + Drop, H: Drop> Serving<B, H> {
     {
         let is_behind = self.pace.lag.is_far_behind(self.host.count());
         waits_for(self.host.role(), self.pace.is_copying, is_behind)
+    }
+
+    // By how many steps the host lags.
+    pub(crate) fn behind(&self) -> u64 {
+        lag_of(self.host.role(), self.pace.lag.behind(self.host.count()))
     }
 
     // Says how far the host is, if that is due.

@@ -16,6 +16,7 @@ mod pace;
 mod reporting;
 mod sending;
 mod serving;
+mod speed;
 
 pub use heard::Heard;
 pub use host::{HostNode, Hosted};

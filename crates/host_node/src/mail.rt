@@ -5,6 +5,7 @@ ghost use Rattle.host_frames.specs.Frames.{IsSpelling, Tells, Transfers, said_by
 ghost use Rattle.host_frames.specs.declared.frame.Transfer.TheVariants.{Key};
 ghost use Rattle.host_node.specs.Mail as table;
 ghost use Rattle.host_node.specs.Mail.{CameAsKey};
+ghost use Rattle.host_node.specs.MailRings.{rings_of};
 ghost use Rattle.i8080_words.specs.declared.refusal.Fault.TheVariants.{OutOfMemory};
 ghost use Rattle.rtrb.specs.Ring.{known_free, received, sent};
 
@@ -61,6 +62,7 @@ impl Mail {
     ) -> R<Mail>
         ensures came { IfOk result (λ mail. mail.came ≡ contents_of (received bodies)) }
         ensures gone { IfOk result (λ mail. mail.gone ≡ contents_of (sent frames)) }
+        ensures rings { IfOk result (λ mail. mail.rings ≡ rings_of bodies frames) }
         ensures full { IsOkUnless result OutOfMemory }
     {
         let first = HeapCircularBuffer::with_capacity(alloc, KEYS)?;
@@ -76,11 +78,12 @@ impl Mail {
     }
 
     /// The body of the next frame that has come.
-    #[tactic(auto, using(crate::proofs::Keeping::kept_one, crate::proofs::Keeping::kept_none, crate::proofs::Keeping::one_more))]
+    #[tactic(auto, using(crate::proofs::Keeping::kept_one, crate::proofs::Keeping::kept_none, crate::proofs::Keeping::one_more, crate::proofs::Staying::inbox_stays))]
     pub fn next(&mut self) -> Option<Vec<u8>>
         ensures came { IfSome result (λ body. self.new.came ≡ self.old.came ++ body.items ∷ []) }
         ensures none { result ≡ None → self.new.came ≡ self.old.came }
         ensures gone { self.new.gone ≡ self.old.gone }
+        ensures rings { self.new.rings ≡ self.old.rings }
     {
         let Ok(body) = self.bodies.pop() else {
             return None;
@@ -89,19 +92,23 @@ impl Mail {
     }
 
     /// Whether no frame can come any more, once none is left.
+    #[tactic(auto, using(crate::proofs::Staying::inbox_stays, crate::proofs::Staying::inbox_stays_still))]
     pub fn is_over(&mut self) -> bool
         ensures none { result ≡ true → self.new.waits ≡ [] }
         ensures came { self.new.came ≡ self.old.came }
         ensures gone { self.new.gone ≡ self.old.gone }
+        ensures rings { self.new.rings ≡ self.old.rings }
     {
         self.bodies.is_abandoned() && self.bodies.is_empty()
     }
 
     /// Whether a frame can be sent now.
+    #[tactic(auto, using(crate::proofs::Staying::outbox_stays))]
     pub fn has_room(&mut self) -> bool
         ensures room { IsTrue result → 0 < self.new.room }
         ensures came { self.new.came ≡ self.old.came }
         ensures gone { self.new.gone ≡ self.old.gone }
+        ensures rings { self.new.rings ≡ self.old.rings }
     {
         !self.frames.is_full()
     }
@@ -112,6 +119,7 @@ impl Mail {
         ensures gone { OnOk result (table.HasSaid (said_by frame.now) self.old.gone self.new.gone) }
         ensures came { self.new.came ≡ self.old.came }
         ensures unsaid { OnErr result (self.new.gone ≡ self.old.gone) }
+        ensures rings { self.new.rings ≡ self.old.rings }
     {
         let bytes = spelled(self.alloc, frame)?;
         self.say_bytes(bytes);
@@ -119,10 +127,12 @@ impl Mail {
     }
 
     /// Sends a frame that is spelled.
+    #[tactic(auto, using(crate::proofs::Staying::outbox_stays))]
     pub fn say_bytes(&mut self, bytes: Vec<u8>)
         requires { 0 < self.old.room }
         ensures gone { self.new.gone ≡ self.old.gone ++ bytes.items ∷ [] }
         ensures came { self.new.came ≡ self.old.came }
+        ensures rings { self.new.rings ≡ self.old.rings }
     {
         self.frames.push_reserved(bytes);
         self.wake.unpark();
@@ -133,6 +143,7 @@ impl Mail {
         requires { CameAsKey self.old.came key }
         ensures came { self.new.came ≡ self.old.came }
         ensures gone { self.new.gone ≡ self.old.gone }
+        ensures rings { self.new.rings ≡ self.old.rings }
     {
         if key.port == 0 {
             let _ = self.first.try_push_back(key).is_ok();
@@ -156,6 +167,7 @@ impl Mail {
     pub fn drop_key(&mut self, port: u8)
         ensures came { self.new.came ≡ self.old.came }
         ensures gone { self.new.gone ≡ self.old.gone }
+        ensures rings { self.new.rings ≡ self.old.rings }
     {
         if port == 0 {
             let _ = self.first.pop_front().is_some();
@@ -179,8 +191,19 @@ impl Mail {
     pub fn forget_keys(&mut self)
         ensures came { self.new.came ≡ self.old.came }
         ensures gone { self.new.gone ≡ self.old.gone }
+        ensures rings { self.new.rings ≡ self.old.rings }
     {
         self.first.clear();
         self.second.clear();
+    }
+
+    /// The ends of the two rings that were its own.
+    pub fn into_rings(self) -> (Consumer<Vec<u8>>, Producer<Vec<u8>>)
+        ensures came { contents_of (received result.0) ≡ self.came }
+        ensures gone { contents_of (sent result.1) ≡ self.gone }
+        ensures rings { rings_of result.0 result.1 ≡ self.rings }
+    {
+        let Mail { bodies, frames, .. } = self;
+        (bodies, frames)
     }
 }

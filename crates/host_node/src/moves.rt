@@ -1,6 +1,6 @@
 //! The moves of a host's machine.
 ghost use Rattle.host_node.specs.Goes.{Goes};
-ghost use Rattle.host_node.specs.Guests.{HasWriteFrom, KeepsKey, keeps_at, number_from};
+ghost use Rattle.host_node.specs.Guests.{HasWriteFrom, HasWrites, KeepsKey, keeps_at, number_from};
 ghost use Rattle.std.specs.Prelude.{◌≡◌};
 
 use crate::host::{HostNode, Hosted};
@@ -106,6 +106,17 @@ impl<B: Copies<H> + KeyRoom + OutstandingWrites + Drop, H: Drop> HostNode<B, H> 
         match self.guest() {
             Some(guest) => keeps_at(guest, port),
             None => false,
+        }
+    }
+
+    /// How many writes of the guest of its node are outstanding; 0 if it has no guest.
+    #[tactic(auto, using(crate::proofs::Looking::says, crate::proofs::Looking::says_nothing))]
+    pub fn writes(&self) -> u64
+        ensures { HasWrites B.state B.machine B.OutstandingWrites.writes self.now.node result }
+    {
+        match self.guest() {
+            Some(guest) => guest.outstanding_writes().len() as u64,
+            None => 0,
         }
     }
 

@@ -2,6 +2,7 @@
 
 use crate::heard::Heard;
 use crate::lag::Lag;
+use crate::speed::Speed;
 use event_callbacks::PORTS;
 use ft_node::PartCame;
 use guest_lockstep::ReplayEnd;
@@ -77,8 +78,10 @@ pub struct Pace {
     pub freshened_at: u64,
     pub beat_at: u64,
     pub told: Option<Report>,
-    // How far the peer is.
+    // How far the peer is; how fast the guest runs; and the last tick.
     pub lag: Lag,
+    pub speed: Speed,
+    pub tick: u64,
 }
 
 impl Pace {
@@ -110,6 +113,8 @@ impl Pace {
             beat_at: 0,
             told: None,
             lag: Lag::new(),
+            speed: Speed::new(),
+            tick: 0,
         }
     }
 
@@ -158,7 +163,11 @@ impl Pace {
             Heard::Gone(host) => self.is_gone = self.is_gone || host == peer,
             Heard::Begun => self.begin(),
             Heard::Joined => self.join(),
-            Heard::Tick => self.silent = self.silent.saturating_add(1),
+            Heard::Tick { number, speed } => {
+                self.silent = self.silent.saturating_add(1);
+                self.tick = number;
+                self.speed.set(speed, self.now);
+            }
             Heard::Progress(lead) => self.lag.hear(lead),
             Heard::Nothing | Heard::Malformed | Heard::Lost => {}
         }

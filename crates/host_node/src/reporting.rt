@@ -11,16 +11,33 @@ use ft_node::Node;
 use host_frames::{Frame, Notice, Report};
 use i8080_words::R;
 
+/// What a host's loop knows that its node does not show.
+#[derive(Clone, Copy)]
+pub struct Known {
+    /// Whether its guest waits for a key, and nothing of it is on its way to a device.
+    pub is_idle: bool,
+    /// By how many steps it lags.
+    pub lag: u64,
+    /// How many writes of its guest are on their way to the disk.
+    pub writes: u64,
+    /// The number of the last tick.
+    pub tick: u64,
+}
+
 impl<B: Copies<H> + Drop, H: Drop> HostNode<B, H> {
-    /// What it says of itself: its generation, its role, how many steps its machine has made, how many keys it has taken, and
-    /// how many of those are covered.
-    pub fn report(&self) -> Report
-        ensures { Reports B.state B.machine self.now.number self.now.node result }
+    /// What it says of itself: its generation, its role, how many steps its machine has made, how many keys it has taken, and how many of
+    /// those are covered; and what its loop knows besides.
+    pub fn report(&self, known: Known) -> Report
+        ensures { Reports B.state B.machine known self.now.number self.now.node result }
     {
         Report {
             generation: self.reported_generation(),
             role: self.role(),
+            is_idle: known.is_idle,
             count: self.count(),
+            lag: known.lag,
+            writes: known.writes,
+            tick: known.tick,
             taken: self.keys(),
             covered: [self.covered(0), self.covered(1)],
         }
@@ -28,14 +45,14 @@ impl<B: Copies<H> + Drop, H: Drop> HostNode<B, H> {
 
     /// Sends what it says of itself. Returns false if there is no room.
     #[tactic(auto, using(crate::proofs::Reported::reports, crate::proofs::Going::looked))]
-    pub fn send_report(&mut self) -> R<bool>
+    pub fn send_report(&mut self, known: Known) -> R<bool>
         ensures goes { Goes B.state B.machine B.copied self.old self.new }
-        ensures says { IfOk result (λ is_sent. SaysReport B.state B.machine is_sent self.old self.new) }
+        ensures says { IfOk result (λ is_sent. SaysReport B.state B.machine known is_sent self.old self.new) }
     {
         if !self.mail.has_room() {
             return Ok(false);
         }
-        let report = self.report();
+        let report = self.report(known);
         self.mail.say(&Frame::Notice(Notice::Report(report)))?;
         Ok(true)
     }

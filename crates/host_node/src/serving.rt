@@ -6,6 +6,7 @@ ghost use Rattle.host_node.specs.declared.pace.End.TheVariants as of_end;
 
 use crate::host::HostNode;
 use crate::pace::{End, Pace, Settings, TICK};
+use crate::reporting::Known;
 use clone_state::Copies;
 use i8080_words::{Fault, R};
 use key_room::{KeyRoom, OutstandingWrites};
@@ -215,8 +216,9 @@ impl<B: Copies<H> + KeyRoom + OutstandingWrites + Drop, H: Drop> Serving<B, H> {
         if !is_time && !self.is_news() {
             return Ok(());
         }
-        let report = self.host.report();
-        if self.host.send_report()? {
+        let known = self.known();
+        let report = self.host.report(known);
+        if self.host.send_report(known)? {
             self.pace.told = Some(report);
         }
         Ok(())
@@ -245,9 +247,28 @@ impl<B: Copies<H> + KeyRoom + OutstandingWrites + Drop, H: Drop> Serving<B, H> {
         }
     }
 
+    // What the outside is told besides what the node shows.
+    fn known(&self) -> Known {
+        Known {
+            is_idle: self.is_at_rest(),
+            lag: self.behind(),
+            writes: self.host.writes(),
+            tick: self.pace.tick,
+        }
+    }
+
+    // Whether the guest waits for a key, and nothing of it is on its way to a device.
+    fn is_at_rest(&self) -> bool {
+        self.pace.is_idle
+            && self.pace.asked_disk_at.is_none()
+            && self.host.due_byte(0).is_none()
+            && self.host.due_byte(1).is_none()
+            && self.host.writes() == 0
+    }
+
     // Whether the outside was not told yet what the host is, or how many keys it has taken and covered.
     fn is_news(&self) -> bool {
-        let report = self.host.report();
+        let report = self.host.report(self.known());
         let Some(told) = &self.pace.told else {
             return true;
         };

@@ -458,8 +458,10 @@ pub gone_met : (place : ℕ) (a b : Seen) → b.devices ≡ a.devices → PostsA
     MeetsWith [] None a b
 gone_met place a b = notice_met (Gone place) a b (λ drives host frame. only drives host (Tells (Gone place)) frame)
 
-pub tick_met : (a b : Seen) → b.devices ≡ a.devices → PostsAll (Tells Tick) a.lines b.lines → MeetsWith [] None a b
-tick_met a b = notice_met Tick a b (λ drives host frame. only drives host (Tells Tick) frame)
+pub tick_met : (number speed : ℕ) (a b : Seen) → b.devices ≡ a.devices → PostsAll (Tells (Tick number speed)) a.lines b.lines →
+    MeetsWith [] None a b
+tick_met number speed a b =
+    notice_met (Tick number speed) a b (λ drives host frame. only drives host (Tells (Tick number speed)) frame)
 
 pub stop_met : (a b : Seen) → b.devices ≡ a.devices → PostsAll (Tells Stop) a.lines b.lines → MeetsWith [] None a b
 stop_met a b = notice_met Stop a b (λ drives host frame. only drives host (Tells Stop) frame)

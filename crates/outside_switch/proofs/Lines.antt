@@ -239,7 +239,7 @@ past_at lines index place same high = slice_get_past lines place (subst (λ k. l
 
 -- ---- whether a host is cut off
 
-took_none-same : {A P : Type 0} (frames : List (Vec ℕ)) (a b : Option (Producer (Vec ℕ) A P)) → Took frames a b →
+pub took_none-same : {A P : Type 0} (frames : List (Vec ℕ)) (a b : Option (Producer (Vec ℕ) A P)) → Took frames a b →
     is_none b ≡ is_none a
 took_none-same frames None None p = refl
 took_none-same frames (Some a) (Some b) p = refl
@@ -263,4 +263,12 @@ closed_now a b place at = elim at [
       ∙ ap (λ o. open_in o) (get_set a place one.before one.after one.there)
       ∙ ap (λ (l : HostLine). not (is_none l.to)) one.becomes
   | inr none ↦ ap (λ l. open_in (slice_get l place)) none.1 ∙ ap (λ o. open_in o) none.0
+]
+
+pub others_open : (a b : List HostLine) (place other : ℕ) → AtPlace place IsClosed a b → (other ≡ place → ⊥) →
+    open_in (slice_get b other) ≡ open_in (slice_get a other)
+others_open a b place other at differs = elim at [
+  | inl one ↦ ap (λ l. open_in (slice_get l other)) one.set
+      ∙ ap (λ o. open_in o) (get_set_other a place other one.after differs)
+  | inr none ↦ ap (λ l. open_in (slice_get l other)) none.1
 ]

@@ -52,7 +52,7 @@ Only drives host (Tells (Join generation place of count)) frame =
 Only drives host (Tells (Report report)) frame =
     (port : ℕ) × (keys : ℕ) × (slice_get report.covered port ≡ Some keys) × (0 < keys) × (frame ≡ law.TellsKeys port keys)
 Only drives host (Tells (Progress place entries count)) frame = ⊥
-Only drives host (Tells Tick) frame = ⊥
+Only drives host (Tells (Tick m n)) frame = ⊥
 Only drives host (Tells Stop) frame = ⊥
 
 pub only : (drives host : ℕ) (said : Said) (frame : law.Frame) → Means drives host said frame → Only drives host said frame

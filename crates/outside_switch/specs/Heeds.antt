@@ -89,6 +89,10 @@ abbrev pub open_in : Option HostLine → Bool
 open_in None = false
 open_in (Some line) = not (is_none line.to)
 
+-- at the other places no host is cut off that was not before
+abbrev pub OthersStay : ℕ → List HostLine → List HostLine → Type 0
+OthersStay place old new = (other : ℕ) → (other ≡ place → ⊥) → open_in (slice_get new other) ≡ open_in (slice_get old other)
+
 -- what comes from a host that is cut off is dropped, and one that sends what is no frame has failed
 abbrev pub HeedsOpen : Bool → ℕ → List Bool → List ℕ → List HostLine → Held → Held → Heard → Type 0
 HeedsOpen false place rooms body lines old new heard = Stays old new heard Met

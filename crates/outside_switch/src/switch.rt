@@ -3,11 +3,12 @@ ghost use Rattle.std.specs.Prelude.{◌≡◌, [], IfOk, OnErr, OnOk, Some, IfEr
 ghost use Rattle.i8080_words.specs.declared.refusal.Fault.TheVariants.{OutOfMemory, Unknown};
 ghost use Rattle.outside_switch.specs.declared.heard.Heard.TheVariants as of_heard;
 ghost use Rattle.outside_switch.specs.declared.line.HostLine.{HostLine};
-ghost use Rattle.host_frames.specs.Frames.{said_by};
+ghost use Rattle.host_frames.specs.Frames.{Tells, said_by};
+ghost use Rattle.host_frames.specs.declared.frame.Notice.TheVariants as notice;
 ghost use Rattle.outside_devices.specs.Held.{at_boot};
 ghost use Rattle.outside_devices.specs.Calls.{key_answer, typed_after, typed_answer};
 ghost use Rattle.outside_switch.specs.Goes.{Adds, BeginsSo, BegunSo, GoesWith, HearsBody, HearsFrame, HearsNext, Lines, NextSo, SendsKey, first_number};
-ghost use Rattle.outside_switch.specs.Heeds.{HasRoomFor, HeedsAt, HeedsBody, open_in};
+ghost use Rattle.outside_switch.specs.Heeds.{HasRoomFor, HeedsAt, HeedsBody, OthersStay, open_in};
 ghost use Rattle.outside_switch.specs.Lines.{IsClosed, IsNamed, PostsAll};
 ghost use Rattle.outside_switch.specs.Meets.{seen};
 ghost use Rattle.outside_switch.specs.Passing.{passed_of, typed_of};
@@ -164,6 +165,7 @@ impl<D: SectorStore> Switch<D> {
         ensures goes { GoesWith [] (seen self.old) (seen self.new) }
         ensures devices { self.new.devices ≡ self.old.devices }
         ensures cut { open_in (slice_get self.new.lines.items place) ≡ false }
+        ensures others { OthersStay place self.old.lines.items self.new.lines.items }
     {
         self.close(place);
         self.post_all(alloc, &Frame::Notice(Notice::Gone(place)));
@@ -247,12 +249,14 @@ impl<D: SectorStore> Switch<D> {
         places::name(&mut self.lines, place, number);
     }
 
-    /// Tells all hosts that the switch is there.
+    /// Tells all hosts that the switch is there, for the so manieth time, and that a guest makes at most so many steps a second; with 0 as
+    /// many as it can.
     #[tactic(auto, using(crate::proofs::Acting::tick_met, crate::proofs::Going::acts))]
-    pub fn tick(&mut self, alloc: Global)
-        ensures { GoesWith [] (seen self.old) (seen self.new) }
+    pub fn tick(&mut self, alloc: Global, number: u64, speed: u64)
+        ensures goes { GoesWith [] (seen self.old) (seen self.new) }
+        ensures posts { PostsAll (Tells (notice.Tick number speed)) self.old.lines.items self.new.lines.items }
     {
-        self.post_all(alloc, &Frame::Notice(Notice::Tick));
+        self.post_all(alloc, &Frame::Notice(Notice::Tick { number, speed }));
     }
 
     /// Tells all hosts to stop.

@@ -72,7 +72,13 @@ fn a_byte_is_shown_once(rt: HostRuntime) -> Result<(), Fail> {
     assert!(rt; switch.hear(alloc, 0, ROOM) == Heard::Met);
     assert!(rt; host.is_told(alloc, &accepted)?);
     assert!(rt; switch.hear(alloc, 0, ROOM) == Heard::Nothing);
-    host.say(alloc, &Frame::Notice(Notice::Tick))?;
+    host.say(
+        alloc,
+        &Frame::Notice(Notice::Tick {
+            number: 1,
+            speed: 0,
+        }),
+    )?;
     assert!(rt; switch.hear(alloc, 0, ROOM) == Heard::Failed);
     Ok(())
 }
@@ -87,7 +93,11 @@ fn a_spare_is_given_to_a_generation(rt: HostRuntime) -> Result<(), Fail> {
     let report = Report {
         generation: 0,
         role: None,
+        is_idle: false,
         count: 0,
+        lag: 0,
+        writes: 0,
+        tick: 0,
         taken: [0, 0],
         covered: [0, 0],
     };

@@ -1,12 +1,11 @@
 -- What a command prints is what obeying its request leaves.
 use Rattle.std.proofs.Common.{◌≡◌, ℕ, Option, List, Result, Ok, Err, String, Global, string_bytes, inl, inr, refl, subst, sym}
 use Rattle.std.specs.Global.{Vec}
-use Rattle.command_console.specs.Console.{IsAtConsole, IsOfRun}
 use Rattle.command_lint.specs.Linting.{Lints}
 use Rattle.command_live.specs.Living.{PrintsLive, typed_in}
 use Rattle.command_script.specs.Drawing.{Draws}
 use Rattle.command_script.specs.Printing as script
-use Rattle.pair_main.specs.Runs.{IsObeyed, IsRun, IsScriptOf, SitsAt, Writes, asked_by}
+use Rattle.pair_main.specs.Runs.{IsObeyed, IsRun, IsScriptOf, Writes, asked_by}
 use Rattle.pair_shell.specs.Hearing.{Hears}
 use Rattle.command_ending.specs.declared.failure.Failure.{Failure}
 use Rattle.command_ending.specs.declared.failure.Failure.TheVariants as failure
@@ -18,8 +17,7 @@ use Rattle.command_input.specs.declared.input.Language.{Language}
 use Rattle.command_input.specs.declared.input.Language.TheVariants.{Any, Threads}
 use Rattle.command_line.specs.Orders.{IsAsked, IsRefused}
 use Rattle.command_line.specs.declared.console_order.ConsoleOrder.{ConsoleOrder}
-use Rattle.command_line.specs.declared.hosts_order.HostOrder.{HostOrder}
-use Rattle.command_line.specs.declared.hosts_order.HostsOrder.{HostsOrder}
+use Rattle.command_line.specs.declared.host_order.HostOrder.{HostOrder}
 use Rattle.command_line.specs.declared.live_order.LiveOrder.{LiveOrder}
 use Rattle.command_line.specs.declared.options.Request.{Request}
 use Rattle.command_line.specs.declared.options.Request.TheVariants as request
@@ -205,28 +203,6 @@ module _ {R W : Type 0} (remaining : R → Option (List ℕ)) (contents : W → 
       → IsObeyed remaining contents reader reader' writer writer' asked result
   obeys_shell asked result is h = named request.Shell asked result is (by_shell result h)
 
-  no_words : (text : String Global) → IsOfRun (failure.CommandLine text) → ⊥
-  no_words text (inl is) = absurd (let e : failure.CommandLine text ≡ failure.OutOfMemory = is in cc)
-  no_words text (inr (inl is)) = absurd (let e : failure.CommandLine text ≡ failure.InputOrOutput = is in cc)
-  no_words text (inr (inr is)) = absurd (let e : failure.CommandLine text ≡ failure.Stalled = is in cc)
-
-  by_console : (how : ConsoleOrder) (result : Result (Unit {0}) Failure)
-      → SitsAt how (remaining reader) (remaining reader') result (contents writer) (contents writer')
-      → IsObeyed remaining contents reader reader' writer writer' (request.Console how) result
-  by_console how (Ok done) h = h
-  by_console how (Err failure.OutOfMemory) h = inr h
-  by_console how (Err failure.InputOrOutput) h = inr h
-  by_console how (Err failure.Stalled) h = h
-  by_console how (Err failure.Differs) h = h
-  by_console how (Err (failure.BadScript line)) h = inr h
-  by_console how (Err (failure.CommandLine text)) h = no_words text h.2
-
-  pub obeys_console : (notes notes' : Option (List ℕ)) (asked : Request) (how : ConsoleOrder) (result : Result (Unit {0}) Failure)
-      → asked ≡ request.Console how
-      → IsAtConsole how (remaining reader) (remaining reader') (contents writer) (contents writer') notes notes' result
-      → IsObeyed remaining contents reader reader' writer writer' asked result
-  obeys_console notes notes' asked how result is h = named (request.Console how) asked result is (by_console how result (notes, notes', h))
-
   by_help : (text : String Global) (result : Result (Unit {0}) Failure)
       → Writes (string_bytes text) result (contents writer) (contents writer')
       → IsObeyed remaining contents reader reader' writer writer' (request.Help text) result
@@ -249,7 +225,7 @@ module _ {R W : Type 0} (remaining : R → Option (List ℕ)) (contents : W → 
   obeys_host asked how is =
       subst (λ r. IsObeyed remaining contents reader reader writer writer r (Ok tt)) (sym is) (refl, refl)
 
-  pub obeys_hosts : (asked : Request) (how : HostsOrder) → asked ≡ request.Hosts how
+  pub obeys_console : (asked : Request) (how : ConsoleOrder) → asked ≡ request.Console how
       → IsObeyed remaining contents reader reader writer writer asked (Ok tt)
-  obeys_hosts asked how is =
+  obeys_console asked how is =
       subst (λ r. IsObeyed remaining contents reader reader writer writer r (Ok tt)) (sym is) (refl, refl)

@@ -4,7 +4,6 @@ use Rattle.std.specs.Io.KnownBytes.{Appends}
 use Rattle.std.specs.Global.{Vec}
 use Rattle.std.specs.Result.{IsErrAnd}
 use Rattle.std.specs.declared.borrow.CowStr.{CowStr}
-use Rattle.command_console.specs.Console.{IsAtConsole}
 use Rattle.command_lint.specs.Linting.{Lints}
 use Rattle.command_live.specs.Living.{PrintsLive, typed_in}
 use Rattle.command_script.specs.Drawing.{Draws}
@@ -20,7 +19,6 @@ use Rattle.command_input.specs.declared.input.Input.{Input}
 use Rattle.command_input.specs.declared.input.Language.{Language}
 use Rattle.command_input.specs.declared.input.Language.TheVariants.{Any, Threads}
 use Rattle.command_line.specs.Orders.{IsAsked, IsRefused}
-use Rattle.command_line.specs.declared.console_order.ConsoleOrder.{ConsoleOrder}
 use Rattle.command_line.specs.declared.options.Request.{Request}
 use Rattle.command_line.specs.declared.options.Request.TheVariants as request
 use Rattle.command_script.specs.declared.order.Order.{Order}
@@ -40,14 +38,8 @@ pub record IsOfReader (meaning : Meaning) (images : List ℕ) (remaining : Optio
   pub read : ReadsInput meaning images remaining (Ok input)
   pub obeyed : Obeyed input
 
--- one sits at a console; of what is written beside its output nothing is said here
-abbrev pub SitsAt : ConsoleOrder → Option (List ℕ) → Option (List ℕ) → Result (Unit {0}) Failure → Option (List ℕ) →
-    Option (List ℕ) → Type 0
-SitsAt how remaining after result old new =
-    (notes : Option (List ℕ)) × (notes' : Option (List ℕ)) × IsAtConsole how remaining after old new notes notes' result
-
 -- what a command prints: the lines of a script are answered, or the pair at their end is compared, or what happens is drawn, or
--- bad lines are named; a pair runs on threads, or at a console, lines are answered as they come, or it is said what there is to ask
+-- bad lines are named; a pair runs on threads, lines are answered as they come, or it is said what there is to ask
 -- for; a process of a pair runs over other streams, and nothing is read or printed here
 abbrev pub Obeys : Request → Option (List ℕ) → Option (List ℕ) → Result (Unit {0}) Failure → Option (List ℕ) → Option (List ℕ) →
     Type 0
@@ -63,9 +55,8 @@ Obeys (request.Live how) remaining after result old new = IsOfReader live_script
     PrintsLive input.script.setup input.sectors.items (typed_in 0 input.script.lines.items) (typed_in 1 input.script.lines.items)
     how result old new)
 Obeys request.Shell remaining after result old new = Hears remaining result old new
-Obeys (request.Console how) remaining after result old new = SitsAt how remaining after result old new
 Obeys (request.Host how) remaining after result old new = (after ≡ remaining) × (new ≡ old)
-Obeys (request.Hosts how) remaining after result old new = (after ≡ remaining) × (new ≡ old)
+Obeys (request.Console how) remaining after result old new = (after ≡ remaining) × (new ≡ old)
 Obeys (request.Help text) remaining after result old new = Writes (string_bytes text) result old new
 
 -- the request of an order

@@ -21,7 +21,12 @@ fn main(rt: HostRuntime) -> ExitCode {
     let Ok(arguments) = arguments.collect::<Vec<String>>(alloc) else {
         return ExitCode::from(4);
     };
-    let (status, text) = match run_process(rt, rt, alloc, &arguments) {
+    let streams = Streams {
+        reader: rt.stdin(),
+        writer: rt.stdout(),
+        notes: rt.stderr(),
+    };
+    let (status, text) = match run_process(rt, rt, alloc, &arguments, streams) {
         Some(ended) => ended,
         None => {
             let streams = Streams {

@@ -1,62 +1,105 @@
-//! One run of the program as a process of a pair: over standard input and standard output as they are.
+//! One run of the program as a process of a pair: a host, or the console that its user sits at.
+ghost use Rattle.std.specs.Prelude.{IfSome, map, string_bytes};
+ghost use Rattle.pair_main.specs.Processes.{IsProcess, IsRunAs, Sits};
 
-use command_ending::Failure;
-use command_host::{ending_of_host, ending_of_hosts, run_host};
-use command_line::{HostOrder, HostsOrder, Request, request_of};
-use console_hosts::{Streams, run_console_of_hosts};
+use command_console::{Streams, run_console};
+use command_host::{ending_of_console, ending_of_host, run_host};
+use command_line::{ConsoleOrder, HostOrder, Request, request_of};
 use std::alloc::Global;
 use std::borrow::CowStr;
+use std::io::{IsTerminal, Read, Write};
 use std::sync::Wait;
 use std::thread::Threads;
 use std::time::Clock;
 
-/// Runs a host, or the outside of hosts, if that is what these words ask for, and returns its exit status and its text for
+/// Runs a host or a console over these streams, if that is what the words ask for, and returns its exit status and its text for
 /// standard error.
-pub fn run_process<H: Threads + Wait + Clock + Copy + Drop + Send + Sync + 'static>(
+#[tactic(auto, using(crate::proofs::Serving::by_words))]
+pub fn run_process<
+    H: Threads + Wait + Clock + Copy + Drop + Send + Sync + 'static,
+    R: Read + IsTerminal + Drop + Send + 'static,
+    W: Write + Drop + Send + 'static,
+    N: Write + Drop + Send + 'static,
+>(
     rt: H,
-    host: HostRuntime,
+    files: HostRuntime,
     alloc: Global,
     arguments: &[String],
-) -> Option<(u8, CowStr<'static>)> {
-    let ended = match request_of(alloc, arguments) {
-        Ok(Request::Host(order)) => host_ending(rt, host, alloc, &order),
-        Ok(Request::Hosts(order)) => hosts_ending(rt, host, alloc, &order),
-        _ => return None,
-    };
-    Some(ending(alloc, ended))
+    streams: Streams<R, W, N>,
+) -> Option<(u8, CowStr<'static>)>
+    ensures { IfSome result (IsProcess R.remaining W.contents N.contents (map (λ word. string_bytes word) arguments.now) streams) }
+{
+    match request_of(alloc, arguments) {
+        Ok(request) => run_request(rt, files, alloc, request, streams),
+        Err(_) => None,
+    }
+}
+
+// Runs what is asked for, if it is a process of a pair.
+#[tactic(auto, using(crate::proofs::Serving::as_console, crate::proofs::Serving::as_host))]
+fn run_request<
+    H: Threads + Wait + Clock + Copy + Drop + Send + Sync + 'static,
+    R: Read + IsTerminal + Drop + Send + 'static,
+    W: Write + Drop + Send + 'static,
+    N: Write + Drop + Send + 'static,
+>(
+    rt: H,
+    files: HostRuntime,
+    alloc: Global,
+    request: Request,
+    streams: Streams<R, W, N>,
+) -> Option<(u8, CowStr<'static>)>
+    ensures { IfSome result (IsRunAs R.remaining W.contents N.contents request streams) }
+{
+    match request {
+        Request::Host(order) => Some(host(rt, alloc, &order, streams)),
+        Request::Console(order) => Some(console(rt, files, alloc, &order, streams)),
+        _ => None,
+    }
 }
 
 // Runs a host.
-fn host_ending<H: Threads + Wait + Clock + Copy + Drop + Send + Sync + 'static>(
-    rt: H,
-    host: HostRuntime,
-    alloc: Global,
-    order: &HostOrder,
-) -> Result<(u8, &'static str), Failure> {
-    let end = run_host(rt, alloc, order, host.stdin(), host.stdout())?;
-    Ok(ending_of_host(end))
+fn host<
+    H: Threads + Wait + Clock + Copy + Drop + Send + Sync + 'static,
+    R: Read + Drop + Send + 'static,
+    W: Write + Drop + Send + 'static,
+    N: Drop,
+>(rt: H, alloc: Global, order: &HostOrder, streams: Streams<R, W, N>) -> (u8, CowStr<'static>) {
+    let Streams {
+        reader,
+        writer,
+        notes: _notes,
+    } = streams;
+    match run_host(rt, alloc, order, reader, writer) {
+        Ok(end) => {
+            let (status, text) = ending_of_host(end);
+            (status, CowStr::Borrowed(text))
+        }
+        Err(failure) => failure.ending(alloc),
+    }
 }
 
-// Runs the outside of hosts.
-fn hosts_ending<H: Threads + Wait + Clock + Copy + Drop + Send + Sync + 'static>(
+// Runs a console.
+#[tactic(auto, using(crate::proofs::Serving::served, crate::proofs::Serving::failed))]
+fn console<
+    H: Threads + Wait + Clock + Copy + Drop + Send + Sync + 'static,
+    R: Read + IsTerminal + Drop + Send + 'static,
+    W: Write + Drop + Send + 'static,
+    N: Write + Drop + Send + 'static,
+>(
     rt: H,
-    host: HostRuntime,
+    files: HostRuntime,
     alloc: Global,
-    order: &HostsOrder,
-) -> Result<(u8, &'static str), Failure> {
-    let streams = Streams {
-        reader: host.stdin(),
-        writer: host.stdout(),
-        notes: host.stderr(),
-    };
-    let end = run_console_of_hosts(rt, host, alloc, order, streams)?;
-    Ok(ending_of_hosts(end))
-}
-
-// The status and the text of a process that has ended.
-fn ending(alloc: Global, ended: Result<(u8, &'static str), Failure>) -> (u8, CowStr<'static>) {
-    match ended {
-        Ok((status, text)) => (status, CowStr::Borrowed(text)),
+    order: &ConsoleOrder,
+    streams: Streams<R, W, N>,
+) -> (u8, CowStr<'static>)
+    ensures { Sits R.remaining W.contents N.contents order.now streams result }
+{
+    match run_console(rt, files, alloc, order, streams) {
+        Ok(end) => {
+            let (status, text) = ending_of_console(end);
+            (status, CowStr::Borrowed(text))
+        }
         Err(failure) => failure.ending(alloc),
     }
 }

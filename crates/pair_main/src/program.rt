@@ -3,7 +3,7 @@ ghost use Rattle.std.specs.Prelude.{map, string_bytes};
 ghost use Rattle.command_line.specs.declared.options.Request.TheVariants as asked;
 ghost use Rattle.pair_main.specs.Runs.{IsEnding, IsObeyed, IsRun, Writes, asked_by};
 
-use command_console::{Streams, run_console};
+use command_console::Streams;
 use command_ending::Failure;
 use command_input::{Language, read_input};
 use command_line::{LiveOrder, Request, request_of};
@@ -64,7 +64,7 @@ fn run<
 }
 
 // Does what is asked for.
-#[tactic(auto, using(crate::proofs::Runs::obeys_console, crate::proofs::Runs::obeys_script, crate::proofs::Runs::obeys_check, crate::proofs::Runs::obeys_picture, crate::proofs::Runs::obeys_lint, crate::proofs::Runs::obeys_live, crate::proofs::Runs::obeys_shell, crate::proofs::Runs::obeys_host, crate::proofs::Runs::obeys_hosts, crate::proofs::Runs::obeys_help))]
+#[tactic(auto, using(crate::proofs::Runs::obeys_script, crate::proofs::Runs::obeys_check, crate::proofs::Runs::obeys_picture, crate::proofs::Runs::obeys_lint, crate::proofs::Runs::obeys_live, crate::proofs::Runs::obeys_shell, crate::proofs::Runs::obeys_host, crate::proofs::Runs::obeys_console, crate::proofs::Runs::obeys_help))]
 fn obey<
     H: Threads + Clock + Sync,
     R: Read + IsTerminal + Drop + Send,
@@ -110,7 +110,6 @@ fn obey<
                 &mut streams.notes,
             )
         }
-        Request::Console(order) => return run_console(rt, alloc, &order, streams),
         Request::Shell => run_shell(
             alloc,
             &mut streams.reader,
@@ -122,7 +121,7 @@ fn obey<
         Request::Help(text) => print_help(&text, &mut streams.writer),
         // A process of a pair runs over other streams.
         Request::Host(_order) => Ok(()),
-        Request::Hosts(_order) => Ok(()),
+        Request::Console(_order) => Ok(()),
     };
     (streams, ended)
 }

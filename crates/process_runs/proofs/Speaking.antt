@@ -6,7 +6,7 @@ use Rattle.std.proofs.lemmas.Bool.{and_parts, eqb-true}
 use Rattle.std.proofs.lemmas.Option.{same_Some}
 use Rattle.clone_state.specs.Parts.{PartMessage, message_bytes}
 use Rattle.guest_lockstep.specs.declared.reads.Reads.TheVariants.{Shared}
-use Rattle.host_frames.specs.Frames.{Said, Packet, Transfers, Tells, are_numbers, is_frame, is_number, is_standing}
+use Rattle.host_frames.specs.Frames.{Said, Packet, Transfers, Tells, are_measures, are_numbers, is_frame, is_number, is_standing}
 use Rattle.host_frames.specs.Meaning as meaning
 use Rattle.host_frames.specs.Meaning.{IsTold, Means, Speaks, covered_at, is_report}
 use Rattle.host_frames.specs.declared.frame.Notice.TheVariants.{Gone, Join, Progress, Report, Stop, Tick}
@@ -92,7 +92,7 @@ only_one drives node (Tells (Gone place)) f g r j p q = absurd p
 only_one drives node (Tells (Join generation place of count)) f g r j p q = absurd (cc)
 only_one drives node (Tells (Report report)) f g r j p q = absurd (cc)
 only_one drives node (Tells (Progress place entries count)) f g r j p q = absurd p
-only_one drives node (Tells Tick) f g r j p q = absurd p
+only_one drives node (Tells (Tick m n)) f g r j p q = absurd p
 only_one drives node (Tells Stop) f g r j p q = absurd p
 only_one drives node said f g r j p q = p ∙ sym q
 
@@ -139,8 +139,8 @@ told_port (a ∷ b ∷ c ∷ rest) port keys sent two at some came =
 two_ports : (report : host.Report) → is_frame (Tells (Report report)) ≡ true → (length report.covered == 2) ≡ true
 two_ports report fits =
     let a = and_parts (is_standing report.generation report.role)
-    (is_number report.count && (are_numbers report.taken && are_numbers report.covered)) fits in
-    let b = and_parts (is_number report.count) (are_numbers report.taken && are_numbers report.covered) a.1 in
+    (are_measures report && (are_numbers report.taken && are_numbers report.covered)) fits in
+    let b = and_parts (are_measures report) (are_numbers report.taken && are_numbers report.covered) a.1 in
     let c = and_parts (are_numbers report.taken) (are_numbers report.covered) b.1 in
     (and_parts (length report.covered == 2)
     (is_number (slice_index report.covered 0) && is_number (slice_index report.covered 1)) c.1).0

@@ -1,11 +1,25 @@
--- An input was read, and its console ended so.
-use Rattle.command_console.proofs.Served.{is_at_console}
+-- An opening was read, one was greeted, and sat at the pair of the input.
+use Rattle.std.proofs.Common.{Some, refl, subst}
+use Rattle.std.proofs.lemmas.Result.{IfOk-weaker}
+use Rattle.command_input.specs.Inputs.{IsInput}
+use Rattle.script_language.specs.Live.{live_script_of}
 use Rattle.command_console.proofs.console.run_console.Goals as goal
 
-pub returns-in-Ok : goal.returns-in-Ok
-returns-in-Ok g c =
-    is_at_console c.args.order.now c.in-Ok.input (g.R.Read.remaining c.args.streams.reader) _
-    (g.R.Read.remaining c.run_input.result.0.reader) (g.W.Write.contents c.args.streams.writer)
-    (g.W.Write.contents c.run_input.result.0.writer) (g.N.Write.contents c.args.streams.notes)
-    (g.N.Write.contents c.run_input.result.0.notes) c.run_input.result.1 c.in-Ok.ensures.opens c.run_input.ensures.served
-    c.run_input.ensures.failed
+pub returns : goal.returns
+returns g c = IfOk-weaker c.run_input.result _ _ (λ end run. record {
+  opening = c.in_ok-opening.opening.items;
+  many = c.in_ok-opening.ensures.0;
+  after = record {
+    reader = c.read_opening.new.reader;
+    writer = c.args.streams.writer;
+    notes = c.write_greeting.new.notes;
+  };
+  read = c.in_ok-opening.ensures.1;
+  writer_is = refl;
+  greeted = c.in_ok-write_greeting.ensures.greeted;
+  input = c.in_ok-input.input;
+  says = subst (λ l. IsInput live_script_of l (Some c.in_ok-opening.opening.items) c.in_ok-input.input) c.deref.ensures.value
+      (subst (λ l. IsInput live_script_of c.deref.result.now (Some l) c.in_ok-input.input) c.as_slice.ensures.value
+      c.in_ok-input.ensures);
+  run = run;
+}) c.run_input.ensures

@@ -8,5 +8,5 @@ returns g c = record {
   last = c.serve-end.new.session;
   went = c.serve-end.ensures.went;
   why = c.serve-end.ensures.why;
-  stopped = switched _ _ c.stop.ensures refl refl refl;
+  stopped = switched _ _ c.stop.ensures refl refl refl refl;
 }

@@ -22,3 +22,9 @@ returns-in-Progress-clause-ok c =
     (λ (body : List ℕ). OnOk c.append-in-Progress.result
     (c.append-in-Progress.new.out.items ≡ c.args.out.now.items ++ body))
     (c.progress_body.ensures ∙ ap notice_body (sym c.in-Progress.is)) c.append-in-Progress.ensures.ok
+
+pub returns-in-Tick-clause-ok : goal.returns-in-Tick-clause-ok
+returns-in-Tick-clause-ok c =
+    subst
+    (λ (body : List ℕ). OnOk c.append-in-Tick.result (c.append-in-Tick.new.out.items ≡ c.args.out.now.items ++ body))
+    (c.tick_body.ensures ∙ ap notice_body (sym c.in-Tick.is)) c.append-in-Tick.ensures.ok

@@ -1,14 +1,19 @@
--- The host was heard, and what is to be shown of it was.
-use Rattle.std.proofs.Common.{refl}
-use Rattle.outside_switch.specs.Passing.{passed_of}
-use Rattle.command_hosts.proofs.Going.{hears, types_nothing}
+-- The next body was heard, and counted.
+use Rattle.std.proofs.Common.{subst}
+use Rattle.command_hosts.specs.Floods.{came_of}
+use Rattle.command_hosts.specs.Judging.{Judges}
 use Rattle.command_hosts.proofs.session.Session.hear_next.Goals as goal
 
-pub tell-requires : goal.tell-requires
-tell-requires g c = c.rooms-rooms.ensures.room c.hear-heard.result c.hear-heard.ensures.room
-
-pub returns : goal.returns
-returns g c =
-    hears c.args.self.now c.rooms-rooms.new.self (record c.rooms-rooms.new.self { switch = c.hear-heard.new.self })
-    c.tell.new.self (passed_of c.hear-heard.result) (types_nothing c.hear-heard.result 0) (types_nothing c.hear-heard.result 1)
-    c.rooms-rooms.ensures.told c.hear-heard.ensures.goes refl refl refl c.tell.ensures
+pub returns-clause-hears : goal.returns-clause-hears
+returns-clause-hears g c =
+    let old = c.args.self.now in
+    let heard = c.hear_one-heard.result in
+    record {
+      heard = heard;
+      met = c.hear_one-heard.new.self;
+      hears = c.hear_one-heard.ensures.hears;
+      judges = subst (λ o. Judges (came_of heard o) c.args.place c.hear_one-heard.new.self c.judge.new.self)
+          c.is_open-is_open.ensures
+          (subst (λ came. Judges came c.args.place c.hear_one-heard.new.self c.judge.new.self) c.came_of.ensures
+          c.judge.ensures.judges);
+    }

@@ -7,4 +7,4 @@ use Rattle.command_hosts.proofs.session.Session.send_keys.Goals as goal
 pub returns : goal.returns
 returns g c =
     sends _ _ (seen c.send_keys.new.switch) c.send_keys.ensures.goes c.send_keys-2.ensures.goes c.send_keys.ensures.rests
-    c.send_keys-2.ensures.rests refl
+    c.send_keys-2.ensures.rests refl refl

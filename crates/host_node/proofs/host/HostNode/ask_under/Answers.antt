@@ -6,5 +6,5 @@ use Rattle.host_node.proofs.host.HostNode.ask_under.Goals as goal
 pub returns : goal.returns
 returns g c =
     place g.B.Lockstep.state g.B.Lockstep.machine g.B.Copies.copied _ _ _ c.args.sector c.in_ok-address.address c.in-Node.is refl
-    (record { number = refl; drives = refl }) (c.in_ok-say.ensures.came ∙ c.has_room.ensures.came)
+    (record { number = refl; drives = refl; rings = c.in_ok-say.ensures.rings ∙ c.has_room.ensures.rings }) (c.in_ok-say.ensures.came ∙ c.has_room.ensures.came)
     (said_since _ _ _ _ c.has_room.ensures.gone c.in_ok-say.ensures.gone) c.in_ok-address.ensures

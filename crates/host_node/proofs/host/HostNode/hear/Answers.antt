@@ -14,12 +14,12 @@ pub returns-in-Ok-clause-goes : goal.returns-in-Ok-clause-goes
 returns-in-Ok-clause-goes g c =
     and_then g.B.Lockstep.state g.B.Lockstep.machine g.B.Copies.copied c.args.self.now _ c.hear_frame.new.self
     (heard_one g.B.Lockstep.state g.B.Lockstep.machine g.B.Copies.copied c.args.self.now _ c.in-Some.body.items refl
-    (record { number = refl; drives = refl }) c.in-Some.ensures.came c.in-Some.ensures.gone)
+    (record { number = refl; drives = refl; rings = c.in-Some.ensures.rings }) c.in-Some.ensures.came c.in-Some.ensures.gone)
     c.hear_frame.ensures.goes
 
 pub returns-in-Ok-clause-why : goal.returns-in-Ok-clause-why
 returns-in-Ok-clause-why g c =
     errs_since g.B.Lockstep.state g.B.Lockstep.machine g.B.Copies.copied c.args.self.now _ c.hear_frame.new.self _
     (heard_one g.B.Lockstep.state g.B.Lockstep.machine g.B.Copies.copied c.args.self.now _ c.in-Some.body.items refl
-    (record { number = refl; drives = refl }) c.in-Some.ensures.came c.in-Some.ensures.gone)
+    (record { number = refl; drives = refl; rings = c.in-Some.ensures.rings }) c.in-Some.ensures.came c.in-Some.ensures.gone)
     c.hear_frame.ensures.why

@@ -9,7 +9,7 @@ use Rattle.host_node.proofs.host.HostNode.send_part.Goals as goal
 pub returns : goal.returns
 returns g c =
     part g.B.Lockstep.state g.B.Lockstep.machine g.B.Copies.copied _ _ _ c.args.self.now.peer c.args.index c.in-Ok.bytes (let few = c.if-index-from.false in let top = c.from.ensures in omega (arith, few, top))
-    c.in-Node.is refl (record { number = refl; drives = refl })
+    c.in-Node.is refl (record { number = refl; drives = refl; rings = c.in_ok-say.ensures.rings ∙ c.has_room.ensures.rings })
     (c.in_ok-say.ensures.came ∙ c.has_room.ensures.came)
     (said_since _ _ _ _ c.has_room.ensures.gone
     (subst (λ l. HasSaid (Packet c.args.self.now.peer l) c.has_room.new.self.gone c.say.new.self.gone) c.deref.ensures.value

@@ -1,7 +1,0 @@
--- The ring of the screen is finished.
-use Rattle.std.proofs.Common.{sym}
-use Rattle.console_hosts.proofs.Finishing.{finishes}
-use Rattle.console_hosts.proofs.showing.finish.Goals as goal
-
-pub returns : goal.returns
-returns c = finishes c.args.screen c.in_ok-into_ring.field-0 c.finish.result (sym c.in_ok-into_ring.ensures) c.finish.ensures

@@ -1,0 +1,111 @@
+-- When the threads at the two ends of a stream have ended.
+use Rattle.std.proofs.Common.{ℕ, suc, ◌≡◌, Option, Some, Ok, Err, List, [], ◌∷◌, ◌++◌, length, refl, sym, ap, ◌∙◌, subst}
+use Rattle.std.proofs.lemmas.Bool.{false≢true}
+use Rattle.std.specs.Global.{Global, Vec}
+use Rattle.std.specs.Prelude.{IfOk, IsOk, OnOk, Result}
+use Rattle.std.specs.Io.KnownBytes.{Appends, Consumes}
+use Rattle.std.specs.List.{AllByRecursion}
+use Rattle.frame_streams.proofs.Reading.{contents_both}
+use Rattle.frame_streams.proofs.Rings.{finished_of, one_ring, put_into_same, taken_from_same}
+use Rattle.frame_streams.proofs.Writing.{and_then}
+use Rattle.frame_streams.specs.Reading.{EndsWith, contents_of}
+use Rattle.frame_streams.specs.Rings.{Leaves}
+use Rattle.frame_streams.specs.Threads.{HasRead, HasWritten, ReadsInto, WasReadBut, WasWritten, WritesFrom, joined}
+use Rattle.frame_streams.specs.Writing.{WroteRest, bytes_of}
+use Rattle.frame_streams.specs.declared.reader.FrameReader.{FrameReader}
+use Rattle.frame_streams.specs.declared.read_thread.ReadEnd.{ReadEnd}
+use Rattle.frame_streams.specs.declared.writer.FrameWriter.{FrameWriter}
+use Rattle.host_frames.specs.Stream.{IsBody, stream_of}
+use Rattle.rtrb.specs.Ring.{Finishes, IsFinishedOf, IsPair, received, sent}
+use Rattle.rtrb.specs.declared.AnyItems.{AnyItems}
+use Rattle.rtrb.specs.declared.consumer.Consumer.{Consumer}
+use Rattle.rtrb.specs.declared.finished.Finished.{Finished}
+use Rattle.rtrb.specs.declared.producer.Producer.{Producer}
+
+-- ---- reading
+
+contents_length : (xs : List (Vec ℕ)) → length (contents_of xs) ≡ length xs
+contents_length [] = refl
+contents_length (x ∷ xs) = ap suc (contents_length xs)
+
+-- a reader over a new ring
+pub reads_into : {S : Type 0} (source : S) (pending : List ℕ) (to : Producer (Vec ℕ) Global AnyItems)
+    (from : Consumer (Vec ℕ) Global AnyItems) (reader : FrameReader S)
+    → reader ≡ record { source = source; pending = pending; bodies = to } → pending ≡ [] → sent to ≡ [] → IsPair to from
+    → ReadsInto source from reader
+reads_into source pending to from reader is none unsent pair = subst (λ (r : FrameReader _). ReadsInto source from r) (sym is)
+    (record { source_is = refl; none_pending = none; none_handed = unsent; ring = one_ring to from pair })
+
+module _ {S : Type 0} (left : S → Option (List ℕ)) where
+  -- the ring is the one that the reader has left
+  pub is_finished : (old : FrameReader S) (read : ReadEnd S) (bodies : Consumer (Vec ℕ) Global AnyItems)
+      (finished : Finished (Vec ℕ) Global AnyItems) → ReadsInto old.source bodies old → HasRead left old read
+      → read.finished ≡ Ok finished → IsFinishedOf finished bodies
+  is_finished old read bodies finished into has is =
+      finished_of has.new.bodies finished bodies
+      (into.ring ∙ sym (put_into_same old.bodies has.new.bodies has.reads.same))
+      (subst (λ o. IfOk o (Finishes has.new.bodies)) is has.finishes)
+
+  -- what was taken out, and then what is left, is all that was handed on
+  pub was_read : (old : FrameReader S) (read : ReadEnd S) (bodies : Consumer (Vec ℕ) Global AnyItems)
+      (finished : Finished (Vec ℕ) Global AnyItems) (count : ℕ) → ReadsInto old.source bodies old → HasRead left old read
+      → read.finished ≡ Ok finished → Leaves finished bodies count
+      → WasReadBut left old.source (contents_of (received bodies)) read.source read.end count
+  was_read old read bodies finished count into has is leaves =
+      let finishes : Finishes has.new.bodies finished = subst (λ o. IfOk o (Finishes has.new.bodies)) is has.finishes in
+      let handed : contents_of has.reads.bodies ≡ contents_of (received bodies) ++ contents_of leaves.rest =
+      ap contents_of (sym (leaves.all ∙ finishes.1 ∙ has.reads.handed ∙ ap (λ l. l ++ has.reads.bodies) into.none_handed))
+      ∙ contents_both (received bodies) leaves.rest in
+      record {
+        rest = contents_of leaves.rest;
+        counted = contents_length leaves.rest ∙ leaves.counted;
+        read = record {
+          taken = has.reads.taken;
+          rest = has.new.pending;
+          consumed = subst (λ s. Consumes (left old.source) (left s) has.reads.taken) (sym has.source_is) has.reads.consumed;
+          whole = subst (λ l. AllByRecursion IsBody l) handed has.reads.whole;
+          stream =
+              sym (ap (λ l. l ++ has.reads.taken) into.none_pending) ∙ has.reads.stream
+              ∙ ap (λ l. stream_of l ++ has.new.pending) handed;
+          over = subst (λ s. EndsWith (Some read.end) (left s) has.new.pending) (sym has.source_is) has.reads.over;
+        };
+      }
+
+-- ---- writing
+
+-- a writer over a new ring
+pub writes_from : {W : Type 0} (sink : W) (to : Producer (Vec ℕ) Global AnyItems) (from : Consumer (Vec ℕ) Global AnyItems)
+    (writer : FrameWriter W) → writer ≡ record { sink = sink; frames = from } → received from ≡ [] → IsPair to from
+    → WritesFrom sink to writer
+writes_from sink to from writer is none pair = subst (λ (w : FrameWriter _). WritesFrom sink to w) (sym is)
+    (record { sink_is = refl; none_came = none; ring = one_ring to from pair })
+
+joined_is : (frames : List (Vec ℕ)) → bytes_of frames ≡ joined (contents_of frames)
+joined_is [] = refl
+joined_is (x ∷ xs) = ap (λ l. x.items ++ l) (joined_is xs)
+
+-- what holds of a call that went well
+pub when_ok : {T E P : Type 0} (r : Result T E) → IsOk r → OnOk r P → P
+when_ok (Ok x) is p = p
+when_ok (Err e) is p = absurd (false≢true is)
+
+module _ {W : Type 0} (contents : W → Option (List ℕ)) where
+  -- the ring is the one into which nothing more is put
+  pub is_finished_too : (old new : FrameWriter W) (frames : Producer (Vec ℕ) Global AnyItems)
+      (finished : Finished (Vec ℕ) Global AnyItems) → WritesFrom old.sink frames old → HasWritten contents old new
+      → Finishes frames finished → IsFinishedOf finished new.frames
+  is_finished_too old new frames finished from has finishes =
+      finished_of frames finished new.frames (taken_from_same old.frames new.frames has.wrote.same ∙ from.ring) finishes
+
+  -- what it took out was written, and then all that was left
+  pub was_written : (old left : FrameWriter W) (frames : Producer (Vec ℕ) Global AnyItems)
+      (finished : Finished (Vec ℕ) Global AnyItems) (sink : W) → WritesFrom old.sink frames old → HasWritten contents old left
+      → Finishes frames finished → WroteRest contents left finished sink
+      → WasWritten contents old.sink (contents_of (sent frames)) sink
+  was_written old left frames finished sink from has finishes rest =
+      let wrote = and_then contents old left rest.new has.wrote rest.wrote in
+      let came : wrote.frames ≡ sent frames =
+      sym (ap (λ l. l ++ wrote.frames) from.none_came) ∙ sym wrote.came ∙ rest.all ∙ finishes.1 in
+      subst (λ s. Appends (contents old.sink) (contents s) (joined (contents_of (sent frames)))) (sym rest.sink_is)
+      (subst (λ l. Appends (contents old.sink) (contents rest.new.sink) l)
+      (ap bytes_of came ∙ joined_is (sent frames)) wrote.written)
