@@ -181,12 +181,12 @@ def a_sequence_that_is_cut_off_does_not_hold_the_row(command):
 
 @case
 def lines_are_written_where_the_cursor_is_if_there_is_no_row_for_them(command):
-    told = b"\r\npair: host 0 has failed, and host 1 asks to go on alone\r\n\r\npair: host 1 has won: "
+    told = rb"\r\npair: host 0 has failed, and host 1 asks to go on alone\r\n.*\r\npair: host 1 has won, and goes on alone\r\n"
     for words, how in ((["--lines", "here"], {}), ([], {"kind": "dumb"}), (["--lines=row"], {"size": (3, 100)}), ([], {"size": (24, 19)})):
         with looked_at(command(*words), **how) as console:
             console.await_shown(b"MONITOR\r\n*")
             console.say("stop 0")
-            console.await_shown(told)
+            console.await_that(lambda: re.search(told, console.shown, re.DOTALL), "the lines")
             expect((console.quit(), console.shown.count(b"\x1b")), (0, 0), "the status, and the sequences")
 
 
@@ -207,12 +207,32 @@ def a_program_by_itself_hands_lines_over_only_if_it_is_told_to(command):
         program = os.readlink(f"/proc/{console.program()}/exe")
         expect(console.quit(), 0, "the status")
     line = b"pair: generation 1: host 0 is the primary, host 1 its backup"
-    halts = b"mem 0000 76\n"
     for words in ([], ["--mark", "=="], ["--apart"], ["--apart", "--mark", "=="]):
         told = b"====%s==" if len(words) == 3 else b"\r\n%s\r\n"
-        alone = subprocess.run([program, "console", "--before", str(len(halts)), *words], input=halts, capture_output=True, timeout=PATIENCE)
+        alone = by_itself(program, b"", *words)
         said = alone.stderr.partition(b" lists them.\r\n")[2]
-        expect((alone.returncode, said), (0, told % line), f"the status, and what is said with {words}")
+        expect((alone.returncode, alone.stdout[:1], said), (0, b"A", told % line), f"the status, and what is said with {words}")
+
+
+# A guest that prints A and halts: MVI A,03; OUT 10; MVI A,15; OUT 10; MVI A,41; OUT 11; HLT.
+PRINTS_A = b"mem 0000 3E 03 D3 10 3E 15 D3 10 3E 41 D3 11 76\n"
+
+
+def by_itself(program, keys, *words):
+    """How a program ends that runs a console without ./pair, with two hosts, whose guest prints A and halts."""
+    before = ["--before", str(len(PRINTS_A))]
+    with folder() as room:
+        hosts = []
+        for place, role in enumerate(("primary", "backup")):
+            for end in ("in", "out"):
+                os.mkfifo(room / f"{place}.{end}")
+            starts = ["sh", "-c", 'pipes=$1; shift; exec "$@" < "$pipes.in" > "$pipes.out"', "host", room / str(place)]
+            hosts.append(subprocess.Popen([*starts, program, "host", "--role", role, *before], stderr=subprocess.DEVNULL))
+        console = [program, "console", "--folder", room, "--places", "2", *before, *words]
+        alone = subprocess.run(console, input=PRINTS_A + keys, capture_output=True, timeout=PATIENCE)
+        for host in hosts:
+            host.wait(PATIENCE)
+        return alone
 
 
 def drawn_in(path):
@@ -238,8 +258,6 @@ def a_picture_has_what_became_of_the_hosts(command):
             expect([it for it in texts if it.startswith("host ")], ["host 0", "host 1", "host 2", "host 3"], "the columns")
             told = ["generation 1: primary", "generation 2: primary", "generation 3: primary", "goes on alone"]
             expect([it for it in told if it not in texts], [], "what is not said")
-            replayed = [it for it in texts if re.fullmatch(r"replayed \d+ steps in \d+\.\d ms", it)]
-            expect(len(replayed), 1, "how often it says what was replayed")
             expect(console.quit(), 0, "the status")
 
 
@@ -259,6 +277,6 @@ def a_picture_that_cannot_be_written_is_named_with_the_reason(command):
         expect(os.listdir(room), ["sub"], "the files")
         program = os.readlink(f"/proc/{console.program()}/exe")
         expect(console.quit(), 0, "the status")
-    alone = subprocess.run([program, "console"], input=b"\x05picture a.svg\r\x05quit\r", capture_output=True, timeout=PATIENCE)
-    needs = b"`picture` needs the command `./pair console`" in alone.stderr
-    expect((alone.returncode, needs), (0, True), "the status, and what the program says by itself")
+    alone = by_itself(program, b"\x05picture a.svg\r\x05save 0 a.dsk\r\x05quit\r")
+    needs = alone.stderr.count(b"that needs the command `./pair`")
+    expect((alone.returncode, needs), (0, 2), "the status, and how often the program says by itself what it needs")
