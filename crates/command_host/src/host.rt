@@ -35,9 +35,6 @@ const STEPS: u64 = 10_000;
 // How often it says that it is there, in microseconds.
 const BEAT: u64 = 100_000;
 
-// How many milliseconds pass between two ticks of the outside.
-const TICK: u64 = 50;
-
 // How many frames wait on a ring at most.
 const FRAMES: usize = 1_024;
 
@@ -158,11 +155,11 @@ fn heard_of<
     }
 }
 
-// How its loop goes. The outside ticks only while it runs itself, so that nobody is suspected because it was stopped.
+// How its loop goes.
 fn settings(order: &HostOrder) -> Settings {
     Settings {
         steps: STEPS,
-        patience: u32::try_from(order.patience / TICK).unwrap_or(u32::MAX),
+        patience: order.patience.saturating_mul(1_000),
         beat: BEAT,
     }
 }

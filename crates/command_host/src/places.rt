@@ -83,7 +83,7 @@ fn read_place<H: Threads + Wait + Clock + Copy + Drop + Send + Sync + 'static>(
 }
 
 // Starts the thread that gives the host at a place what comes first, and writes frames to it.
-fn write_place<H: Threads + Wait + Copy + Drop + Send + Sync + 'static>(
+fn write_place<H: Threads + Wait + Clock + Copy + Drop + Send + Sync + 'static>(
     rt: H,
     alloc: Global,
     pipes: &Pipes<'_>,

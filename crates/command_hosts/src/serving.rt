@@ -3,14 +3,15 @@ ghost use Rattle.command_hosts.specs.Runs.{Ended, IsWhy, Went};
 
 use crate::session::{HostsEnd, Session};
 use crate::steward::Steward;
+use frame_streams::{Rests, micros};
 use shared_disk::SectorStore;
 use std::alloc::Global;
 use std::sync::Wait;
 use std::thread::Parker;
-use std::time::{Clock, Duration};
+use std::time::Clock;
 
-/// For how many milliseconds the loop rests if nothing comes and nobody wakes it.
-const REST: u64 = 5;
+// How many microseconds the loop rests if nobody wakes it.
+const REST: u64 = 5_000;
 
 /// Serves the hosts until there is a reason to end, and then tells them to stop. Whoever has something for the outside wakes it
 /// through the parker.
@@ -38,24 +39,18 @@ fn serve<D: SectorStore, S: Steward + Drop, C: Wait + Clock>(
     ensures went { Went session.old session.new }
     ensures why { IsWhy result session.new }
 {
+    let mut rests = Rests::new(0);
     for _ in rt.forever() {
         let now = micros(rt, session.moments.turned);
         let is_busy = session.turn(alloc, now);
         if let Some(end) = session.end(now) {
             return end;
         }
-        let may_rest = session.may_rest(is_busy);
-        if may_rest {
-            wake.park_timeout(rt, Duration::from_millis(REST));
+        if is_busy {
+            rests.find(now);
+        } else {
+            rests.rest(rt, now, wake, REST);
         }
     }
     unreachable!()
-}
-
-// The time; as before, if the clock does not tell.
-fn micros<C: Clock>(clock: &C, before: u64) -> u64 {
-    let Ok(time) = clock.monotonic() else {
-        return before;
-    };
-    u64::try_from(time.as_micros()).unwrap_or(before)
 }

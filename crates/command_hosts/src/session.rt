@@ -62,8 +62,6 @@ pub(crate) struct Moments {
     pub(crate) begun: u64,
     // A key was typed, or the pair has shown or written something.
     pub(crate) moved: u64,
-    // In how many turns nothing has come.
-    pub(crate) idle: u64,
     // The user has asked for the end; and the number of the last tick by then.
     pub(crate) asked: Option<(u64, u64)>,
     // Which host is live, and of which generation.
@@ -101,7 +99,6 @@ impl<D: SectorStore, S: Steward + Drop> Session<D, S> {
                 tick: 0,
                 begun: 0,
                 moved: 0,
-                idle: 0,
                 asked: None,
                 live: None,
             },

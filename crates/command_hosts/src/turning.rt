@@ -30,9 +30,6 @@ const TICK: u64 = 50_000;
 /// After how many microseconds a host that is alone is told again to begin.
 const BEGIN: u64 = 500_000;
 
-/// After how many turns in which nothing comes the loop rests.
-const IDLE_TURNS: u64 = 20;
-
 /// For how many microseconds nothing may be written and shown by a guest that runs.
 const SILENT: u64 = 10_000_000;
 
@@ -372,19 +369,6 @@ impl<D: SectorStore, S: Steward + Drop> Session<D, S> {
         self.switch.tick(alloc, self.moments.tick, speed);
         self.steward
             .looks(self.switch.lines(), self.flood.all_refused());
-    }
-
-    /// Whether the loop may rest: nothing has come for some turns. What wakes it takes longer than these.
-    #[tactic(auto, using(crate::proofs::Going::same))]
-    pub(crate) fn may_rest(&mut self, is_busy: bool) -> bool
-        ensures { Went self.old self.new }
-    {
-        if is_busy {
-            self.moments.idle = 0;
-            return false;
-        }
-        self.moments.idle = self.moments.idle.saturating_add(1);
-        self.moments.idle > IDLE_TURNS
     }
 
     /// Why all ends now, if it does.

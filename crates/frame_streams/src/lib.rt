@@ -4,11 +4,13 @@
 mod failures;
 mod read_thread;
 mod reader;
+mod resting;
 mod write_thread;
 mod writer;
 
 pub use failures::{Deserted, ReadFailed, Unwritten, WriteFailed};
 pub use read_thread::{ReadEnd, ReadStream, Reading, ReadsAll, end_reading, start_reading};
 pub use reader::{FrameReader, StreamEnd, read_frames};
+pub use resting::{Rests, micros};
 pub use write_thread::{WritesAll, Writing, WrittenStream, end_writing, start_writing};
 pub use writer::{FrameWriter, write_frames};

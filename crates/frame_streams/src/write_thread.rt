@@ -14,6 +14,7 @@ use std::io::Write;
 use std::snapshot::Snapshot;
 use std::sync::{Arc, Wait};
 use std::thread::{self, Parker, Promise, PromisedHandle, Threads};
+use std::time::Clock;
 
 /// What came to the thread of a writer was written, if no write fails.
 #[derive(Drop)]
@@ -33,7 +34,7 @@ pub type Writing<W> = PromisedHandle<(FrameWriter<W>, Result<(), WriteFailed>), 
 /// write fails.
 #[tactic(auto, using(crate::proofs::Threads::writes_from))]
 pub fn start_writing<
-    H: Threads + Wait + Copy + Drop + Send + Sync + 'static,
+    H: Threads + Wait + Clock + Copy + Drop + Send + Sync + 'static,
     W: Write + Drop + Send + 'static,
 >(rt: H, alloc: Global, capacity: usize, sink: W) -> R<(Producer<Vec<u8>>, Arc<Parker>, Writing<W>)>
     ensures writes { IfOk result (λ started. WritesFrom sink started.0 started.2.promise.writer.value) }
@@ -49,7 +50,7 @@ pub fn start_writing<
 
 // Starts the thread of a writer.
 fn spawn_writer<
-    H: Threads + Wait + Copy + Drop + Send + Sync + 'static,
+    H: Threads + Wait + Clock + Copy + Drop + Send + Sync + 'static,
     W: Write + Drop + Send + 'static,
 >(rt: H, writer: FrameWriter<W>, wake: Arc<Parker>) -> R<Writing<W>>
     ensures { IfOk result (λ writing. writing.promise.writer.value ≡ writer) }
@@ -73,7 +74,7 @@ pub struct WrittenStream<W> {
 /// Puts nothing more into the ring, waits until its thread has ended, writes what that has left in the ring, and returns the
 /// stream. A write or a flush may have failed then, before all is written.
 pub fn end_writing<
-    H: Threads + Wait + Copy + Drop + Send + Sync + 'static,
+    H: Threads + Wait + Clock + Copy + Drop + Send + Sync + 'static,
     W: Write + Drop + Send + 'static,
 >(rt: H, writing: Writing<W>, frames: Producer<Vec<u8>>) -> WrittenStream<W>
     requires { WritesFrom writing.promise.writer.value.sink frames writing.promise.writer.value }

@@ -4,17 +4,18 @@ ghost use Rattle.rtrb.specs.Ring.{IsFinishedOf, SameConsumer, all_sent, known_it
 ghost use Rattle.frame_streams.specs.Writing.{Wrote};
 
 use crate::failures::{WriteFailed, flush, put};
+use crate::resting::{Rests, micros};
 use rtrb::{Consumer, Finished};
 use std::io::Write;
 use std::sync::Wait;
 use std::thread::Parker;
-use std::time::Duration;
+use std::time::Clock;
 
 /// How many frames are written at once, at most.
 const MOST_AT_ONCE: usize = 64;
 
-/// How many milliseconds it rests if nobody wakes it.
-const REST: u64 = 50;
+// How many microseconds it rests if nobody wakes it.
+const REST: u64 = 50_000;
 
 /// A stream, and the spelled frames that are to be written to it.
 #[derive(Drop)]
@@ -25,7 +26,7 @@ pub struct FrameWriter<W> {
 
 /// Writes each frame once and in order, several at once if several wait, until no more can come. Whoever sends frames wakes it
 /// through the parker. Ends at the first write that fails; what comes after that is not written.
-pub fn write_frames<C: Wait, W: Write + Drop>(
+pub fn write_frames<C: Wait + Clock, W: Write + Drop>(
     rt: &C,
     mut writer: FrameWriter<W>,
     wake: &Parker,
@@ -40,19 +41,23 @@ pub fn write_frames<C: Wait, W: Write + Drop>(
 impl<W: Write> FrameWriter<W> {
     // Writes what comes until no more can come.
     #[tactic(auto, using(crate::proofs::Writing::nothing_yet, crate::proofs::Writing::and_then))]
-    fn write_all<C: Wait>(&mut self, rt: &C, wake: &Parker) -> Result<(), WriteFailed>
+    fn write_all<C: Wait + Clock>(&mut self, rt: &C, wake: &Parker) -> Result<(), WriteFailed>
         ensures wrote { OnOk result (Wrote W.contents self.old self.new) }
         ensures rest { OnOk result (known_items self.new.frames ≡ []) }
     {
+        let mut now = micros(rt, 0);
+        let mut rests = Rests::new(now);
         for _ in rt.forever() {
             let is_over = self.frames.is_abandoned();
+            now = micros(rt, now);
             if self.write_some()? {
+                rests.find(now);
                 continue;
             }
             if is_over {
                 return Ok(());
             }
-            wake.park_timeout(rt, Duration::from_millis(REST));
+            rests.rest(rt, now, wake, REST);
         }
         unreachable!()
     }

@@ -12,6 +12,9 @@ use replayer::Replayed;
 /// How long a frame of the outside's clock is, in microseconds: it sends a tick so often.
 pub const TICK: u64 = 50_000;
 
+// A peer that was not heard for fewer ticks is not suspected: the first may come before its beats do.
+const FEWEST_TICKS: u64 = 2;
+
 /// After how many microseconds what was sent is sent again.
 pub const AGAIN: u64 = 100_000;
 
@@ -20,8 +23,8 @@ pub const AGAIN: u64 = 100_000;
 pub struct Settings {
     /// How many moves a node makes in one turn at most.
     pub steps: u64,
-    /// For how many ticks of the outside a peer may be silent.
-    pub patience: u32,
+    /// For how long a peer may be silent.
+    pub patience: u64,
     /// How often a host says that it is there.
     pub beat: u64,
 }
@@ -46,8 +49,9 @@ pub enum End {
 #[derive(Clone, Copy)]
 pub struct Pace {
     pub now: u64,
-    // How many ticks came since the peer was heard, and whether its stream has ended.
-    pub silent: u32,
+    // When the peer was last heard, how many ticks came since then, and whether its stream has ended.
+    pub heard_at: u64,
+    pub silent: u64,
     pub is_gone: bool,
     // When the arbiter was last asked.
     pub asked_at: u64,
@@ -89,6 +93,7 @@ impl Pace {
     pub fn new(now: u64) -> Pace {
         Pace {
             now,
+            heard_at: now,
             silent: 0,
             is_gone: false,
             asked_at: 0,
@@ -123,9 +128,12 @@ impl Pace {
         self.now.saturating_sub(since) >= time
     }
 
-    /// Whether a peer that may be silent for so many ticks has been so for longer, or is gone.
-    pub fn is_suspected(&self, patience: u32) -> bool {
-        self.is_gone || self.silent > patience
+    /// Whether a peer that may be silent for so long has been so, or is gone. It was silent for that long by the host's own
+    /// clock, and for three quarters of it by the outside's ticks, which do not come while the outside is stopped: then beats
+    /// do not come either, and nobody is suspected for that.
+    pub fn is_suspected(&self, patience: u64) -> bool {
+        let ticks = (patience / TICK * 3 / 4).max(FEWEST_TICKS);
+        self.is_gone || self.is_past(self.heard_at, patience) && self.silent >= ticks
     }
 
     /// After a while everything that is outstanding is released again, from the first.
@@ -148,9 +156,9 @@ impl Pace {
     /// Takes in what was heard of the host's peer, at this place of the switch.
     pub fn note(&mut self, heard: Heard, peer: u8) {
         match heard {
-            Heard::Beat => self.silent = 0,
+            Heard::Beat => self.hear_peer(),
             Heard::Entry => {
-                self.silent = 0;
+                self.hear_peer();
                 self.owes_acknowledgement = true;
             }
             Heard::Acknowledged(covered) => self.note_acknowledged(covered),
@@ -181,8 +189,20 @@ impl Pace {
         }
     }
 
-    fn note_acknowledged(&mut self, covered: u64) {
+    // The peer is there.
+    fn hear_peer(&mut self) {
         self.silent = 0;
+        self.heard_at = self.now;
+    }
+
+    // The peer is another one now, or none.
+    fn change_peer(&mut self) {
+        self.hear_peer();
+        self.is_gone = false;
+    }
+
+    fn note_acknowledged(&mut self, covered: u64) {
+        self.hear_peer();
         self.is_copying = false;
         if covered > self.acknowledged {
             self.acknowledged_at = self.now;
@@ -192,7 +212,7 @@ impl Pace {
     }
 
     fn note_part(&mut self, came: PartCame) {
-        self.silent = 0;
+        self.hear_peer();
         self.owes_parts = true;
         match came {
             PartCame::Old => {}
@@ -205,7 +225,7 @@ impl Pace {
     }
 
     fn note_parts(&mut self, parts: u64) {
-        self.silent = 0;
+        self.hear_peer();
         if parts > self.parts {
             self.parts = parts;
             self.parts_at = self.now;
@@ -222,8 +242,7 @@ impl Pace {
 
     // The node has won: it has no peer, and what is outstanding is released anew.
     fn forget_peer(&mut self) {
-        self.silent = 0;
-        self.is_gone = false;
+        self.change_peer();
         self.next_byte = [0; PORTS];
         self.next_write = 0;
         self.asked_disk_at = None;
@@ -231,8 +250,7 @@ impl Pace {
 
     // The node is the primary of a new generation, whose backup is given the image.
     fn begin(&mut self) {
-        self.silent = 0;
-        self.is_gone = false;
+        self.change_peer();
         self.next_entry = 0;
         self.acknowledged = 0;
         self.acknowledged_at = self.now;
@@ -245,8 +263,7 @@ impl Pace {
 
     // The host is given an image.
     fn join(&mut self) {
-        self.silent = 0;
-        self.is_gone = false;
+        self.change_peer();
         self.parts_here = 0;
         self.owes_parts = false;
         self.lag = Lag::new();

@@ -8,15 +8,19 @@ use crate::host::HostNode;
 use crate::pace::{End, Pace, Settings, TICK};
 use crate::reporting::Known;
 use clone_state::Copies;
+use frame_streams::{Rests, micros};
 use i8080_words::{Fault, R};
 use key_room::{KeyRoom, OutstandingWrites};
 use pair_events::Role;
 use std::sync::Wait;
 use std::thread::Parker;
-use std::time::{Clock, Duration};
+use std::time::Clock;
 
 // How many frames are taken in one turn at most.
 const FRAMES: u32 = 512;
+
+// How many microseconds the loop rests if nobody wakes it.
+const REST: u64 = TICK / 10;
 
 /// A host and its loop's times.
 #[derive(Drop)]
@@ -55,14 +59,17 @@ impl<B: Copies<H> + KeyRoom + OutstandingWrites + Drop, H: Drop> Serving<B, H> {
         ensures goes { Goes B.state B.machine B.copied self.old.host self.new.host }
         ensures why { IsEnd B.state B.machine B.copied result self.old.host self.new.host }
     {
+        let mut rests = Rests::new(self.pace.now);
         for _ in rt.forever() {
             self.pace.now = micros(rt, self.pace.now);
             let is_busy = match self.turn() {
                 Ok(is_busy) => is_busy,
                 Err(end) => return end,
             };
-            if !is_busy {
-                wake.park_timeout(rt, Duration::from_micros(TICK / 10));
+            if is_busy {
+                rests.find(self.pace.now);
+            } else {
+                rests.rest(rt, self.pace.now, wake, REST);
             }
         }
         unreachable!()
@@ -224,7 +231,8 @@ impl<B: Copies<H> + KeyRoom + OutstandingWrites + Drop, H: Drop> Serving<B, H> {
         Ok(())
     }
 
-    // Says to the peer at each beat that the host is there. A backup acknowledges.
+    // Says to the peer at each beat that the host is there. A backup acknowledges too: a link that loses packets, whose
+    // bytes are acknowledgements, passes a beat.
     #[tactic(auto, using(crate::proofs::Going::stays, crate::proofs::Going::and_then))]
     fn beat_to_peer(&mut self, is_time: bool) -> R<()>
         ensures { Goes B.state B.machine B.copied self.old.host self.new.host }
@@ -241,6 +249,7 @@ impl<B: Copies<H> + KeyRoom + OutstandingWrites + Drop, H: Drop> Serving<B, H> {
             }
             Some(Role::Backup) => {
                 self.pace.owes_acknowledgement = true;
+                self.host.beat()?;
                 Ok(())
             }
             _ => Ok(()),
@@ -297,12 +306,4 @@ fn end_of_repeating(fault: Fault) -> End
         Fault::Malformed => End::Diverged,
         _ => End::OutOfMemory,
     }
-}
-
-// The time; as before, if the clock does not tell.
-fn micros<C: Clock>(clock: &C, before: u64) -> u64 {
-    let Ok(time) = clock.monotonic() else {
-        return before;
-    };
-    u64::try_from(time.as_micros()).unwrap_or(before)
 }

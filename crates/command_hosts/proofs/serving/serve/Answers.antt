@@ -6,12 +6,6 @@ pub returns-in-Some-end-clause-went : goal.returns-in-Some-end-clause-went
 returns-in-Some-end-clause-went g c =
     and_then _ _ _ (and_then _ _ _ c.loop.invariant c.turn-is_busy.ensures) c.end.ensures.went
 
-pub loop-preserved-then-may_rest : goal.loop-preserved-then-may_rest
-loop-preserved-then-may_rest g c =
-    and_then _ _ _ (and_then _ _ _ (and_then _ _ _ c.loop.invariant c.turn-is_busy.ensures) c.end.ensures.went)
-    c.may_rest-may_rest.ensures
-
 pub loop-preserved : goal.loop-preserved
 loop-preserved g c =
-    and_then _ _ _ (and_then _ _ _ (and_then _ _ _ c.loop.invariant c.turn-is_busy.ensures) c.end.ensures.went)
-    c.may_rest-may_rest.ensures
+    and_then _ _ _ (and_then _ _ _ c.loop.invariant c.turn-is_busy.ensures) c.end.ensures.went
