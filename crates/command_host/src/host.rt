@@ -1,5 +1,6 @@
 //! One host in a process: what it boots with and then frames come on one stream, and frames go on another.
-ghost use Rattle.std.specs.Prelude.{◌≡◌, IfOk, IfSome, IsSome};
+ghost use Rattle.std.specs.Io.Buffered.{writer_buffer, writer_inner};
+ghost use Rattle.std.specs.Prelude.{◌≡◌, [], IfOk, IfSome, IsSome};
 ghost use Rattle.command_host.specs.Serving.{HasServed};
 ghost use Rattle.event_callbacks.specs.Keeping.{Keeps};
 ghost use Rattle.event_callbacks.specs.declared.devices.TheConstants.{SECTOR, SENT, WRITTEN};
@@ -20,11 +21,11 @@ use frame_streams::{
 };
 use guest_board::Setup;
 use host_node::{End, Mail, Settings, serve};
-use i8080_words::R;
+use i8080_words::{Fault, R};
 use key_room::{KeyRoom, OutstandingWrites};
 use rtrb::Consumer;
 use std::alloc::Global;
-use std::io::{Read, Write};
+use std::io::{BufWriter, Read, Write};
 use std::sync::{Arc, Wait};
 use std::thread::{Parker, Threads};
 use std::time::Clock;
@@ -63,6 +64,7 @@ pub fn run_host<
         &order.images,
         &mut opening.as_slice(),
     )?;
+    let writer = buffered(alloc, writer)?;
     let served = run_setup(
         rt,
         alloc,
@@ -74,6 +76,16 @@ pub fn run_host<
         plain_completions::written,
     )?;
     Ok(served.end)
+}
+
+/// The stream, but that several frames are written to it at once.
+pub(crate) fn buffered<W: Write + Drop>(alloc: Global, writer: W) -> R<BufWriter<W>>
+    ensures { IfOk result (λ stream. (writer_inner stream ≡ writer) × (writer_buffer stream ≡ [])) }
+{
+    match BufWriter::new(alloc, writer) {
+        Ok(writer) => Ok(writer),
+        Err(_) => Err(Fault::OutOfMemory),
+    }
 }
 
 // Runs a host whose pair has the machine of this setup.

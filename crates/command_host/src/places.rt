@@ -1,6 +1,7 @@
 //! The places of hosts at the outside: two named pipes for each, opened by the threads that read and write them.
 ghost use Rattle.command_host.specs.Places.{AddsPlaces};
 
+use crate::host::buffered;
 use command_hosts::{Session, Steward};
 use frame_streams::{FrameReader, FrameWriter, read_frames, write_frames};
 use host_frames::FrameBuffer;
@@ -97,7 +98,10 @@ fn write_place<H: Threads + Wait + Clock + Copy + Drop + Send + Sync + 'static>(
     let wake = Arc::try_clone(&theirs)?;
     let opening = Arc::try_clone(pipes.opening)?;
     let thread = thread::spawn(&rt, move || {
-        let Ok(mut sink) = OpenOptions::new().write(true).open(&files, path.as_str()) else {
+        let Ok(sink) = OpenOptions::new().write(true).open(&files, path.as_str()) else {
+            return;
+        };
+        let Ok(mut sink) = buffered(alloc, sink) else {
             return;
         };
         if sink.write_all(opening.as_slice()).is_ok() {

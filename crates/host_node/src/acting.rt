@@ -16,6 +16,12 @@ use key_room::{KeyRoom, OutstandingWrites};
 // How many steps a guest makes before it is offered its next key, unless it idles.
 const BETWEEN_KEYS: u64 = 300;
 
+// How many steps are made in a turn at most while somebody waits for the guest, so that its loop soon looks for what comes.
+const FEW_STEPS: u64 = 500;
+
+// For how many microseconds somebody waits for a guest that was given something.
+const MOMENT: u64 = 1_000;
+
 // How many entries are sent in one turn at most, and how many parts are under way.
 const ENTRIES: u64 = 256;
 
@@ -117,6 +123,7 @@ impl<B: Copies<H> + KeyRoom + OutstandingWrites + Drop, H: Drop> Serving<B, H> {
         let has_taken = first | second;
         if has_taken {
             self.pace.key_at = count;
+            self.pace.given_at = self.pace.now;
             self.pace.is_idle = false;
         }
         Ok(has_taken)
@@ -162,7 +169,24 @@ impl<B: Copies<H> + KeyRoom + OutstandingWrites + Drop, H: Drop> Serving<B, H> {
     {
         let now = self.pace.now;
         self.pace.speed.see(now);
-        self.pace.speed.turns(now, self.settings.steps)
+        self.pace.speed.turns(now, self.most_steps())
+    }
+
+    // How many steps are made in a turn at most: few while somebody waits for the guest.
+    pub(crate) fn most_steps(&self) -> u64 {
+        let is_awaited = self.has_outstanding() || !self.pace.is_past(self.pace.given_at, MOMENT);
+        if is_awaited {
+            return FEW_STEPS.min(self.settings.steps);
+        }
+        self.settings.steps
+    }
+
+    // Whether something of the guest is on its way to or from a device.
+    pub(crate) fn has_outstanding(&self) -> bool {
+        self.pace.asked_disk_at.is_some()
+            || self.host.due_byte(0).is_some()
+            || self.host.due_byte(1).is_some()
+            || self.host.writes() > 0
     }
 
     // Makes steps, unless they were too many for the guest's speed.
@@ -373,7 +397,7 @@ impl<B: Copies<H> + KeyRoom + OutstandingWrites + Drop, H: Drop> Serving<B, H> {
     fn replay(&mut self) -> R<bool>
         ensures { Goes B.state B.machine B.copied self.old.host self.new.host }
     {
-        let replayed = self.host.replay(self.settings.steps)?;
+        let replayed = self.host.replay(self.most_steps())?;
         self.pace.note_replayed(&replayed);
         self.fetch(replayed.why)?;
         Ok(replayed.moves > 0)

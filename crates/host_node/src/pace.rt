@@ -68,8 +68,9 @@ pub struct Pace {
     pub parts_here: u16,
     pub owes_parts: bool,
     pub owes_acknowledgement: bool,
-    // The count at which a key was last taken, and whether the guest waits for an input.
+    // The count at which a key was last taken, and when a key was taken or an entry came; whether the guest waits for an input.
     pub key_at: u64,
+    pub given_at: u64,
     pub is_idle: bool,
     // The numbers from which on bytes of each port and writes are to be released, and since when.
     pub next_byte: [u64; PORTS],
@@ -108,6 +109,7 @@ impl Pace {
             owes_parts: false,
             owes_acknowledgement: false,
             key_at: 0,
+            given_at: now,
             is_idle: false,
             next_byte: [0; PORTS],
             next_write: 0,
@@ -159,6 +161,7 @@ impl Pace {
             Heard::Beat => self.hear_peer(),
             Heard::Entry => {
                 self.hear_peer();
+                self.given_at = self.now;
                 self.owes_acknowledgement = true;
             }
             Heard::Acknowledged(covered) => self.note_acknowledged(covered),

@@ -268,11 +268,7 @@ impl<B: Copies<H> + KeyRoom + OutstandingWrites + Drop, H: Drop> Serving<B, H> {
 
     // Whether the guest waits for a key, and nothing of it is on its way to a device.
     fn is_at_rest(&self) -> bool {
-        self.pace.is_idle
-            && self.pace.asked_disk_at.is_none()
-            && self.host.due_byte(0).is_none()
-            && self.host.due_byte(1).is_none()
-            && self.host.writes() == 0
+        self.pace.is_idle && !self.has_outstanding()
     }
 
     // Whether the outside was not told yet what the host is, or how many keys it has taken and covered.
