@@ -98,13 +98,13 @@ fn write_place<H: Threads + Wait + Clock + Copy + Drop + Send + Sync + 'static>(
     let wake = Arc::try_clone(&theirs)?;
     let opening = Arc::try_clone(pipes.opening)?;
     let thread = thread::spawn(&rt, move || {
-        let Ok(sink) = OpenOptions::new().write(true).open(&files, path.as_str()) else {
+        let Ok(mut sink) = OpenOptions::new().write(true).open(&files, path.as_str()) else {
             return;
         };
-        let Ok(mut sink) = buffered(alloc, sink) else {
+        if sink.write_all(opening.as_slice()).is_err() {
             return;
-        };
-        if sink.write_all(opening.as_slice()).is_ok() {
+        }
+        if let Ok(sink) = buffered(alloc, sink) {
             let _ = write_frames(&rt, FrameWriter { sink, frames }, &wake);
         }
     });
