@@ -397,7 +397,8 @@ impl<B: Copies<H> + KeyRoom + OutstandingWrites + Drop, H: Drop> Serving<B, H> {
     fn replay(&mut self) -> R<bool>
         ensures { Goes B.state B.machine B.copied self.old.host self.new.host }
     {
-        let replayed = self.host.replay(self.most_steps())?;
+        let most = self.most_steps();
+        let replayed = self.host.replay(most)?;
         self.pace.note_replayed(&replayed);
         self.fetch(replayed.why)?;
         Ok(replayed.moves > 0)

@@ -49,7 +49,8 @@ impl<B: Copies<H> + KeyRoom + OutstandingWrites + Drop, H: Drop> Serving<B, H> {
         let Some(lead) = self.pace.lag.heard() else {
             return Ok(false);
         };
-        let stopped = self.host.run_ahead(lead, self.most_steps())?;
+        let most = self.most_steps();
+        let stopped = self.host.run_ahead(lead, most)?;
         match stopped.reason {
             StopReason::Refused(Fault::OutOfMemory) if stopped.steps == 0 => {
                 Err(Fault::OutOfMemory)
