@@ -22,11 +22,13 @@ SOON = 10
 # A link, with what it leads to; a code span.
 LINK = re.compile(r"\[[^]]*\]\(([^)\s]+)\)")
 SPAN = re.compile(r"`([^`]+)`")
-# A file that a page names from the top of the repository, unless a part of its path stands for others.
+# A file that a page names from the top of the repository, unless a part of its path stands for others, or is made by the toolchain.
 FILE = re.compile(r"(?<![\w/])(?:crates|docs|tests|tools|bench|examples|mistakes|\.ci)/[\w./*-]+")
-VARIABLE = re.compile(r"\b(?:NAME|CRATE|FILE)\b|\.\.")
+VARIABLE = re.compile(r"\b(?:NAME|CRATE|FILE)\b|\.\.|/out/")
 # A page that is named by its path, and perhaps a title in it.
 NAMED = re.compile(r'docs/([A-Z_]+)\.md(?:,\s+"([^"]+)")?')
+# A name of something, of a crate, a file of definitions, or a type.
+OF = re.compile(r"`(\w+(?:::\w+)*)`(?: \([^()]*\))? of\s+`(\w+)`")
 # Files that are no pages and may name some.
 OTHERS = ("crates/*/src/**/*.rt", "crates/*/specs/**/*.antt", "crates/*/proofs/**/*.antt", "tests/*", "tools/*", "mistake", "pair", "prove")
 
@@ -69,8 +71,9 @@ def links_lead_somewhere(page: pathlib.Path) -> None:
 
 
 def files_exist(page: pathlib.Path) -> None:
-    """A case: each file that is named from the top of the repository is there."""
-    named = [it.group().rstrip(".") for span in SPAN.findall(prose(page)) for it in FILE.finditer(span) if not VARIABLE.search(span)]
+    """A case: each file that is named from the top of the repository is there, in commands that are set off too."""
+    texts = [*SPAN.findall(prose(page)), *re.findall(r"^ {4}.*$", page.read_text(encoding="utf-8"), re.MULTILINE)]
+    named = [it.group().rstrip(".") for text in texts for it in FILE.finditer(text) if not VARIABLE.search(it.group())]
     expect([it for it in named if not any(TOP.glob(it))], [], "files that are not there")
 
 
@@ -174,11 +177,41 @@ def each_test_says_how_it_is_used() -> None:
         expect((ran.returncode, "usage:" in ran.stdout.lower()), (0, True), f"the status of tests/{path.name} --help, and its usage")
 
 
+@functools.cache
+def names_in_code() -> list[tuple[str, str, frozenset[str]]]:
+    """Each file of code, definitions, lemmas or edits: its crate, its name, and the names in it."""
+    files = [it for kind in ("rt", "antt", "edit") for it in TOP.glob(f"crates/*/*/**/*.{kind}") if "out" not in it.parts]
+    found = [(it.relative_to(TOP).parts[1], it.stem, it.read_text(encoding="utf-8", errors="replace")) for it in files]
+    return [(crate, stem, frozenset([stem, *re.findall(r"\w+", text)])) for crate, stem, text in found]
+
+
+def is_of(name: str, of: str) -> bool:
+    """Whether a crate, a file, or a file that names a type has this name too."""
+    wanted = set(name.split("::"))
+    if of in crates():
+        return wanted <= set().union(*(names for crate, _, names in names_in_code() if crate == of))
+    return any(wanted <= names for _, stem, names in names_in_code() if of == stem or of in names)
+
+
+def names_are_of_what_is_said(page: pathlib.Path) -> None:
+    """A case: what a page names as something of a crate, a file or a type is there; events of examples are left out."""
+    named = [it for it in OF.findall(prose(page)) if not (TOP / f"examples/{it[1]}.script").exists()]
+    expect([it for it in named if not is_of(*it)], [], "names that are not there")
+
+
+def the_toolchain_is_named() -> None:
+    """A case: README.md and docs/CLAIMS.md name the toolchain as it names itself."""
+    said = subprocess.run(["rt", "version"], capture_output=True, text=True, timeout=SOON).stdout.strip()
+    kit = said.split()[0] if said else "the version"
+    expect([it for it, words in (("README.md", kit), ("docs/CLAIMS.md", said)) if words not in (TOP / it).read_text()], [], f"pages without {said!r}")
+
+
 CHECKS = {
     "links": links_lead_somewhere,
     "files": files_exist,
     "cells": cells_are_short,
     "width": is_wrapped,
+    "names": names_are_of_what_is_said,
 }
 OF_ALL = {
     "names of pages": pages_are_named_right,
@@ -187,6 +220,7 @@ OF_ALL = {
     "the house": no_storey_is_built_on_one_above_it,
     "first lines of files": each_file_says_what_it_is_about,
     "usage of tests": each_test_says_how_it_is_used,
+    "the toolchain": the_toolchain_is_named,
 }
 
 

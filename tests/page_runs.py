@@ -38,6 +38,9 @@ SETUP = re.compile(r"mem |type |#")
 NOT_PROVED = re.compile(r"^pair: (?:not proved|building).*\n", re.MULTILINE)
 REPLAYED = re.compile(r"replayed \d+ steps in [\d.]+ ms")
 
+# A console on a busy machine, none of whose hosts is suspected before it is killed.
+CONSOLE = ("console", "--patience", "30000")
+
 # A disk that has a text at its beginning, a script with a bad line, and one that is a session too.
 TEXT = b"the disk of the shell"
 IMAGE = TEXT.ljust(337_568, b"\0")
@@ -250,6 +253,17 @@ def failover_line_by_line() -> None:
             expect(pair in played, True, f"that {pair} is in the example")
 
 
+def new_backup() -> None:
+    """A case: the script of docs/SCRIPTS.md in which a spare host joins has the answers below it; the dots stand for all other parts."""
+    said, answers = blocks(part("docs/SCRIPTS.md", "A new backup"))
+    place_of = said.index("...")
+    last = int(said[place_of + 1].split()[-1])
+    said[place_of : place_of + 1] = [line for it in range(1, last) for line in (f"sendpart 0 {it}", f"part {it} 2")]
+    answers[answers.index("...") : answers.index("...") + 1] = [line for it in range(1, last) for line in (f"message {it}", "new")]
+    found = run("./pair script", "".join(f"{it}\n" for it in said).encode())
+    expect(found.decode().splitlines(), answers, "the answers")
+
+
 def session_of_the_shell() -> None:
     """A case: the first session in docs/SHELL.md; what is typed is at the left, what is printed further in, and `...` is anything."""
     (command, *lines), *others = blocks(part("docs/SHELL.md", "Five minutes in the shell"))
@@ -273,7 +287,7 @@ def session_at_the_console(page: str, title: str) -> None:
     *lines, row = blocks(part(page, title))[0]
     lines = [re.sub(r"process \d+", "process N", it) for it in lines[lines.index("MONITOR") + 1 if "MONITOR" in lines else 0 :]]
     rows = lambda: console.texts()[console.texts().index("MONITOR") + 1 :]
-    with place() as room, ended_at_last(OnScreen([room / "pair", "console"], size=(24, 100))) as console:
+    with place() as room, ended_at_last(OnScreen([room / "pair", *CONSOLE], size=(24, 100))) as console:
         console.await_shown(b"MONITOR\r\n*")
         console.await_row("^generation 1: ")
         for place_of, line in enumerate(lines):
@@ -285,6 +299,18 @@ def session_at_the_console(page: str, title: str) -> None:
             console.await_that(lambda: rows()[: place_of + 1] == lines[: place_of + 1], f"{line!r} in {console.texts()}")
         console.await_row(f"^{re.escape(row)}$")
         expect(rows(), lines, "the rows")
+        expect(console.quit(), 0, "the status")
+
+
+def lines_of_a_failure() -> None:
+    """A case: the lines about the pair that docs/CONSOLE.md shows come in this order, among others."""
+    lines = blocks(part("docs/CONSOLE.md", "A session"))[1]
+    with place() as room, ended_at_last(AtTerminal([room / "pair", *CONSOLE], cwd=room)) as console:
+        console.await_said(re.escape(lines[0]).encode())
+        console.say("stop 0")
+        console.await_said(re.escape(lines[-1]).encode())
+        said = [it.strip() for it in console.said.decode().replace("pair: ", "").splitlines()]
+        expect([it for it in said if it in lines], lines, "the lines about the pair")
         expect(console.quit(), 0, "the status")
 
 
@@ -311,13 +337,15 @@ def commands_of_the_console() -> None:
     """A case: the commands that docs/CONSOLE.md has are carried out, and write their files; `quit` ends."""
     rows = re.findall(r"^\| (`.*?) \|", part("docs/CONSOLE.md", "The line of commands"), re.MULTILINE)
     expect(sorted(it for row in rows for it in re.findall(r"`([^`]+)`", row)), sorted([*SAYS, "quit"]), "the commands")
-    with place() as room, ended_at_last(AtTerminal([room / "pair", "console", "--hosts", "2", "--later", "0", "--patience", "30000"], cwd=room)) as console:
+    with place() as room, ended_at_last(AtTerminal([room / "pair", *CONSOLE, "--hosts", "2", "--later", "0"], cwd=room)) as console:
         console.await_shown(b"MONITOR\r\n*")
         console.await_said(rb"generation 1: ")
         for said, answer in SAYS.values():
             before = len(console.said)
             console.say(said)
             console.await_that(lambda: answer.encode() in console.said[before:], f"{answer!r} after {said}")
+        shown = [line for title in ("Saving a disk", "A picture") for line in blocks(part("docs/CONSOLE.md", title))[0]]
+        expect([it for it in shown if it.removeprefix("pair> ").encode() not in console.said], [], "what is not said")
         expect(console.quit(), 0, "the status")
         expect(((room / "work.dsk").stat().st_size, b"</svg>" in (room / "story.svg").read_bytes()), (len(IMAGE), True), "the files")
 
@@ -339,11 +367,13 @@ def options_are_the_programs() -> None:
 OTHERS: dict[str, Case] = {
     "SCRIPTS.md: a failure, in fifteen lines": failure_in_fifteen_lines,
     "SCRIPTS.md: a failover, line by line": failover_line_by_line,
+    "SCRIPTS.md: a new backup": new_backup,
     "SHELL.md: five minutes in the shell": session_of_the_shell,
     "SHELL.md: a guest that polls": guest_that_polls,
     "README.md: three commands": three_commands,
     "README.md: a console session": functools.partial(session_at_the_console, "README.md", "A failure"),
     "CONSOLE.md: a console session": functools.partial(session_at_the_console, "docs/CONSOLE.md", "A session"),
+    "CONSOLE.md: the lines of a failure": lines_of_a_failure,
     "CONSOLE.md: the commands": commands_of_the_console,
     "COMMANDS.md: the options": options_are_the_programs,
 }
