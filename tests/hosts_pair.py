@@ -54,7 +54,7 @@ class Pair(BetweenPipes):
 
     def processes(self):
         """The process of each host that was started, by its place."""
-        return {int(host): int(process) for host, process in re.findall(rb"pair: host (\d+) is process (\d+)\r?\n", self.said)}
+        return {int(host): int(process) for host, process in re.findall(rb"pair: host (\d+) is process (\d+)(?:, ssh to \S+)?\r?\n", self.said)}
 
     def process(self, host):
         """The process of a host, once it is started."""
@@ -90,7 +90,7 @@ class Pair(BetweenPipes):
         """The hosts that the last status names as spares, but for those of which something else is told since."""
         last = self.said.rfind(b"pair> status")
         told = {int(host) for it in TOLD.finditer(self.said, max(last, 0)) for host in it.groups() if host is not None}
-        return [host for host in map(int, re.findall(rb"host (\d+) \(process \d+\): a spare", self.said[last:])) if host not in told]
+        return [host for host in map(int, re.findall(rb"host (\d+) \(process \d+(?:, ssh to \S+)?\): a spare", self.said[last:])) if host not in told]
 
     def await_spares(self, *hosts):
         """Waits until these hosts are spares, or one is: until one has said so, it is given to no generation."""

@@ -9,7 +9,7 @@ examples/guests.
 The outside is the program's command `console`. Host 0 is the primary, host 1 its backup, all others are spares; it is said which process
 each host is, and how it has ended. Any of them may be killed or stopped from elsewhere, or by the commands `stop`, `freeze` and `thaw`.
 When one has ended and --later allows one more, a spare is started; `spare` starts one too. When the outside has ended, so do all hosts,
-since their streams do; one that is stopped is killed.
+since their streams do; one that is stopped is killed. With --host each host is at a place, on this machine or wherever ssh leads.
 
 A terminal gives each key as it is typed, Ctrl-C among them, and is set back as it was however the command ends. If it hangs up, no
 more keys come, and a program that goes on for half a minute is ended. If the input is a file or a pipe, its end is that of the keys.
@@ -42,15 +42,16 @@ import tty
 sys.path.insert(0, os.path.dirname(os.path.realpath(__file__)))
 import disks
 import last_row
-from files import hex_lines, image_in, place_in, read, save
-from hosts import SIGNALS, Hosts
+from files import drawn_as, hex_lines, image_in, path_in, place_in, read, save, saved_as
+from hosts import ROLES, SIGNALS, Hosts
 from options import complain, count_in, drives_in, key_in, key_lines, memory_line, numbered, sense_line, spelled, taken
 from output import Output
+from places import PlacedHosts, is_place
 from screen import Screen
 from story import Story
 
 # The options that say how many hosts there are, and how they are run.
-OF_HOSTS = {"--hosts", "--later", "--patience", "--remote"}
+OF_HOSTS = {"--hosts", "--host", "--later", "--patience", "--remote", "--remote-program"}
 MONITOR = os.path.join(os.path.dirname(os.path.dirname(os.path.realpath(__file__))), "examples/guests/monitor.hex")
 # Where lines about the pair may appear; and how one of them begins that a program hands over, and how a wish for a picture.
 WHERE = {"row", "here"}
@@ -59,8 +60,6 @@ LINE, WISH = b"pair: ", b"picture "
 HELP = {"-h", "--help"}
 # How many processes begin, how many more do when others have ended, how many `spare` starts, and how many places there are at most.
 HOSTS, LATER, ASKED, MOST = 3, 8, 16, 99
-# What the first hosts are when the pair boots; all others are spares.
-ROLES = ("primary", "backup")
 # The status of an outside that has no host left with the machine; it has written the disks then, too.
 NO_HOSTS = 6
 # Asks Linux to kill a process when the one that started it ends.
@@ -95,15 +94,16 @@ class Asked:
         self.own, self.images, self.saves = [], {}, {}
         self.setup, self.memory, self.keys, self.lines = b"", None, [], None
         # How many hosts begin, how many may later, by which command those elsewhere are run, what each is given, and where the pipes are.
-        self.hosts, self.later, self.remote, self.of_hosts, self.folder = HOSTS, LATER, {}, [], None
+        self.hosts, self.later, self.remote, self.of_hosts, self.folder = None, None, {}, [], None
+        # Where hosts are, if that is said, and the program there.
+        self.at, self.away_program = [], None
         for option, value in taken("console", words):
             if value is None:
                 complain(f"`pair console` has no option {option}; `./pair help console` lists its options")
             self.take(option, value)
         if self.memory is None:
             self.memory = hex_lines(MONITOR)
-        if self.hosts + self.later > MOST:
-            complain(f"--hosts {self.hosts} --later {self.later}: there are at most {MOST} hosts")
+        self.count_hosts()
 
     def take(self, option, value):
         if option == "--escape":
@@ -124,7 +124,11 @@ class Asked:
 
     def take_hosts(self, option, value):
         """How many hosts there are, and how they are run."""
-        if option == "--hosts":
+        if option == "--host":
+            self.at.append(value if is_place(value) else complain(f"--host {value!r}: expected `here`, or where ssh leads, as alpha"))
+        elif option == "--remote-program":
+            self.away_program = value or complain(f"{option} {value!r}: expected the path of pair there")
+        elif option == "--hosts":
             self.hosts = count_in(option, value, 2)
         elif option == "--later":
             self.later = count_in(option, value, 0)
@@ -133,6 +137,20 @@ class Asked:
         else:
             host, command = numbered(option, value, MOST - 1)
             self.remote[host] = shlex.split(command)
+
+    def count_hosts(self):
+        """How many hosts begin, and how many may come later: at places as many as there can be."""
+        if self.at and (self.hosts or self.remote):
+            complain(f"--host and {'--hosts' if self.hosts else '--remote'}: each says where hosts are, so give one of them")
+        if len(self.at) == 1:
+            complain(f"--host {self.at[0]}: a pair needs two hosts, so give --host twice or more")
+        if self.away_program and not self.at:
+            complain("--remote-program is for hosts of --host")
+        self.hosts, self.away_program = len(self.at) or self.hosts or HOSTS, self.away_program or "pair"
+        if self.later is None:
+            self.later = max(MOST - ASKED - self.hosts, 0) if self.at else LATER
+        if self.hosts + self.later > MOST:
+            complain(f"--hosts {self.hosts} --later {self.later}: there are at most {MOST} hosts")
 
     def take_guest(self, option, value):
         """What the guest is made of."""
@@ -167,7 +185,11 @@ class Asked:
     def host_words(self, program, host):
         """The words of the command that runs a host."""
         role = ROLES[host] if host < len(ROLES) else "spare"
-        return [*self.remote.get(host, [program]), "host", "--role", role, *self.of_hosts, *self.first()]
+        return [*self.remote.get(host, [program]), "host", "--role", role, *self.host_options()]
+
+    def host_options(self):
+        """The options that each host is given."""
+        return [*self.of_hosts, *self.first()]
 
     def saving(self, mark):
         """The words that say which disks the program writes at its end, and what it writes before them."""
@@ -254,15 +276,24 @@ class Run:
         else:
             self.end(number)
 
+    def gather(self, path, asked):
+        """Waits until hosts can be started; ends the command if none can."""
+        self.hosts = (PlacedHosts if asked.at else Hosts)(path, asked, self.say)
+        is_ready = self.hosts.gather(lambda: self.ended_by)
+        if is_ready and not self.ended_by:
+            return
+        self.hosts.end()
+        if self.ended_by:
+            sys.exit(128 + self.ended_by)
+        complain("no host could be started", NO_HOSTS)
+
     @contextlib.contextmanager
     def hosts_of(self, path, asked, mark):
         """The outside, as long as it runs, and all hosts."""
-        self.hosts = Hosts(path, asked, self.say)
         try:
             with self.program_at(path, asked, mark) as outside:
                 self.say(f"the outside is process {outside.pid}")
-                for _ in range(asked.hosts):
-                    self.hosts.start()
+                self.hosts.begin()
                 yield outside
         finally:
             self.hosts.end()
@@ -316,9 +347,9 @@ class Run:
         if word in SIGNALS:
             return self.signalled(word, int(rest))
         if word == b"spare":
-            return self.added()
+            return self.hosts.add().encode()
         if word == b"status":
-            return re.sub(rb"host (\d+):", self.named, rest)
+            return b"\r\n".join([re.sub(rb"host (\d+):", self.named, rest), *(it.encode() for it in self.hosts.vacant())])
         if handed.startswith(WISH):
             return drawn_as(path_in(handed[len(WISH) :]), self.story.picture())
         if not handed.startswith(LINE):
@@ -342,17 +373,10 @@ class Run:
         process.send_signal(number)
         return f"host {place}, process {process.pid}, {said}".encode()
 
-    def added(self):
-        """Starts one more spare."""
-        place = self.hosts.start()
-        if place is None:
-            return f"no more than {self.hosts.asked.places()} hosts".encode()
-        return f"host {place} has come: process {self.hosts.processes[place].pid}".encode()
-
     def named(self, found):
         """A host of a status, with its process."""
         process = self.hosts.running(int(found[1]))
-        return b"host %b (process %d):" % (found[1], process.pid) if process else found[0]
+        return b"host %b (%b):" % (found[1], self.hosts.named(int(found[1]), process).encode()) if process else found[0]
 
     def status(self):
         """The status of the program, or that of a command that a signal has ended."""
@@ -385,33 +409,6 @@ def await_all(threads, is_over):
     for it in threads:
         while it.is_alive() and not is_over():
             it.join(0.1)
-
-
-def saved_as(handed):
-    """Writes the disk that a program hands over at the command `save`, and says what became of it."""
-    drive, image, path = handed[:2], handed[2 : 2 + 2 * disks.IMAGE_BYTES], handed[2 + 2 * disks.IMAGE_BYTES :]
-    path = path_in(path)
-    try:
-        disks.write(path, bytes.fromhex(image.decode()))
-    except OSError as error:
-        return f"{path} is not written: {error.strerror}".encode()
-    return f"drive {int(drive, 16)} is saved to {path}: the disk of this moment, with every write that the machine was told is done".encode()
-
-
-def drawn_as(path, picture):
-    """Writes a picture of the hosts' story, if there is one, and says what became of it."""
-    if picture is None:
-        return f"{path} is not written: nothing was told of the hosts yet".encode()
-    try:
-        disks.write(path, picture.encode())
-    except OSError as error:
-        return f"{path} is not written: {error.strerror}".encode()
-    return f"what has become of the hosts so far is drawn in {path}".encode()
-
-
-def path_in(digits):
-    """The name of a file, by its hexadecimal digits."""
-    return bytes.fromhex(digits.decode()).decode().strip()
 
 
 @contextlib.contextmanager
@@ -467,6 +464,7 @@ def sit(path, asked, run):
     """Lets one sit at a pair until it ends; gives its status."""
     mark = new_mark()
     run.heed()
+    run.gather(path, asked)
     with raw_terminal(), row_for(asked.lines) as run.row, run.hosts_of(path, asked, mark):
         run.pass_on(mark.encode())
     status = run.status()

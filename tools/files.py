@@ -73,3 +73,30 @@ def save(path, image, reason):
         disks.write(path, image)
     except OSError as error:
         complain(f"{path} is not written: {error.strerror}", 5)
+
+
+def saved_as(handed):
+    """Writes the disk that a program hands over at the command `save`, and says what became of it."""
+    drive, image, path = handed[:2], handed[2 : 2 + 2 * disks.IMAGE_BYTES], handed[2 + 2 * disks.IMAGE_BYTES :]
+    path = path_in(path)
+    try:
+        disks.write(path, bytes.fromhex(image.decode()))
+    except OSError as error:
+        return f"{path} is not written: {error.strerror}".encode()
+    return f"drive {int(drive, 16)} is saved to {path}: the disk of this moment, with every write that the machine was told is done".encode()
+
+
+def drawn_as(path, picture):
+    """Writes a picture of the hosts' story, if there is one, and says what became of it."""
+    if picture is None:
+        return f"{path} is not written: nothing was told of the hosts yet".encode()
+    try:
+        disks.write(path, picture.encode())
+    except OSError as error:
+        return f"{path} is not written: {error.strerror}".encode()
+    return f"what has become of the hosts so far is drawn in {path}".encode()
+
+
+def path_in(digits):
+    """The name of a file, by its hexadecimal digits."""
+    return bytes.fromhex(digits.decode()).decode().strip()

@@ -7,6 +7,7 @@ usage: tools/option_tables.py           writes them
 
 from __future__ import annotations
 
+import functools
 import pathlib
 import re
 import subprocess
@@ -42,6 +43,7 @@ class Option(NamedTuple):
 Row = tuple[Option, list[str]]
 
 
+@functools.cache
 def help_of(*words: str) -> str:
     """What ./pair prints for `help`."""
     return subprocess.run([TOP / "pair", "help", *words], capture_output=True, text=True, check=True).stdout
@@ -76,6 +78,7 @@ def options_of(command: str) -> dict[str, Option]:
     return {it.given.split()[0]: it for it in found}
 
 
+@functools.cache
 def rows() -> list[Row]:
     """Each option with the commands that take it in the same way."""
     found: dict[Option, list[str]] = {}

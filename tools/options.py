@@ -15,6 +15,8 @@ usage: tools/options.py [COMMAND]     prints those of a command; without one, al
   --sense HH            for `console`: the sense switches, in two hexadecimal digits
   --escape KEY          for `console`: the key that opens a command line, as ^E, or as two hexadecimal digits
   --hosts N             for `console`: how many processes begin, from 2 on: the primary, its backup, and spares
+  --host PLACE          for `console`: a host here (`here`), or where ssh leads, as `alpha`; once for each host, in place of --hosts
+  --remote-program PATH  for `console`: where `pair` is at the places of --host, as `/opt/pair/pair`; without it `pair`
   --later K             for `console`: how many more begin as spares later, each when a host has ended
   --patience MS         for `console`: for how many milliseconds a host may hear nothing of its peer until it suspects it
   --remote N=COMMAND    for `console`: host N is run by this command, as `ssh alpha /opt/pair/pair`
@@ -41,6 +43,8 @@ OPTIONS = {
     "--escape": ("console",),
     "--lines": ("console",),
     "--hosts": ("console",),
+    "--host": ("console",),
+    "--remote-program": ("console",),
     "--later": ("console",),
     "--patience": ("console",),
     "--remote": ("console",),
