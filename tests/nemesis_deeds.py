@@ -102,8 +102,10 @@ def kill_both(seat):
 def kill_the_last_one_amid_its_copy(seat):
     """The next backup may be whole already, and take over."""
     primary = hurt(seat, "primary")
-    seat.kill(hurt(seat, "backup"))
-    seat.await_that(lambda: seat.having("joining"), "a host that is given a copy")
+    killed = hurt(seat, "backup")
+    seat.kill(killed)
+    # A copy may be over before it is seen.
+    seat.await_that(lambda: seat.having("joining") or seat.is_whole() and killed not in seat.roles(), "a host that is given a copy")
     seat.hurt.update(seat.having("joining"))
     seat.signal(primary, signal.SIGKILL)
     seat.await_that(lambda: seat.run.poll() is not None or seat.is_whole(), "an end, or a pair that goes on")
