@@ -4,7 +4,7 @@ ghost use Rattle.clap.specs.Words.{HasKind, fault_of, found_of, kind_of, one_of,
 ghost use Rattle.command_ending.specs.Statuses.{is_of_command_line};
 ghost use Rattle.command_line.specs.Commands.{pair_app};
 ghost use Rattle.command_line.specs.Lists.{pieces_in};
-ghost use Rattle.command_line.specs.Orders.{Asks, AsksHelp, HasFound, IsAsked, IsConsoleOrdered, IsFlag, IsGiven, IsGivenOr, IsHostOrdered, IsOrdered, IsRefused, command_word, drive_of, drives_in, fate_of, role_of, text_given};
+ghost use Rattle.command_line.specs.Orders.{Asks, AsksHelp, HasFound, IsAsked, IsConsoleOrdered, IsFlag, IsGiven, IsHostOrdered, IsOrdered, IsRefused, command_word, drive_of, drives_in, fate_of, role_of, text_given};
 
 use crate::commands::{Lists, pair_command};
 use crate::console_order::ConsoleOrder;
