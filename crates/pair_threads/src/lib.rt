@@ -23,12 +23,9 @@ mod worker;
 mod workers;
 mod yields;
 
-pub use chore::Chore;
 pub use gate::{Gate, OpenGate, Progress, Who};
 pub use lag::Lead;
-pub use link::{Fate, fate_of};
-pub use primary::KEY_STEPS;
-pub use rest::Rest;
+pub use link::Fate;
 pub use run::{run_generation, run_generation_over};
 pub use signals::{Signals, Told};
 pub use workers::{GenerationEnd, Workers};
