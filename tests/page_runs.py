@@ -34,9 +34,8 @@ LEFT_OUT = re.compile(r"\./prove|\.ci/run|tests/|\./mistake [a-z]")
 # The lines of a script that have no answer.
 SETUP = re.compile(r"mem |type |#")
 
-# What ./pair says of a program that is not proved, and how long a takeover takes.
+# What ./pair says of a program that is not proved.
 NOT_PROVED = re.compile(r"^pair: (?:not proved|building).*\n", re.MULTILINE)
-REPLAYED = re.compile(r"replayed \d+ steps in [\d.]+ ms")
 
 # A console on a busy machine, none of whose hosts is suspected before it is killed.
 CONSOLE = ("console", "--patience", "30000")
@@ -212,9 +211,8 @@ def session_of_commands(block: list[str]) -> None:
     with place() as room:
         for command, answer in answers_of(block):
             said = run(f"{{ {command}\n}} 2>&1", status=None if answer else 0, room=room).decode().replace("\r", "")
-            said = REPLAYED.sub("", NOT_PROVED.sub("", said)).rstrip("\n")
             if answer:
-                expect(said, REPLAYED.sub("", answer).rstrip("\n"), f"what {command} prints")
+                expect(NOT_PROVED.sub("", said).rstrip("\n"), answer.rstrip("\n"), f"what {command} prints")
 
 
 def beside(lines: list[str]) -> tuple[bytes, bytes]:

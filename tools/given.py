@@ -12,7 +12,6 @@ is refused, with status 2. A file is written whole, or is left as it was, and th
 """
 
 import os
-import re
 import secrets
 import signal
 import subprocess
@@ -22,34 +21,11 @@ import threading
 sys.path.insert(0, os.path.dirname(os.path.realpath(__file__)))
 import disks
 from files import hex_lines, image_in, place_in, save
-from options import complain, count_in, drives_in, key_lines, numbered, spelled, taken
+from options import drives_in, key_lines, numbered, spelled, taken
 from sitting import Ended, Sitting
 
 # No line of the shell begins with this word; what it answers to it comes between the session and the saved disks.
 MARK = f"end-{secrets.token_hex(8)}"
-
-
-def stop_in(word):
-    """The host that fails, and the turn."""
-    found = re.fullmatch(r"([0-9]{1,9})@([0-9]{1,9})", word)
-    if not found:
-        complain(f"--stop {word}: expected a host, `@` and a turn, as 0@500")
-    return int(found[1]), int(found[2])
-
-
-def asks_of(stops, generations):
-    """Who asks to go on alone in each generation, and at which turn. Hosts 0 and 1 begin; whoever is left is the primary of the next
-    generation, and the next spare host, from 2 on, its backup."""
-    primary, backup, asks = 0, 1, []
-    for host, turn in stops:
-        generation = len(asks) + 1
-        if generation > generations:
-            complain(f"--stop {host}@{turn}: there is no generation {generation}")
-        if host not in (primary, backup):
-            complain(f"--stop {host}@{turn}: generation {generation} has host {primary} as its primary and host {backup} as its backup")
-        asks.append(("primary" if host == backup else "backup", turn))
-        primary, backup = backup if host == primary else primary, generation + 1
-    return asks + [("nobody", 0)] * (len(asks) < generations)
 
 
 class Given:
@@ -59,7 +35,6 @@ class Given:
     def __init__(self, command, words):
         self.command, self.own = command, [command]
         self.images, self.before, self.after, self.saves = {}, [], [], {}
-        self.stops, self.spares, self.generations = [], None, None
         for option, value in taken(command, words):
             if value is None:
                 self.own.append(option)
@@ -71,26 +46,9 @@ class Given:
         else:
             self.own += ["--images", drives_in(self.images)] * bool(self.images)
             self.own += ["--saved", drives_in(self.saves)] * bool(self.saves)
-            self.own += self.generation_words()
-
-    def generation_words(self):
-        """The program's own options that say what happens in which generation."""
-        most = len(self.stops) if self.spares is None else self.spares
-        asks = asks_of(self.stops, min(most + 1, self.generations or most + 1))
-        (first, turn), later = asks[0], asks[1:]
-        words = [f"--{first}-asks", str(turn)] if first != "nobody" else []
-        if later:
-            words += ["--next", ",".join(who for who, _ in later), "--next-at", ",".join(str(at) for _, at in later)]
-        return words
 
     def take(self, option, value):
-        if option == "--stop":
-            self.stops.append(stop_in(value))
-        elif option == "--spares":
-            self.spares = count_in(option, value, 0)
-        elif option == "--generations":
-            self.generations = count_in(option, value, 1)
-        elif option == "--load":
+        if option == "--load":
             self.before += hex_lines(value)
         elif option == "--type":
             self.after += key_lines(*numbered(option, value, 1))

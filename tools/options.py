@@ -7,9 +7,6 @@ usage: tools/options.py [COMMAND]     prints those of a command; without one, al
   --disk D=FILE         for all commands but `lint` and `host`: the image of a disk in drive D, before the input
   --save-disk D=FILE    for `live`, `shell` and `console`: at the end the disk of drive D is written to a file
   --type P=TEXT         for `live` and `console`: keys typed at port P, after those of the script; \\r is Enter, and \\xHH any byte
-  --stop HOST@TURN      for `live`: a host fails at this turn of its generation, and the other one continues; one for each generation
-  --spares K            for `live`: how many spare hosts there are to copy the guest to; without it as many as there are --stop
-  --generations N       for `live`: how many generations there are at most
   --setup FILE          for `console`: lines of a setup, as a script has them, before those of --load
   --memory AAAA=HH..    for `console`: bytes from this address on, in hexadecimal digits, in memory at boot
   --sense HH            for `console`: the sense switches, in two hexadecimal digits
@@ -34,9 +31,6 @@ OPTIONS = {
     "--disk": ("script", "check", "picture", "live", "shell", "console"),
     "--save-disk": ("live", "shell", "console"),
     "--type": ("live", "console"),
-    "--stop": ("live",),
-    "--spares": ("live",),
-    "--generations": ("live",),
     "--setup": ("console",),
     "--memory": ("console",),
     "--sense": ("console",),

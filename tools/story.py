@@ -11,7 +11,7 @@ BAR, CROSS = 5, 6
 LINES = [
     (r"generation (\d+): host (\d+) is the primary, host (\d+) its backup(?:; the pair is whole again)?", "begins"),
     (r"host (\d+) has failed, and host (\d+) asks to go on alone", "asks"),
-    (r"host (\d+) has won(?:: (replayed \d+ steps in \d+\.\d ms))?, and goes on alone", "wins"),
+    (r"host (\d+) has won, and goes on alone", "wins"),
     (r"copying the machine to host (\d+)", "copies"),
     (r"host (\d+) has failed before it had the machine", "loses"),
     (r"host (\d+) is cut off: it has sent what no host sends", "cuts_off"),
@@ -107,9 +107,9 @@ class Drawing:
         self.beside(failed, "has failed")
         self.beside(host, "asks to go on alone")
 
-    def wins(self, host, replayed):
+    def wins(self, host):
         self.turn(host, "alone")
-        self.beside(host, replayed or "goes on alone")
+        self.beside(host, "goes on alone")
 
     def copies(self, host):
         self.turn(host, "joining")

@@ -15,7 +15,7 @@ use Rattle.command_hosts.specs.declared.session.HostsEnd.{HostsEnd}
 use Rattle.command_hosts.specs.declared.session.HostsEnd.TheVariants.{NoHosts, Settled, Silent, Stopped, UserQuit}
 use Rattle.command_hosts.specs.declared.session.Session.{Session}
 use Rattle.command_hosts.specs.declared.session.SessionParts.{SessionParts}
-use Rattle.command_live.specs.Living.{typed_in}
+use Rattle.command_input.specs.Typed.{typed_in}
 use Rattle.command_console.proofs.Typing.{keys_in_presses, same_ring}
 use Rattle.command_console.specs.Hearing.{LinesType, presses}
 use Rattle.command_console.specs.Leaving as leaving

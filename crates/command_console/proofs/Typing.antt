@@ -3,7 +3,7 @@ use Rattle.std.proofs.Common.{ℕ, ◌≡◌, ◌≤◌, ◌<◌, ◌-◌, List,
 use Rattle.std.proofs.Math.ListN.{get_or}
 use Rattle.std.proofs.lemmas.List.{take_all}
 use Rattle.std.specs.Prelude.{drop, take}
-use Rattle.command_live.specs.Living.{typed_by, typed_in, with_byte}
+use Rattle.command_input.specs.Typed.{typed_by, typed_in, with_byte}
 use Rattle.command_console.specs.Hearing.{HasPressed, LinesType, presses}
 use Rattle.pair_lines.specs.Lines.{found, keys_in}
 use Rattle.pair_lines.specs.declared.keyboard.Stroke.{Stroke}

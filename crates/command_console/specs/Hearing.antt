@@ -1,7 +1,7 @@
 -- What the thread that hears has handed on when it ends.
 use Rattle.std.specs.Prelude.{◌≡◌, ℕ, Bool, true, false, List, [], ◌∷◌, ◌++◌, map, Option, Some}
 use Rattle.std.specs.Global.{Global}
-use Rattle.command_live.specs.Living.{typed_in}
+use Rattle.command_input.specs.Typed.{typed_in}
 use Rattle.command_console.specs.declared.hearing.Hearing.{Hearing}
 use Rattle.console_terminal.specs.Listening.{Listens}
 use Rattle.console_terminal.specs.declared.command.Command.{Command}

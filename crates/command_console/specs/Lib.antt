@@ -1,6 +1,7 @@
 pub mod Mirrors
 pub mod Frames
 pub mod Keys
+pub mod Lines
 pub mod Telling
 pub mod Seats
 pub mod Stories

@@ -8,7 +8,7 @@ use Rattle.command_hosts.specs.Runs.{Ended}
 use Rattle.command_hosts.specs.declared.session.HostsEnd.{HostsEnd}
 use Rattle.command_hosts.specs.declared.session.HostsEnd.TheVariants.{NoHosts, Settled, Silent, Stopped, UserQuit}
 use Rattle.command_hosts.specs.declared.session.Session.{Session}
-use Rattle.command_live.specs.Living.{typed_in}
+use Rattle.command_input.specs.Typed.{typed_in}
 use Rattle.command_console.specs.declared.console.Streams.{Streams}
 use Rattle.command_console.specs.declared.session.Ends.{Ends}
 use Rattle.command_console.specs.declared.session.Left.{Left}

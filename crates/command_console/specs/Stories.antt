@@ -2,7 +2,7 @@
 use Rattle.std.specs.Prelude.{ℕ, ◌==◌, Bool, true, false, not, if◌then◌else◌, Option, Some, None}
 use Rattle.command_hosts.specs.declared.steward.HostEvent.{HostEvent}
 use Rattle.command_hosts.specs.declared.steward.HostEvent.TheVariants.{Alone, Became, Failed, Flooded, Gone, Joins, Won}
-use Rattle.command_live.specs.declared.line.Line.{Line}
+use Rattle.command_console.specs.declared.line.Line.{Line}
 use Rattle.command_console.specs.declared.story.Story.{Story}
 use Rattle.pair_events.specs.declared.reply.Role.TheVariants.{Backup, Primary}
 
@@ -37,7 +37,7 @@ begins s = begins_with s.generation s.primary s.backup
 abbrev pub line_of : ℕ → HostEvent → Story → Option Line
 line_of place (Became generation (Some Primary)) s = begins (story_after place (Became generation (Some Primary)) s)
 line_of place (Became generation (Some Backup)) s = begins (story_after place (Became generation (Some Backup)) s)
-line_of place (Won generation) s = Some (Line.Won place None)
+line_of place (Won generation) s = Some (Line.Won place)
 line_of place (Joins generation) s = if is_at place s.joining then None else Some (Line.Copies place)
 line_of place Failed s = Some (Line.CutOff place)
 line_of place Flooded s = Some (Line.Flooded place)

@@ -1,7 +1,7 @@
 -- How a line that tells of a pair is written, or handed over.
 use Rattle.std.specs.Prelude.{ℕ, ◌==◌, if◌then◌else◌, List, ◌∷◌, [], ◌++◌, codes, length}
-use Rattle.command_live.specs.Lines.{line_text}
-use Rattle.command_live.specs.declared.line.Line.{Line}
+use Rattle.command_console.specs.Lines.{line_text}
+use Rattle.command_console.specs.declared.line.Line.{Line}
 
 -- how a line is written at a terminal that takes each byte as it is: 13 and 10 are CR and LF
 abbrev pub shown_text : Line → List ℕ

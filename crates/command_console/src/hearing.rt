@@ -1,6 +1,6 @@
 //! The thread that hears what is typed, from its start to its end.
 ghost use Rattle.std.specs.Prelude.{◌≡◌, ◌≤◌, ◌<◌, ◌∷◌, [], IfOk, IfSome, IsTrue};
-ghost use Rattle.command_live.specs.Living.{typed_by};
+ghost use Rattle.command_input.specs.Typed.{typed_by};
 ghost use Rattle.command_console.specs.Hearing.{HasHeard, HasPressed, LinesType};
 ghost use Rattle.rtrb.specs.Ring.{ProducerLooked, known_free};
 

@@ -4,6 +4,7 @@
 mod console;
 mod frame;
 mod hearing;
+mod line;
 mod mirror;
 mod seats;
 mod session;

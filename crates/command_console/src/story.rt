@@ -2,8 +2,8 @@
 ghost use Rattle.std.specs.Prelude.{◌≡◌};
 ghost use Rattle.command_console.specs.Stories.{asks, begins, began, first_line, line_of, story_after};
 
+use crate::line::Line;
 use command_hosts::HostEvent;
-use command_live::Line;
 use pair_events::Role;
 
 /// The hosts of a pair, by their places.
@@ -90,7 +90,7 @@ impl Story {
         match event {
             HostEvent::Became(_, Some(Role::Primary)) => self.after(place, event).begins(),
             HostEvent::Became(_, Some(Role::Backup)) => self.after(place, event).begins(),
-            HostEvent::Won(_) => Some(Line::Won { host, replay: None }),
+            HostEvent::Won(_) => Some(Line::Won { host }),
             HostEvent::Joins(_) if self.joining != Some(place) => Some(Line::Copies { host }),
             HostEvent::Failed => Some(Line::CutOff { host }),
             HostEvent::Flooded => Some(Line::Flooded { host }),

@@ -2,10 +2,10 @@
 ghost use Rattle.std.specs.Prelude.{◌≡◌, IfOk, string_bytes};
 ghost use Rattle.command_console.specs.Telling.{handed_text, shown_text, told_as};
 
+use crate::line::Line;
 use crate::seats::Seats;
 use crate::story::Story;
 use command_hosts::{HostEvent, Steward};
-use command_live::Line;
 use console_terminal::Signs;
 use outside_switch::{Fate, HostLine};
 use rtrb::Producer;

@@ -1,5 +1,5 @@
 -- From what an option was given to the number that it says, and from what was found to what is asked for.
-use Rattle.std.proofs.Common.{◌≡◌, ◌≢◌, ◌∙◌, ℕ, zero, suc, ◌<◌, Bool, List, [], ◌∷◌, ◌++◌, length, map, take, get_or, arith, Option, Some, None, Result, Ok, Err, true, false, inl, inr, refl, sym, ap, codes, subst, unwrap_or}
+use Rattle.std.proofs.Common.{◌≡◌, ◌≢◌, ◌∙◌, ℕ, Bool, List, [], ◌∷◌, Option, Some, None, Result, Ok, Err, true, false, inl, inr, refl, sym, ap, codes, subst, unwrap_or}
 use Rattle.std.specs.Prelude.{Box, IfOk}
 use Rattle.std.specs.Box.{box_value}
 use Rattle.std.specs.Option.{option_map, option_map_or}
@@ -20,7 +20,7 @@ use Rattle.command_ending.specs.declared.failure.Failure.TheVariants as failure
 use Rattle.command_line.proofs.Table.{is_free-pair, is_simple-pair}
 use Rattle.command_line.specs.Commands.{IsCommand, pair_app}
 use Rattle.command_line.specs.Lists.{lists_hold}
-use Rattle.command_line.specs.Orders.{AreTurns, Asks, AsksHelp, AskForNothing, HasFound, IsAsked, IsGiven, IsGivenOr, IsNumber, IsRefused, command_word, is_well_formed}
+use Rattle.command_line.specs.Orders.{Asks, AsksHelp, AskForNothing, HasFound, IsAsked, IsGiven, IsGivenOr, IsNumber, IsRefused, command_word, is_well_formed}
 use Rattle.command_line.specs.declared.options.Request.{Request}
 
 is_number : {E : Type 0} (bits : ℕ) (gives : List ℕ → Result ℕ E → Type 0) (text : List ℕ) (given : Option ℕ)
@@ -136,22 +136,3 @@ module _ (words : List Text) (m : ArgMatches) (found : subcommand_rows_of m ≡ 
       found = is_found;
       asks = asks;
     }
-
--- one more word says one more turn
-pub one_more_turn : {X : Type 0} (text : X → List ℕ) (words : List X) (turns : List ℕ) (i : ℕ) (other : X) (turn : ℕ)
-    → i < length words → AreTurns (map text (take i words)) turns → IsGivenOr 64 0 (Some (text (get_or words i other))) turn
-    → AreTurns (map text (take (suc i) words)) (turns ++ turn ∷ [])
-one_more_turn text [] turns i other turn within are is = absurd (omega (arith, within))
-one_more_turn text (w ∷ words) [] zero other turn within are is = (is, tt)
-one_more_turn text (w ∷ words) (t ∷ turns) zero other turn within are is = absurd are
-one_more_turn text (w ∷ words) [] (suc i) other turn within are is = absurd are
-one_more_turn text (w ∷ words) (t ∷ turns) (suc i) other turn within are is =
-    (are.0, one_more_turn text words turns i other turn (let l = within in omega (arith, l)) are.1 is)
-
--- a word that is a number, and one that is none
-module _ {E : Type 0} (word : List ℕ) (r : Result ℕ E) (parses : ParsesUnsigned 64 10 word r) where
-  pub turn_read : (turn : ℕ) → r ≡ Ok turn → IsGivenOr 64 0 (Some word) turn
-  turn_read turn is = (Some turn, ((subst (ParsesUnsigned 64 10 word) is parses).1, refl))
-
-  pub no_turn : (e : E) → r ≡ Err e → IsGivenOr 64 0 (Some word) 0
-  no_turn e is = (None, ((λ numeral. (subst (ParsesUnsigned 64 10 word) is parses) numeral), refl))

@@ -1,15 +1,9 @@
--- Pieces of a text: one more before a comma, and the last; and words that are turns, or none.
-use Rattle.std.proofs.Common.{◌≡◌, ◌∙◌, ◌||◌, ℕ, ◌<◌, ◌==◌, Bool, true, false, true≢false, List, [], ◌∷◌, ◌++◌, map, Result, Ok, Err, ap, arith, refl, subst, sym}
-use Rattle.std.proofs.lemmas.Bool.{le-leb, leb-true}
+-- Pieces of a text: one more before a comma, and the last.
+use Rattle.std.proofs.Common.{◌≡◌, ◌∙◌, ◌||◌, Bool, List, [], ◌∷◌, ◌++◌, map, ap, refl, sym}
 use Rattle.std.specs.Borrow.{Bor}
 use Rattle.std.specs.List.{list_any}
-use Rattle.std.specs.Prelude.{nat_le}
-use Rattle.std.specs.Str.Parse.{ParsesUnsigned}
 use Rattle.clap.proofs.CutLemmas.{Lacks, slice_split-Lacks, slice_split-at}
-use Rattle.clap.proofs.ValueTestLemmas.{Accepts-accepts, accepts-Accepts}
-use Rattle.clap.specs.ValueTests.{is_unsigned_in}
 use Rattle.clap.specs.Walk.{Text}
-use Rattle.clap.specs.declared.builder.value_parser.ValueParser.TheVariants as value
 use Rattle.command_line.specs.Lists.{pieces_of}
 
 moved : (before : List (Bor Text)) (piece : Bor Text) (rest : List Text)
@@ -42,27 +36,3 @@ last_piece text piece before after old is lacks =
 pub any_of_map : {X Y : Type 0} (p : Y → Bool) (h : X → Y) (xs : List X) → list_any p (map h xs) ≡ list_any (λ x. p (h x)) xs
 any_of_map p h [] = refl
 any_of_map p h (x ∷ xs) = ap (λ b. p (h x) || b) (any_of_map p h xs)
-
--- ---- turns
-
-same_tests : (a b : Bool) → (a ≡ true → b ≡ true) → (b ≡ true → a ≡ true) → a ≡ b
-same_tests true b to from = sym (to refl)
-same_tests false true to from = from refl
-same_tests false false to from = refl
-
--- a word that is a number is a turn if the number is small enough
-module _ {E : Type 0} (word : Text) (r : Result ℕ E) (parses : ParsesUnsigned 64 10 word r) where
-  pub turn_test : (turn : ℕ) → r ≡ Ok turn → nat_le turn 1000000000 ≡ is_unsigned_in 0 1000000000 word
-  turn_test turn is =
-      let read = subst (ParsesUnsigned 64 10 word) is parses in
-      same_tests (nat_le turn 1000000000) (is_unsigned_in 0 1000000000 word)
-      (λ e. let small = leb-true turn 1000000000 e in let same = read.1 in
-      Accepts-accepts false (value.Unsigned 0 1000000000) word (read.0.0, read.0.1, omega arith, omega (arith, small, same)))
-      (λ e. let most = (accepts-Accepts false (value.Unsigned 0 1000000000) word e).3 in let same = read.1 in
-      le-leb turn 1000000000 (omega (arith, most, same)))
-
-  pub no_turn_test : (e : E) → r ≡ Err e → false ≡ is_unsigned_in 0 1000000000 word
-  no_turn_test e is =
-      let none = subst (ParsesUnsigned 64 10 word) is parses in
-      same_tests false (is_unsigned_in 0 1000000000 word) (λ never. absurd (true≢false (sym never)))
-      (λ passes. let is_in = accepts-Accepts false (value.Unsigned 0 1000000000) word passes in absurd (none (is_in.0, is_in.1)))

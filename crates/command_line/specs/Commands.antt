@@ -41,8 +41,7 @@ turn_options = by_default (codes "1000000") (number_option (codes "turns") 1 100
 
 -- the options of `live`
 abbrev pub live_options : List Rule
-live_options = turn_options ++ (link_and_disks
-    ++ (text_option (codes "next") ∷ text_option (codes "next-at") ∷ flag_option (codes "told") ∷ []))
+live_options = turn_options ++ link_and_disks
 
 -- the options of `host`
 abbrev pub host_options : List Rule

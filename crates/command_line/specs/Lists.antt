@@ -2,7 +2,6 @@
 use Rattle.std.specs.Prelude.{◌==◌, ◌&&◌, Bool, true, List, [], ◌∷◌, bytes_eq, codes}
 use Rattle.std.specs.List.{list_all, list_any, slice_split}
 use Rattle.std.specs.Option.{option_map_or}
-use Rattle.clap.specs.ValueTests.{is_unsigned_in}
 use Rattle.clap.specs.Walk.{Row, Text, first_of}
 
 -- the pieces of a text, which stand between its commas (44), also the empty ones
@@ -13,12 +12,9 @@ pieces_of text = slice_split (λ byte. byte == 44) text
 abbrev pub pieces_in : List Row → Text → List Text
 pieces_in rows option = option_map_or pieces_of (first_of option rows) []
 
--- the fates of a packet, who asks, what a host is at boot, and the drives, by their names
+-- the fates of a packet, what a host is at boot, and the drives, by their names
 abbrev pub fates : List Text
 fates = codes "pass" ∷ codes "drop" ∷ codes "twice" ∷ []
-
-abbrev pub askers : List Text
-askers = codes "nobody" ∷ codes "primary" ∷ codes "backup" ∷ []
 
 abbrev pub roles : List Text
 roles = codes "primary" ∷ codes "backup" ∷ codes "spare" ∷ []
@@ -34,15 +30,9 @@ are_among names pieces = list_all (λ piece. list_any (λ name. bytes_eq name pi
 abbrev pub is_among : List Text → List Row → Text → Bool
 is_among names rows option = option_map_or (λ text. list_any (λ name. bytes_eq name text) names) (first_of option rows) true
 
--- each piece is the number of a turn
-abbrev pub are_turns : List Text → Bool
-are_turns pieces = list_all (is_unsigned_in 0 1000000000) pieces
-
--- each option that is given names is given such as it has: each list has fates, drives, askers or turns alone
+-- each option that is given names is given such as it has: each list has fates or drives alone
 abbrev pub lists_hold : List Row → Bool
 lists_hold rows = are_among fates (pieces_in rows (codes "link"))
     && (are_among drives (pieces_in rows (codes "images"))
     && (are_among drives (pieces_in rows (codes "saved"))
-    && (are_among askers (pieces_in rows (codes "next"))
-    && (are_turns (pieces_in rows (codes "next-at"))
-    && is_among roles rows (codes "role")))))
+    && is_among roles rows (codes "role")))

@@ -13,8 +13,6 @@ use Rattle.command_line.specs.declared.console_order.ConsoleOrder.{ConsoleOrder}
 use Rattle.command_line.specs.declared.host_order.HostOrder.{HostOrder}
 use Rattle.command_line.specs.declared.host_order.HostRole.{HostRole}
 use Rattle.command_line.specs.declared.host_order.HostRole.TheVariants as role
-use Rattle.command_line.specs.declared.live_order.Asker.{Asker}
-use Rattle.command_line.specs.declared.live_order.Asker.TheVariants.{Nobody, Primary, Backup}
 use Rattle.command_line.specs.declared.live_order.LiveOrder.{LiveOrder}
 use Rattle.command_line.specs.declared.options.Request.{Request}
 use Rattle.command_line.specs.declared.options.Request.TheVariants as request
@@ -25,11 +23,6 @@ use Rattle.pair_threads.specs.declared.link.Fate.TheVariants.{Pass, Drop, Twice}
 abbrev pub fate_of : List ℕ → Fate
 fate_of word =
     if bytes_eq word (codes "drop") then Drop else (if bytes_eq word (codes "twice") then Twice else Pass)
-
--- who asks to go on alone, by the name; `nobody` is the third
-abbrev pub asker_of : List ℕ → Asker
-asker_of word =
-    if bytes_eq word (codes "primary") then Primary else (if bytes_eq word (codes "backup") then Backup else Nobody)
 
 -- the number of this many bits that a text is, or none
 abbrev pub IsNumber : ℕ → List ℕ → Option ℕ → Type 0
@@ -50,12 +43,6 @@ abbrev pub IsFlag : Option (List ℕ) → Bool → Type 0
 IsFlag text given = (text ≡ None → given ≡ false)
     × ((text ≡ Some (codes "true") → given ≡ true) × (text ≡ Some (codes "false") → given ≡ false))
 
--- the turns that words say, 0 for a word that is no number
-abbrev pub AreTurns : List (List ℕ) → List ℕ → Type 0
-AreTurns [] [] = Unit {0}
-AreTurns (word ∷ words) (turn ∷ turns) = IsGivenOr 64 0 (Some word) turn × AreTurns words turns
-AreTurns _ _ = ⊥
-
 -- a drive, by its name; 0 is the fourth
 abbrev pub drive_of : List ℕ → ℕ
 drive_of word =
@@ -65,18 +52,15 @@ drive_of word =
 abbrev pub drives_in : List Row → Text → List ℕ
 drives_in rows option = map drive_of (pieces_in rows option)
 
--- each option of `live` sets what it says: how many turns, when somebody asks, these fates in this order, who asks in further
--- generations and when, the drives whose disks are saved, and whether the pair is told of; the drives with images are given
+-- each option of `live` sets what it says: how many turns, when somebody asks, these fates in this order, and the drives whose disks
+-- are saved; the drives with images are given
 pub record IsOrdered (rows : List Row) (images : List ℕ) (order : LiveOrder) : Type 0 where
   pub turns : IsGivenOr 64 1000000 (one_of (codes "turns") rows) order.turns
   pub primary_asks : IsGiven 64 (one_of (codes "primary-asks") rows) order.primary_asks
   pub backup_asks : IsGiven 64 (one_of (codes "backup-asks") rows) order.backup_asks
   pub link : order.link.items ≡ map fate_of (pieces_in rows (codes "link"))
-  pub next : order.next.items ≡ map asker_of (pieces_in rows (codes "next"))
-  pub next_at : AreTurns (pieces_in rows (codes "next-at")) order.next_at.items
   pub images_are : order.images.items ≡ images
   pub saved : order.saved.items ≡ drives_in rows (codes "saved")
-  pub told : IsFlag (one_of (codes "told") rows) order.told
 
 -- the text that an option was given; [] if it was not
 abbrev pub text_given : List Row → Text → List ℕ

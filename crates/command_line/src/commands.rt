@@ -30,9 +30,6 @@ script; 4 out of memory; 5 input or output failed; 6 a pair on threads stalled; 
 // The names of the fates of a packet: it is brought, it is lost, it is brought twice.
 pub(crate) static FATES: &[&str] = &["pass", "drop", "twice"];
 
-// Who asks to go on alone in a further generation.
-pub(crate) static ASKERS: &[&str] = &["nobody", "primary", "backup"];
-
 pub(crate) static DRIVES: &[&str] = &["0", "1", "2", "3"];
 
 // What a host is when its pair boots.
@@ -44,11 +41,8 @@ const IMAGES: &str =
 const SAVED: &str =
     "The drives whose disks are written as images at the end; ./pair keeps them for --save-disk";
 
-const TOLD: &str =
-    "Tells of each failure, takeover, copy and generation in a line on standard error";
-
 // How many turns there are at most.
-pub(crate) const MOST_TURNS: u64 = 1_000_000_000;
+const MOST_TURNS: u64 = 1_000_000_000;
 
 const TURNS_HELP: &str =
     "In how many turns the primary, and the backup, may make progress; one that finds nothing to do is none of them";
@@ -197,10 +191,7 @@ fn live_command<'a>(alloc: Global, lists: Lists) -> Result<Command<'a>, AllocErr
     ensures { IfOk result (λ c. lists ≡ Lists.Whole → IsCommand (alone (command (codes "live") live_options)) c) }
 {
     let live = with_turns(alloc, plain_command(alloc, "live", LIVE))?;
-    let live = with_link_and_disks(alloc, lists, live)?;
-    live.arg(next(alloc, lists))?
-        .arg(next_at(alloc, lists))?
-        .arg(told(alloc))
+    with_link_and_disks(alloc, lists, live)
 }
 
 // The command that runs one host.
@@ -328,32 +319,6 @@ fn apart<'a>(alloc: Global) -> Arg<'a>
     ensures { IsOption (flag_option (codes "apart")) result }
 {
     flag(alloc, "apart").help(APART)
-}
-
-fn told<'a>(alloc: Global) -> Arg<'a>
-    ensures { IsOption (flag_option (codes "told")) result }
-{
-    flag(alloc, "told").help(TOLD)
-}
-
-fn next<'a>(alloc: Global, lists: Lists) -> Arg<'a>
-    ensures { lists ≡ Lists.Whole → IsOption (text_option (codes "next")) result }
-{
-    list(alloc, lists, "next", "WHO", ASKERS).help(
-        "Who asks to go on alone in each further generation; ./pair sends them for --stop",
-    )
-}
-
-fn next_at<'a>(alloc: Global, lists: Lists) -> Arg<'a>
-    ensures { lists ≡ Lists.Whole → IsOption (text_option (codes "next-at")) result }
-{
-    let next_at = text(alloc, "next-at", "N").help("At which turn, in the same order");
-    match lists {
-        Lists::Whole => next_at,
-        Lists::Cut => next_at
-            .value_delimiter(',')
-            .value_parser(ValueParser::unsigned(0, MOST_TURNS)),
-    }
 }
 
 fn link<'a>(alloc: Global, lists: Lists) -> Arg<'a>

@@ -10,5 +10,5 @@ mod options;
 
 pub use console_order::ConsoleOrder;
 pub use host_order::{HostOrder, HostRole};
-pub use live_order::{Asker, LiveOrder};
+pub use live_order::LiveOrder;
 pub use options::{Request, request_of};

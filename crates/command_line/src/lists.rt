@@ -1,11 +1,10 @@
 //! The lists that options are given: cut at their commas, and whether each piece is one that its list may have.
 ghost use Rattle.std.specs.Prelude.{◌≡◌, IfOk, bytes_eq, codes, map, option_map};
 ghost use Rattle.std.specs.List.{list_any};
-ghost use Rattle.clap.specs.ValueTests.{is_unsigned_in};
 ghost use Rattle.clap.specs.Words.{first_of, found_of, rows_of};
-ghost use Rattle.command_line.specs.Lists.{are_among, are_turns, is_among, lists_hold, pieces_in, pieces_of, roles};
+ghost use Rattle.command_line.specs.Lists.{are_among, is_among, lists_hold, pieces_in, pieces_of, roles};
 
-use crate::commands::{ASKERS, DRIVES, FATES, MOST_TURNS, ROLES};
+use crate::commands::{DRIVES, FATES, ROLES};
 use clap::ArgMatches;
 use std::alloc::{AllocError, Global};
 
@@ -16,9 +15,7 @@ pub(crate) fn lists_hold(alloc: Global, found: &ArgMatches<'_>) -> Result<bool, 
     let link = are_among(pieces_in(alloc, found, "link")?.as_slice(), FATES);
     let images = are_among(pieces_in(alloc, found, "images")?.as_slice(), DRIVES);
     let saved = are_among(pieces_in(alloc, found, "saved")?.as_slice(), DRIVES);
-    let next = are_among(pieces_in(alloc, found, "next")?.as_slice(), ASKERS);
-    let next_at = are_turns(pieces_in(alloc, found, "next-at")?.as_slice());
-    Ok(link && images && saved && next && next_at && role_holds(found))
+    Ok(link && images && saved && role_holds(found))
 }
 
 /// The pieces of the list that an option was given; none if it was not.
@@ -73,28 +70,6 @@ fn is_one_of(word: &str, names: &[&str]) -> bool
     ensures { result ≡ list_any (λ name. bytes_eq name word.now) (map (λ name. name.now) names.now) }
 {
     (&*names).contains(&word)
-}
-
-// Whether each piece is the number of a turn.
-fn are_turns(pieces: &[&str]) -> bool
-    ensures { result ≡ are_turns (map (λ piece. piece.now) pieces.now) }
-{
-    for piece in pieces {
-        if !is_turn(piece) {
-            return false;
-        }
-    }
-    true
-}
-
-// Whether a word is the number of a turn.
-fn is_turn(word: &str) -> bool
-    ensures { result ≡ is_unsigned_in 0 1000000000 word.now }
-{
-    match word.parse::<u64>() {
-        Ok(turn) => turn <= MOST_TURNS,
-        Err(_) => false,
-    }
 }
 
 // Whether what a host is at boot is one of the three names, if it is said.

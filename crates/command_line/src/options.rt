@@ -4,13 +4,13 @@ ghost use Rattle.clap.specs.Words.{HasKind, fault_of, found_of, kind_of, one_of,
 ghost use Rattle.command_ending.specs.Statuses.{is_of_command_line};
 ghost use Rattle.command_line.specs.Commands.{pair_app};
 ghost use Rattle.command_line.specs.Lists.{pieces_in};
-ghost use Rattle.command_line.specs.Orders.{AreTurns, Asks, AsksHelp, HasFound, IsAsked, IsConsoleOrdered, IsFlag, IsGiven, IsGivenOr, IsHostOrdered, IsOrdered, IsRefused, command_word, asker_of, drive_of, drives_in, fate_of, role_of, text_given};
+ghost use Rattle.command_line.specs.Orders.{Asks, AsksHelp, HasFound, IsAsked, IsConsoleOrdered, IsFlag, IsGiven, IsHostOrdered, IsOrdered, IsRefused, command_word, drive_of, drives_in, fate_of, role_of, text_given};
 
 use crate::commands::{Lists, pair_command};
 use crate::console_order::ConsoleOrder;
 use crate::host_order::{HostOrder, HostRole};
 use crate::lists::{given_in, lists_hold, pieces_in};
-use crate::live_order::{Asker, LiveOrder};
+use crate::live_order::LiveOrder;
 use clap::error::ErrorKind;
 use clap::{ArgMatches, Error};
 use command_ending::Failure;
@@ -198,18 +198,13 @@ fn live_order(
     let backup_asks = number(matches, "backup-asks");
     let link = link_in(alloc, matches)?;
     let saved = saved_in(alloc, matches)?;
-    let (next, next_at) = next_of(alloc, matches)?;
-    let told = flag(matches, "told");
     Ok(LiveOrder {
         turns,
         primary_asks,
         backup_asks,
         link,
-        next,
-        next_at,
         images,
         saved,
-        told,
     })
 }
 
@@ -318,59 +313,6 @@ fn fate_of(word: &str) -> Fate
         "drop" => Fate::Drop,
         "twice" => Fate::Twice,
         _ => Fate::Pass,
-    }
-}
-
-// Who asks in further generations, and at which turns.
-fn next_of(alloc: Global, matches: &ArgMatches<'_>) -> Result<(Vec<Asker>, Vec<u64>), AllocError>
-    ensures who { IfOk result (λ next. next.0.items ≡ map asker_of (pieces_in (rows_of (found_of matches.now)) (codes "next"))) }
-    ensures at { IfOk result (λ next. AreTurns (pieces_in (rows_of (found_of matches.now)) (codes "next-at")) next.1.items) }
-{
-    let next = askers_of(alloc, pieces_in(alloc, matches, "next")?.as_slice())?;
-    let next_at = turns_of(alloc, pieces_in(alloc, matches, "next-at")?.as_slice())?;
-    Ok((next, next_at))
-}
-
-// Who asks, by names.
-fn askers_of(alloc: Global, words: &[&str]) -> Result<Vec<Asker>, AllocError>
-    ensures { IfOk result (λ askers. askers.items ≡ map asker_of (map (λ word. word.now) words.now)) }
-{
-    let mut askers = Vec::new(alloc);
-    for word in words {
-        askers.push(asker_of(word))?;
-    }
-    Ok(askers)
-}
-
-// Who asks, by a name.
-fn asker_of(word: &str) -> Asker
-    ensures { result ≡ asker_of word.now }
-{
-    match word {
-        "primary" => Asker::Primary,
-        "backup" => Asker::Backup,
-        _ => Asker::Nobody,
-    }
-}
-
-// Turns, by their digits.
-fn turns_of(alloc: Global, words: &[&str]) -> Result<Vec<u64>, AllocError>
-    ensures { IfOk result (λ turns. AreTurns (map (λ word. word.now) words.now) turns.items) }
-{
-    let mut turns = Vec::new(alloc);
-    for word in words {
-        turns.push(turn_of(word))?;
-    }
-    Ok(turns)
-}
-
-// A turn, by its digits.
-fn turn_of(word: &str) -> u64
-    ensures { IsGivenOr 64 0 (Some word.now) result }
-{
-    match word.parse::<u64>() {
-        Ok(turn) => turn,
-        Err(_) => 0,
     }
 }
 

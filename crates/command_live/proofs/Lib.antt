@@ -1,3 +1,2 @@
 pub mod Living
-pub mod Later
-pub mod Writing
+pub mod Threads

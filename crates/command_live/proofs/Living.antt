@@ -1,5 +1,5 @@
 -- What a pair on threads prints is an end of its generation; what is typed at it, line by line.
-use Rattle.std.proofs.Common.{◌≡◌, ℕ, ◌+◌, ◌<◌, zero, suc, Bool, Option, Some, None, List, [], ◌∷◌, ◌++◌, Result, Ok, Err, inl, inr, refl, subst, sym, ap, ◌∙◌, length, replicate, take, get_or, if◌then◌else◌, append-nil, arith}
+use Rattle.std.proofs.Common.{◌≡◌, ℕ, ◌+◌, ◌<◌, zero, suc, true, Option, Some, None, List, [], ◌∷◌, ◌++◌, Result, Ok, Err, inl, inr, refl, subst, sym, ap, ◌∙◌, length, replicate, take, get_or, if◌then◌else◌, append-nil, arith}
 use Rattle.std.specs.Prelude.{◌⊎◌, IfErr, IfOk, IsTrue, OnOk}
 use Rattle.std.specs.Global.{Vec}
 use Rattle.std.specs.Result.{IsErrAnd}
@@ -12,7 +12,8 @@ use Rattle.guest_board.specs.Guest.{guest_at_boot}
 use Rattle.guest_board.specs.Inputs.{some_altair}
 use Rattle.guest_lockstep.specs.Machine.{Machine, booted_from}
 use Rattle.log_entry.specs.declared.entry.Entry.{Entry}
-use Rattle.command_live.specs.Living.{AreBooted, AreTyped, BeginsAs, EndsOf, HasEnded, PrintsLive, PrintsNone, PrintsScreens, Tells, TellsEnd, TellsScreens, WonIn, end_text, typed_by, typed_in, with_byte}
+use Rattle.command_live.specs.Living.{AreBooted, AreTyped, BeginsAs, EndsOf, HasEnded, PrintsLive, PrintsNone, PrintsScreens, Tells, TellsEnd, TellsScreens, end_text}
+use Rattle.command_input.specs.Typed.{typed_by, typed_in, with_byte}
 use Rattle.command_saving.specs.Saving.{AreWhole, are_attached, images_of}
 use Rattle.command_ending.specs.Reports.{AddsLine}
 use Rattle.command_ending.specs.declared.failure.Failure.{Failure}
@@ -57,7 +58,7 @@ tells_residual winner screens records saved (Err k) told e old new is was kept w
 module _ (setup : ScriptSetup) (given : List SectorWrite) (typed0 typed1 : List ℕ) (order : LiveOrder) where
   -- the end is printed
   pub tells_end : (old new : Option (List ℕ)) (first second images : List ℕ) (winner : Option Who)
-      → WonIn order winner
+      → WonBy order.primary_asks order.backup_asks winner
       → EndsOf setup given typed0 typed1 order.saved.items winner (first ∷ second ∷ []) images
       → AddsLine (Some (end_text first second winner)) old new
       → TellsEnd setup given typed0 typed1 order images old new
@@ -168,11 +169,11 @@ begins_as setup given lines typed primary backup records typed0 typed1 same is0 
 -- a generation that has begun like this and has ended is one of the script
 pub has_ended : (setup : ScriptSetup) (given : List SectorWrite) (lines : List Line) (boot backup_boot : Guest)
     (booted : List Record) (typed0 typed1 : List ℕ) (winner : Option Who) (primary backup : List Entry) (held : ℕ)
-    (screens : List (List ℕ)) (records : List Record) (s t : Guest) (exact : Bool)
+    (screens : List (List ℕ)) (records : List Record) (s t : Guest)
     → BeginsAs setup given lines boot backup_boot booted typed0 typed1
-    → EndsBy (booted_from some_altair boot (bytes_in booted)) exact typed0 typed1 winner primary backup held screens records s t
+    → EndsBy (booted_from some_altair boot (bytes_in booted)) true typed0 typed1 winner primary backup held screens records s t
     → HasEnded setup given lines winner screens records
-has_ended setup given lines boot backup_boot booted typed0 typed1 winner primary backup held screens records s t exact
+has_ended setup given lines boot backup_boot booted typed0 typed1 winner primary backup held screens records s t
     begins ends = record {
       sectors = bytes_in booted;
       booted = are_booted setup given booted begins.at_boot;
@@ -181,12 +182,11 @@ has_ended setup given lines boot backup_boot booted typed0 typed1 winner primary
       held = held;
       s = s;
       t = t;
-      exact = exact;
-      ends = subst (λ g. EndsBy (booted_from some_altair g (bytes_in booted)) exact (typed_in 0 lines) (typed_in 1 lines) winner
+      ends = subst (λ g. EndsBy (booted_from some_altair g (bytes_in booted)) true (typed_in 0 lines) (typed_in 1 lines) winner
           primary backup held screens records s t) begins.primary_is
-          (subst (λ l. EndsBy (booted_from some_altair boot (bytes_in booted)) exact l (typed_in 1 lines) winner primary backup held
+          (subst (λ l. EndsBy (booted_from some_altair boot (bytes_in booted)) true l (typed_in 1 lines) winner primary backup held
           screens records s t) begins.typed.0
-          (subst (λ l. EndsBy (booted_from some_altair boot (bytes_in booted)) exact typed0 l winner primary backup held screens
+          (subst (λ l. EndsBy (booted_from some_altair boot (bytes_in booted)) true typed0 l winner primary backup held screens
           records s t) begins.typed.1 ends));
     }
 
@@ -197,13 +197,13 @@ if_both (Ok a) P Q R more h i = more a h i
 if_both (Err e) P Q R more h i = tt
 
 -- what was typed in the end was typed before
-pub typed_so : {S : Type 0} (M : Machine S) (exact : Bool) (typed0 typed1 first second : List ℕ) (winner : Option Who)
+pub typed_so : {S : Type 0} (M : Machine S) (typed0 typed1 first second : List ℕ) (winner : Option Who)
     (primary backup : List Entry) (held : ℕ) (screens : List (List ℕ)) (records : List Record) (s t : S) → typed0 ≡ first
-    → typed1 ≡ second → EndsBy M exact typed0 typed1 winner primary backup held screens records s t
-    → EndsBy M exact first second winner primary backup held screens records s t
-typed_so M exact typed0 typed1 first second winner primary backup held screens records s t is0 is1 ends =
-    subst (λ a. EndsBy M exact a second winner primary backup held screens records s t) is0
-    (subst (λ b. EndsBy M exact typed0 b winner primary backup held screens records s t) is1 ends)
+    → typed1 ≡ second → EndsBy M true typed0 typed1 winner primary backup held screens records s t
+    → EndsBy M true first second winner primary backup held screens records s t
+typed_so M typed0 typed1 first second winner primary backup held screens records s t is0 is1 ends =
+    subst (λ a. EndsBy M true a second winner primary backup held screens records s t) is0
+    (subst (λ b. EndsBy M true typed0 b winner primary backup held screens records s t) is1 ends)
 
 -- and the images of its disk
 pub ends_of : (setup : ScriptSetup) (given : List SectorWrite) (lines : List Line) (saved drives : List ℕ) (winner : Option Who)
@@ -219,7 +219,6 @@ ends_of setup given lines saved drives winner screens records images h are all w
   records = records;
   s = h.s;
   t = h.t;
-  exact = h.exact;
   ends = h.ends;
   images_are = all ∙ ap (images_of records) are;
   whole = subst (AreWhole images) are whole;
@@ -229,7 +228,7 @@ ends_of setup given lines saved drives winner screens records images h are all w
 pub tells_of : (setup : ScriptSetup) (given : List SectorWrite) (lines : List Line) (order : LiveOrder) (saved : List ℕ)
     (winner : Option Who) (screens : List (List ℕ)) (records : List Record) (result : Result (Vec ℕ) Failure)
     (old new : Option (List ℕ)) → HasEnded setup given lines winner screens records
-    → WonIn order winner → saved ≡ order.saved.items
+    → WonBy order.primary_asks order.backup_asks winner → saved ≡ order.saved.items
     → TellsScreens winner screens records saved result old new
     → Tells setup given (typed_in 0 lines) (typed_in 1 lines) order result old new
 tells_of setup given lines order saved winner screens records (Ok images) old new ended won are told =
@@ -239,13 +238,3 @@ tells_of setup given lines order saved winner screens records (Ok images) old ne
     (ends_of setup given lines order.saved.items saved winner screens records images.items ended are told.images_are told.whole))
     told.printed
 tells_of setup given lines order saved winner screens records (Err failure) old new ended won are told = told
-
--- of one generation, and of several
-pub tells_one : (setup : ScriptSetup) (given : List SectorWrite) (lines : List Line) (order : LiveOrder) (saved : List ℕ)
-    (winner : Option Who) (screens : List (List ℕ)) (records : List Record) (result : Result (Vec ℕ) Failure)
-    (old new : Option (List ℕ)) → HasEnded setup given lines winner screens records
-    → WonBy order.primary_asks order.backup_asks winner → saved ≡ order.saved.items
-    → TellsScreens winner screens records saved result old new
-    → Tells setup given (typed_in 0 lines) (typed_in 1 lines) order result old new
-tells_one setup given lines order saved winner screens records result old new ended won are told =
-    tells_of setup given lines order saved winner screens records result old new ended (inl won) are told

@@ -1,5 +1,2 @@
 pub mod Living
-pub mod Later
-pub mod Lines
-pub mod Roles
-pub mod Watching
+pub mod Altairs

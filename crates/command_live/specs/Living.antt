@@ -1,5 +1,5 @@
 -- What a pair on threads prints.
-use Rattle.std.specs.Prelude.{◌≡◌, ◌⊎◌, ℕ, ◌==◌, if◌then◌else◌, IsTrue, Option, Some, None, List, [], ◌∷◌, ◌++◌, Bool, Result, MatchResult, codes, replicate}
+use Rattle.std.specs.Prelude.{◌≡◌, ℕ, true, IsTrue, Option, Some, None, List, [], ◌∷◌, ◌++◌, Result, MatchResult, codes, replicate}
 use Rattle.std.specs.Global.{Vec}
 use Rattle.std.specs.Io.KnownBytes.{Appends, Keeps}
 use Rattle.disk_dcdd.specs.Address.{has_sector, bytes_with_all}
@@ -12,36 +12,19 @@ use Rattle.i8080_words.specs.declared.refusal.Fault.{Fault}
 use Rattle.i8080_words.specs.declared.refusal.Fault.TheVariants as fault
 use Rattle.log_entry.specs.declared.entry.Entry.{Entry}
 use Rattle.pair_events.specs.Printed.{accepted_text}
-use Rattle.pair_events.specs.declared.event.Event.TheVariants.{TypeByte}
 use Rattle.command_ending.specs.Reports.{AddsLine}
 use Rattle.command_ending.specs.declared.failure.Failure.{Failure}
 use Rattle.command_ending.specs.declared.failure.Failure.TheVariants.{OutOfMemory, InputOrOutput, Stalled}
 use Rattle.command_saving.specs.Saving.{AreWhole, are_attached, images_of}
-use Rattle.command_line.specs.declared.live_order.Asker.{Asker}
-use Rattle.command_line.specs.declared.live_order.Asker.TheVariants as asker
+use Rattle.command_input.specs.Typed.{typed_in}
 use Rattle.command_line.specs.declared.live_order.LiveOrder.{LiveOrder}
-use Rattle.pair_protocol.specs.Lawful.{Among}
 use Rattle.pair_threads.specs.Ending.{EndsBy, WonBy}
 use Rattle.pair_threads.specs.declared.gate.Who.{Who}
 use Rattle.pair_threads.specs.declared.gate.Who.TheVariants.{Primary, Backup}
 use Rattle.script_language.specs.declared.line.Line.{Line}
-use Rattle.script_language.specs.declared.line.Line.TheVariants.{Event}
 use Rattle.script_language.specs.declared.setup.ScriptSetup.{ScriptSetup}
 use Rattle.shared_disk.specs.Records.{HasWholeSectors, IsAtBoot, IsUnwritten}
 use Rattle.shared_disk.specs.declared.store.Record.{Record}
-
--- the byte that a line types at a port, and the bytes that lines do
-abbrev pub typed_by : ℕ → Line → Option ℕ
-typed_by port (Event (TypeByte at byte)) = if at == port then Some byte else None
-typed_by port line = None
-
-abbrev pub with_byte : Option ℕ → List ℕ → List ℕ
-with_byte None bytes = bytes
-with_byte (Some byte) bytes = byte ∷ bytes
-
-abbrev pub typed_in : ℕ → List Line → List ℕ
-typed_in port [] = []
-typed_in port (line ∷ lines) = with_byte (typed_by port line) (typed_in port lines)
 
 -- who goes on alone, on a line of its own, if anybody asked to; 10 ends a line
 abbrev pub winner_text : Option Who → List ℕ
@@ -52,12 +35,6 @@ winner_text (Some who) = 10 ∷ codes "winner: backup"
 -- what each terminal has accepted, and who goes on alone
 abbrev pub end_text : List ℕ → List ℕ → Option Who → List ℕ
 end_text first second winner = accepted_text 0 first ++ (10 ∷ accepted_text 1 second) ++ winner_text winner
-
--- the one who was to ask goes on alone, or nobody
-abbrev pub IsWonBy : Asker → Option Who → Type 0
-IsWonBy asker.Nobody winner = winner ≡ None
-IsWonBy asker.Primary winner = winner ≡ Some Primary
-IsWonBy asker.Backup winner = winner ≡ Some Backup
 
 -- each sector has the bytes of the last of these that goes there, or zeros
 abbrev pub AreBooted : ScriptSetup → List SectorWrite → (SectorAddress → List ℕ) → Type 0
@@ -76,8 +53,7 @@ pub record EndsOf (setup : ScriptSetup) (given : List SectorWrite) (typed0 typed
   pub records : List Record
   pub s : Guest
   pub t : Guest
-  pub exact : Bool
-  pub ends : EndsBy (altair setup.guest sectors) exact typed0 typed1 winner primary backup held screens records s t
+  pub ends : EndsBy (altair setup.guest sectors) true typed0 typed1 winner primary backup held screens records s t
   pub images_are : images ≡ images_of records saved
   pub whole : AreWhole images saved
 
@@ -106,15 +82,8 @@ pub record HasEnded (setup : ScriptSetup) (given : List SectorWrite) (lines : Li
   pub held : ℕ
   pub s : Guest
   pub t : Guest
-  pub exact : Bool
-  pub ends : EndsBy (altair setup.guest sectors) exact (typed_in 0 lines) (typed_in 1 lines) winner primary backup held
+  pub ends : EndsBy (altair setup.guest sectors) true (typed_in 0 lines) (typed_in 1 lines) winner primary backup held
       screens records s t
-
--- who goes on alone at the end was to ask, in the first generation or in a further one; if nobody does, nobody was to in one
--- of them
-abbrev pub WonIn : LiveOrder → Option Who → Type 0
-WonIn order winner = WonBy order.primary_asks order.backup_asks winner
-    ⊎ ((a : Asker) × Among a order.next.items × IsWonBy a winner)
 
 -- such an end is printed
 pub record TellsEnd (setup : ScriptSetup) (given : List SectorWrite) (typed0 typed1 : List ℕ) (order : LiveOrder)
@@ -122,7 +91,7 @@ pub record TellsEnd (setup : ScriptSetup) (given : List SectorWrite) (typed0 typ
   pub first : List ℕ
   pub second : List ℕ
   pub winner : Option Who
-  pub won : WonIn order winner
+  pub won : WonBy order.primary_asks order.backup_asks winner
   pub ends : EndsOf setup given typed0 typed1 order.saved.items winner (first ∷ second ∷ []) images
   pub printed : AddsLine (Some (end_text first second winner)) old new
 

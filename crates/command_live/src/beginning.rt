@@ -3,7 +3,8 @@ ghost use Rattle.std.specs.Prelude.{◌≡◌, IfOk};
 ghost use Rattle.event_callbacks.specs.declared.devices.TheConstants.{SENT, SECTOR, WRITTEN};
 ghost use Rattle.event_callbacks.specs.Keeping.{Keeps};
 ghost use Rattle.guest_board.specs.Guest.{guest_at_boot};
-ghost use Rattle.command_live.specs.Living.{AreTyped, BeginsAs, typed_by, typed_in};
+ghost use Rattle.command_input.specs.Typed.{typed_by, typed_in};
+ghost use Rattle.command_live.specs.Living.{AreTyped, BeginsAs};
 ghost use Rattle.shared_disk.specs.Records.{HasWholeSectors, IsAtBoot, IsUnwritten};
 
 use command_input::Input;
@@ -22,16 +23,16 @@ pub(crate) const STEPS: u64 = 20_000;
 /// For how many turns a pair runs, how many instructions a guest executes in one at most, and the turn at which each node asks to go on
 /// alone.
 #[derive(Clone, Copy)]
-pub struct Asked {
-    pub turns: u64,
-    pub steps: u64,
-    pub primary: Option<u64>,
-    pub backup: Option<u64>,
+pub(crate) struct Asked {
+    pub(crate) turns: u64,
+    pub(crate) steps: u64,
+    pub(crate) primary: Option<u64>,
+    pub(crate) backup: Option<u64>,
 }
 
 /// What the generation of a script begins with, over a link of these fates.
 #[tactic(auto, using(crate::proofs::Living::begins_as))]
-pub fn workers_of<
+pub(crate) fn workers_of<
     T: Completes + Drop + Copy,
     S: Completes + Drop + Copy,
     W: Completes + Drop + Copy,

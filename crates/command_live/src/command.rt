@@ -1,8 +1,9 @@
-//! A pair on threads that is run, and told of.
-ghost use Rattle.std.specs.Prelude.{◌≡◌, IfErr, IsTrue, OnOk, false};
+//! A pair on threads that is run, and printed.
+ghost use Rattle.std.specs.Prelude.{◌≡◌, IfErr, IsTrue, OnOk};
 ghost use Rattle.std.specs.Io.KnownBytes.{Appends};
 ghost use Rattle.command_ending.specs.declared.failure.Failure.TheVariants as failure;
-ghost use Rattle.command_live.specs.Living.{PrintsLive, typed_in};
+ghost use Rattle.command_input.specs.Typed.{typed_in};
+ghost use Rattle.command_live.specs.Living.{PrintsLive};
 ghost use Rattle.command_saving.specs.Saving.{are_attached};
 
 use crate::live;
@@ -16,38 +17,34 @@ use std::io::Write;
 use std::thread::Threads;
 use std::time::Clock;
 
-/// Runs a pair on threads, and writes what it prints and the images of the disks that are saved. If the order asks for it, what becomes
-/// of the pair is told on `notes`. If a disk is to be saved that no drive of the setup has, input or output fails, and nothing runs.
-pub fn run_live<H: Threads + Clock + Sync, W: Write + Drop, N: Write + Drop>(
+/// Runs a pair on threads, and writes what it prints and the images of the disks that are saved. If a disk is to be saved that no drive
+/// of the setup has, input or output fails, and nothing runs.
+pub fn run_live<H: Threads + Clock + Sync, W: Write + Drop>(
     rt: &H,
     alloc: Global,
     order: LiveOrder,
     input: &Input,
     writer: &mut W,
-    notes: &mut N,
 ) -> Result<(), Failure>
-    ensures silent { order.told ≡ false → N.contents notes.new ≡ N.contents notes.old }
     ensures printed { PrintsLive input.now.script.setup input.now.sectors.items (typed_in 0 input.now.script.lines.items)
         (typed_in 1 input.now.script.lines.items) order result (W.contents writer.old) (W.contents writer.new) }
 {
     if !are_attached(&order.saved, input.script.setup.guest.drives) {
         return Err(Failure::InputOrOutput);
     }
-    run_attached(rt, alloc, order, input, writer, notes)
+    run_attached(rt, alloc, order, input, writer)
 }
 
 // The same, if each disk that is to be saved is that of a drive of the setup.
 #[tactic(auto, using(crate::proofs::Living::settled_live, crate::proofs::Living::settled_residual))]
-fn run_attached<H: Threads + Clock + Sync, W: Write + Drop, N: Write + Drop>(
+fn run_attached<H: Threads + Clock + Sync, W: Write + Drop>(
     rt: &H,
     alloc: Global,
     order: LiveOrder,
     input: &Input,
     writer: &mut W,
-    notes: &mut N,
 ) -> Result<(), Failure>
     requires attached { IsTrue (are_attached input.now.script.setup.guest.drives order.saved.items) }
-    ensures silent { order.told ≡ false → N.contents notes.new ≡ N.contents notes.old }
     ensures printed { PrintsLive input.now.script.setup input.now.sectors.items (typed_in 0 input.now.script.lines.items)
         (typed_in 1 input.now.script.lines.items) order result (W.contents writer.old) (W.contents writer.new) }
 {
@@ -59,7 +56,6 @@ fn run_attached<H: Threads + Clock + Sync, W: Write + Drop, N: Write + Drop>(
         input,
         &mut printed,
         writer,
-        notes,
         plain_completions::sent,
         plain_completions::sector,
         plain_completions::written,

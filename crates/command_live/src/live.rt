@@ -1,16 +1,13 @@
 //! A pair on threads, from its boot to its end.
-ghost use Rattle.std.specs.Prelude.{◌≡◌, ◌∷◌, [], ℕ, IfOk, List, Option, false, map};
+ghost use Rattle.std.specs.Prelude.{◌≡◌, ◌∷◌, [], ℕ, IfOk, List, Option, map};
 ghost use Rattle.event_callbacks.specs.declared.devices.TheConstants.{SENT, SECTOR, WRITTEN};
 ghost use Rattle.event_callbacks.specs.Keeping.{Keeps};
 ghost use Rattle.command_ending.specs.Reports.{handed};
-ghost use Rattle.command_live.specs.Living.{HasEnded, PrintsNone, Tells, TellsScreens, end_text, failure_of, typed_in};
+ghost use Rattle.command_input.specs.Typed.{typed_in};
+ghost use Rattle.command_live.specs.Living.{HasEnded, PrintsNone, Tells, TellsScreens, end_text, failure_of};
 ghost use Rattle.pair_threads.specs.Ending.{WonBy};
 
 use crate::beginning::{Asked, STEPS, workers_of};
-use crate::generations::generations;
-use crate::teller::{BackupAsks, Teller};
-use crate::watch::Watch;
-use crate::watcher::Watcher;
 use altair_laws::altairs_are_lawful;
 use command_ending::{Failure, Report};
 use command_input::Input;
@@ -21,8 +18,7 @@ use guest_board::Board;
 use guest_lockstep::Lockstep;
 use i8080_words::{Fault, R};
 use pair_events::Answer;
-use pair_generations::{Steward, Unattended};
-use pair_threads::{Fate, Gate, GenerationEnd, OpenGate, Who, run_generation};
+use pair_threads::{Fate, GenerationEnd, OpenGate, Who, run_generation};
 use shared_disk::MemoryStore;
 use std::alloc::Global;
 use std::fmt;
@@ -64,14 +60,14 @@ impl fmt::Display for EndText<'_> {
 
 /// Boots a pair whose completions are these closures, runs it on threads until it is at its end, and prints what its
 /// terminals have accepted. Nothing is printed of a pair that stalls. What is returned are the images of the disks that
-/// are saved; input or output has failed if one of them is not attached. Notes are written only if the order asks for them.
-pub fn run<
+/// are saved; input or output has failed if one of them is not attached.
+#[tactic(auto, using(crate::proofs::Living::tells_of))]
+pub(crate) fn run<
     H: Threads + Clock + Sync,
     T: Completes + Drop + Copy + Send,
     S: Completes + Drop + Copy + Send,
     W: Completes + Drop + Copy + Send,
     O: Write + Drop,
-    N: Write + Drop,
 >(
     rt: &H,
     alloc: Global,
@@ -79,7 +75,6 @@ pub fn run<
     input: &Input,
     report: &mut Report,
     writer: &mut O,
-    notes: &mut N,
     sent: T,
     sector: S,
     written: W,
@@ -87,7 +82,6 @@ pub fn run<
     requires sent { Keeps (T.may sent) (T.gives sent) SENT }
     requires sector { Keeps (S.may sector) (S.gives sector) SECTOR }
     requires written { Keeps (W.may written) (W.gives written) WRITTEN }
-    ensures silent { order.told ≡ false → N.contents notes.new ≡ N.contents notes.old }
     ensures told { Tells input.now.script.setup input.now.sectors.items (typed_in 0 input.now.script.lines.items)
         (typed_in 1 input.now.script.lines.items) order result
         (handed (O.contents writer.old) report.old) (handed (O.contents writer.new) report.new) }
@@ -98,157 +92,10 @@ pub fn run<
         primary: order.primary_asks,
         backup: order.backup_asks,
     };
-    if order.told {
-        return run_told(
-            rt, alloc, asked, &order, input, report, writer, notes, sent, sector, written,
-        );
-    }
-    if order.next.is_empty() {
-        return run_one(
-            rt, alloc, asked, order, input, report, writer, sent, sector, written,
-        );
-    }
-    run_several(
-        rt,
-        alloc,
-        asked,
-        &order,
-        input,
-        report,
-        writer,
-        &OpenGate,
-        &mut Unattended,
-        sent,
-        sector,
-        written,
-    )
-}
-
-// The same of one generation.
-#[tactic(auto, using(crate::proofs::Living::tells_one))]
-fn run_one<
-    H: Threads + Clock + Sync,
-    T: Completes + Drop + Copy + Send,
-    S: Completes + Drop + Copy + Send,
-    W: Completes + Drop + Copy + Send,
-    O: Write + Drop,
->(
-    rt: &H,
-    alloc: Global,
-    asked: Asked,
-    order: LiveOrder,
-    input: &Input,
-    report: &mut Report,
-    writer: &mut O,
-    sent: T,
-    sector: S,
-    written: W,
-) -> Result<Vec<u8>, Failure>
-    requires asked { (asked.primary ≡ order.primary_asks) × (asked.backup ≡ order.backup_asks) }
-    requires sent { Keeps (T.may sent) (T.gives sent) SENT }
-    requires sector { Keeps (S.may sector) (S.gives sector) SECTOR }
-    requires written { Keeps (W.may written) (W.gives written) WRITTEN }
-    ensures { Tells input.now.script.setup input.now.sectors.items (typed_in 0 input.now.script.lines.items)
-        (typed_in 1 input.now.script.lines.items) order result
-        (handed (O.contents writer.old) report.old) (handed (O.contents writer.new) report.new) }
-{
     match generation(rt, alloc, asked, order.link, input, sent, sector, written) {
         Ok(mut end) => tell(alloc, &mut end, &order.saved, report, writer),
         Err(fault) => Err(failure_of(fault)),
     }
-}
-
-// The same of several.
-#[tactic(auto, using(crate::proofs::Living::tells_of))]
-fn run_several<
-    H: Threads + Clock + Sync,
-    T: Completes + Drop + Copy + Send,
-    S: Completes + Drop + Copy + Send,
-    W: Completes + Drop + Copy + Send,
-    O: Write + Drop,
-    G: Gate + Sync,
-    P: Steward,
->(
-    rt: &H,
-    alloc: Global,
-    asked: Asked,
-    order: &LiveOrder,
-    input: &Input,
-    report: &mut Report,
-    writer: &mut O,
-    gate: &G,
-    steward: &mut P,
-    sent: T,
-    sector: S,
-    written: W,
-) -> Result<Vec<u8>, Failure>
-    requires asked { (asked.primary ≡ order.now.primary_asks) × (asked.backup ≡ order.now.backup_asks) }
-    requires sent { Keeps (T.may sent) (T.gives sent) SENT }
-    requires sector { Keeps (S.may sector) (S.gives sector) SECTOR }
-    requires written { Keeps (W.may written) (W.gives written) WRITTEN }
-    ensures { Tells input.now.script.setup input.now.sectors.items (typed_in 0 input.now.script.lines.items)
-        (typed_in 1 input.now.script.lines.items) order.now result
-        (handed (O.contents writer.old) report.old) (handed (O.contents writer.new) report.new) }
-{
-    match generations(
-        rt, alloc, asked, order, input, gate, steward, sent, sector, written,
-    ) {
-        Ok(mut last) => tell(alloc, &mut last, &order.saved, report, writer),
-        Err(why) => Err(failure_of(why)),
-    }
-}
-
-// The same, and what becomes of the pair is told.
-fn run_told<
-    H: Threads + Clock + Sync,
-    T: Completes + Drop + Copy + Send,
-    S: Completes + Drop + Copy + Send,
-    W: Completes + Drop + Copy + Send,
-    O: Write + Drop,
-    N: Write + Drop,
->(
-    rt: &H,
-    alloc: Global,
-    asked: Asked,
-    order: &LiveOrder,
-    input: &Input,
-    report: &mut Report,
-    writer: &mut O,
-    notes: &mut N,
-    sent: T,
-    sector: S,
-    written: W,
-) -> Result<Vec<u8>, Failure>
-    requires asked { (asked.primary ≡ order.now.primary_asks) × (asked.backup ≡ order.now.backup_asks) }
-    requires sent { Keeps (T.may sent) (T.gives sent) SENT }
-    requires sector { Keeps (S.may sector) (S.gives sector) SECTOR }
-    requires written { Keeps (W.may written) (W.gives written) WRITTEN }
-    ensures { Tells input.now.script.setup input.now.sectors.items (typed_in 0 input.now.script.lines.items)
-        (typed_in 1 input.now.script.lines.items) order.now result
-        (handed (O.contents writer.old) report.old) (handed (O.contents writer.new) report.new) }
-{
-    let watch: Watch = Watch::new();
-    let gate = Watcher::new(&watch, rt);
-    let asks = BackupAsks {
-        first: asked.backup,
-        next: &order.next,
-        next_at: &order.next_at,
-    };
-    let mut teller = Teller::new(alloc, rt, &watch, asks, notes);
-    run_several(
-        rt,
-        alloc,
-        asked,
-        order,
-        input,
-        report,
-        writer,
-        &gate,
-        &mut teller,
-        sent,
-        sector,
-        written,
-    )
 }
 
 // Why nothing is printed.

@@ -22,10 +22,6 @@ pushed e w = record { items = w.items ++ e ∷ []; forgotten = w.forgotten; read
 abbrev pub forgotten_to : ℕ → Written → Written
 forgotten_to index w = record { items = w.items; forgotten = max w.forgotten index; ready = false }
 
--- with none of its entries kept
-abbrev pub remembered : Written → Written
-remembered w = record { items = w.items; forgotten = length w.items; ready = false }
-
 -- what holds of every journal
 abbrev pub IsWithin : Written → Type 0
 IsWithin w = w.forgotten ≤ length w.items

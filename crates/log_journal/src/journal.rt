@@ -105,28 +105,6 @@ impl Journal {
         self.forgotten = index;
     }
 
-    /// Forgets all entries.
-    pub fn forget_all(&mut self)
-        ensures { self.new ≡ written.remembered self.old }
-    {
-        let count = self.forgotten + self.kept.len();
-        self.ready = false;
-        self.kept.clear();
-        self.forgotten = count;
-    }
-
-    /// The same entries, all of them forgotten.
-    pub fn remembered(&self, alloc: Global) -> Journal
-        ensures { result ≡ written.remembered self.now }
-    {
-        Journal {
-            all: self.all.again(),
-            forgotten: self.len(),
-            kept: VecDeque::new(alloc),
-            ready: false,
-        }
-    }
-
     /// A copy of the entries that are not forgotten.
     pub fn kept(&self, alloc: Global) -> R<Vec<Entry>>
         ensures entries { IfOk result (λ copy. copy.items ≡ drop self.now.forgotten self.now.items) }

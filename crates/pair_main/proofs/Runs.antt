@@ -2,7 +2,8 @@
 use Rattle.std.proofs.Common.{◌≡◌, ℕ, Option, List, Result, Ok, Err, String, Global, string_bytes, inl, inr, refl, subst, sym}
 use Rattle.std.specs.Global.{Vec}
 use Rattle.command_lint.specs.Linting.{Lints}
-use Rattle.command_live.specs.Living.{PrintsLive, typed_in}
+use Rattle.command_input.specs.Typed.{typed_in}
+use Rattle.command_live.specs.Living.{PrintsLive}
 use Rattle.command_script.specs.Drawing.{Draws}
 use Rattle.command_script.specs.Printing as script
 use Rattle.pair_main.specs.Runs.{IsObeyed, IsRun, IsScriptOf, Writes, asked_by}

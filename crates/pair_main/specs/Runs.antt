@@ -5,7 +5,8 @@ use Rattle.std.specs.Global.{Vec}
 use Rattle.std.specs.Result.{IsErrAnd}
 use Rattle.std.specs.declared.borrow.CowStr.{CowStr}
 use Rattle.command_lint.specs.Linting.{Lints}
-use Rattle.command_live.specs.Living.{PrintsLive, typed_in}
+use Rattle.command_input.specs.Typed.{typed_in}
+use Rattle.command_live.specs.Living.{PrintsLive}
 use Rattle.command_script.specs.Drawing.{Draws}
 use Rattle.command_script.specs.Printing as script
 use Rattle.pair_shell.specs.Hearing.{Hears}

@@ -101,14 +101,7 @@ fn obey<
         Request::Picture(images) => draw(alloc, images, &mut streams.reader, &mut streams.writer),
         Request::Lint => run_lint(alloc, &mut streams.reader, &mut streams.writer),
         Request::Live(order) => {
-            run_threads(
-                rt,
-                alloc,
-                order,
-                &mut streams.reader,
-                &mut streams.writer,
-                &mut streams.notes,
-            )
+            run_threads(rt, alloc, order, &mut streams.reader, &mut streams.writer)
         }
         Request::Shell => run_shell(
             alloc,
@@ -166,16 +159,15 @@ fn draw<R: Read + Drop, W: Write + Drop>(
 
 // Reads a script and the images before it, and runs its pair on threads.
 #[tactic(auto, using(crate::proofs::Runs::refuses_live))]
-fn run_threads<H: Threads + Clock + Sync, R: Read + Drop, W: Write + Drop, N: Write + Drop>(
+fn run_threads<H: Threads + Clock + Sync, R: Read + Drop, W: Write + Drop>(
     rt: &H,
     alloc: Global,
     order: LiveOrder,
     reader: &mut R,
     writer: &mut W,
-    notes: &mut N,
 ) -> Result<(), Failure>
     ensures { IsObeyed R.remaining W.contents reader.old reader.new writer.old writer.new (asked.Live order) result }
 {
     let input = read_input(alloc, Language::Threads, &order.images, reader)?;
-    run_live(rt, alloc, order, &input, writer, notes)
+    run_live(rt, alloc, order, &input, writer)
 }

@@ -1,9 +1,9 @@
 -- The table at the start meets the rule.
-use Rattle.std.proofs.Common.{◌≡◌, ℕ, zero, suc, ◌+◌, ◌<◌, ◌≤◌, List, [], ◌∷◌, length, sym, refl, ◌∙◌, subst, inl, inr, le_refl, arith, None, replicate}
+use Rattle.std.proofs.Common.{◌≡◌, ℕ, zero, suc, ◌+◌, ◌<◌, List, [], ◌∷◌, sym, refl, ◌∙◌, subst, inl, inr, le_refl, arith, None, replicate}
 use mathlib.Core.Option.{some, some-injective, some-ne-none}
 use lib.ListN.{get_elem?}
 use Rattle.atomic_table.specs.Table.{opening}
-use Rattle.pair_rule.proofs.Words.{Boxed, Fits, Homes, IsStart, Knowledge, Mailbox, Outbox, Primary, Rule, Same, SeatView, Side, Sized, Stands, WhereSome, Who, box_index, core_of, first_known, has, is_full, new_side, slot_of, view_of, winner_of}
+use Rattle.pair_rule.proofs.Words.{Boxed, Fits, Homes, Knowledge, Mailbox, Outbox, Primary, Rule, Same, SeatView, Side, Sized, Stands, WhereSome, Who, box_index, core_of, first_core, first_known, first_view, has, is_full, new_side, slot_of, view_of}
 use Rattle.pair_rule.specs.Histories.{Opens}
 use Rattle.pair_rule.proofs.Agree.{AllAgree}
 
@@ -43,13 +43,6 @@ alone : (v w : SeatView) (j : ℕ) → get_elem? (v ∷ []) j ≡ some w → (j 
 alone v w zero e = (refl, some-injective v w e)
 alone v w (suc j) e = absurd (some-ne-none w (sym e))
 
--- no swap yet
-none_more : (n : ℕ) → n + 0 ≡ n
-none_more n = omega arith
-
-most_before : (m n : ℕ) → m ≤ n → m ≤ n + 0
-most_before m n le = omega (arith, le)
-
 -- no read yet
 none_read : AllAgree (first_known 0).disk
 none_read r (inl at) = absurd at
@@ -69,19 +62,18 @@ first_stands g = record {
   disk = record { taken = tt; puts = tt; answers = tt; replies = tt; agree = none_read };
 }
 
-pub opens : (g n a0 a1 : ℕ) (k : Knowledge) → IsStart g n a0 a1 k
-    → Rule g (opening (n ∷ n ∷ 0 ∷ a0 ∷ a1 ∷ 0 ∷ 1 ∷ 2 ∷ 3 ∷ 4 ∷ 5 ∷ 6 ∷ 7 ∷ []) (replicate 13 None) (view_of k))
-opens g n a0 a1 k start = let v : SeatView = view_of k in record {
-  core = core_of k;
+pub opens : (g : ℕ)
+    → Rule g (opening (0 ∷ 0 ∷ 0 ∷ 0 ∷ 0 ∷ 0 ∷ 1 ∷ 2 ∷ 3 ∷ 4 ∷ 5 ∷ 6 ∷ 7 ∷ []) (replicate 13 None) (first_view g))
+opens g = let v : SeatView = first_view g in let k : Knowledge = first_known g in record {
+  core = first_core g;
   boxes = boxes0;
-  words = λ i. start.list i ∷ start.held i ∷ winner_of (start.primary_waits i) (start.backup_waits i) ∷ start.arrived0 i
-      ∷ start.arrived1 i ∷ boxes0;
+  words = refl;
   at = λ n. 0;
   seats = λ n. record {
     here = (v, refl, first_has k n);
     only = λ j w e hw. let a = alone v w j e in (
       a.0,
-      subst (λ (z : SeatView). Same n z.core (core_of k)) a.1 record {
+      subst (λ (z : SeatView). Same n z.core (first_core g)) a.1 record {
         sized = first_sized k;
         generation = refl;
         hand = refl;
@@ -93,7 +85,7 @@ opens g n a0 a1 k start = let v : SeatView = view_of k in record {
     );
   };
   facts = record {
-    generation = sym start.generation_is;
+    generation = refl;
     sized = first_sized k;
     eight = refl;
     laid = record {
@@ -115,44 +107,14 @@ opens g n a0 a1 k start = let v : SeatView = view_of k in record {
     fitting = λ b f e. let z = box0 b in subst (λ (x : Side). WhereSome x.last (Fits b k))
         (some-injective new_side f (sym z.1 ∙ e)) tt;
     counted = record {
-      asked_before = k.primary.asked;
-      given_before = length k.disk.given;
-      asked_is = none_more k.primary.asked;
-      taken = most_before k.disk.takes k.primary.asked start.taken;
-      given_is = none_more (length k.disk.given);
-      came = most_before (length k.primary.answers) (length k.disk.given) start.came;
+      asked_before = 0;
+      given_before = 0;
+      asked_is = refl;
+      taken = le_refl 0;
+      given_is = refl;
+      came = le_refl 0;
     };
-    stands = start.stands;
-    ran = start.ran;
+    stands = first_stands g;
+    ran = Opens g;
   };
 }
-
--- the first start of all
-at_first : (g : ℕ) → IsStart g 0 0 0 (first_known g)
-at_first g = record {
-  generation_is = refl;
-  stands = first_stands g;
-  ran = Opens g;
-  list = refl;
-  seen = refl;
-  copy = refl;
-  nothing_wanted = refl;
-  held = refl;
-  primary_waits = refl;
-  backup_waits = refl;
-  arrived0 = refl;
-  arrived1 = refl;
-  hand0 = refl;
-  hand1 = refl;
-  taken = le_refl 0;
-  came = le_refl 0;
-  few = omega arith;
-}
-
-pub first_start : (g g' n a0 a1 : ℕ) (k : Knowledge) → g' ≡ g → n ≡ 0 → a0 ≡ 0 → a1 ≡ 0 → k ≡ first_known g
-    → IsStart g' n a0 a1 k
-first_start g g' n a0 a1 k same none no0 no1 is =
-    subst (λ x. IsStart x n a0 a1 k) (sym same)
-    (subst (λ x. IsStart g x a0 a1 k) (sym none)
-    (subst (λ x. IsStart g 0 x a1 k) (sym no0)
-    (subst (λ x. IsStart g 0 0 x k) (sym no1) (subst (IsStart g 0 0 0) (sym is) (at_first g)))))

@@ -100,7 +100,7 @@ step_told M typed0 typed1 k new Row told (inl t) = thread_told M typed0 typed1 k
 step_told M typed0 typed1 k new Row told (inr q) = silent_told M typed0 typed1 k told new q.step
 
 -- a step of the table leads from what is shown to what is shown
-pub next_shown : {S : Type 0} → RowIsChanges S → ChangesReach S → ReachedIsFaithful S → ReachedGrows S
+next_shown : {S : Type 0} → RowIsChanges S → ChangesReach S → ReachedIsFaithful S → ReachedGrows S
     → (M : Machine S) (C : Copying S) → Runnable M → IsCopying M C → (typed0 typed1 : List ℕ) (k new : Knowledge)
     → IsShown M C typed0 typed1 k → (kind : TableStep M typed0 typed1 k new) → IsShown M C typed0 typed1 new
 next_shown rows changes faithful grow M C may copies typed0 typed1 k new s kind =

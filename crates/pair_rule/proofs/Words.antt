@@ -45,7 +45,7 @@ pub use Rattle.pair_rule.specs.Kinds.{Emptied, Filled, Mine, Swapped, WasIn, app
 pub use Rattle.shared_disk.specs.Arrivals.{read_address}
 pub use Rattle.pair_rule.specs.Knowledge.{Agrees, AgreesOf, AllAre, CanFill, Carries, Decided, Finds, FirstsAgree, FirstsAgreeOf, Fits, HasWrite, IsAsked, IsByteOf, IsEntryOf, IsNext, IsReplied, PortStands, Replies, Rising, Stands, StartsWith, WasRead, WhereSome, accepted_after, accepted_at, accepted_with, after_empty, after_fill, after_sector, appended, arrives, backup_asked, byte_arrived, completed, grown, held, is_of, last_or, longer_by, named_by, primary_asked, put_by, saw, saw_count, sector_entry, wanted_then, winner_after, winner_of, with_carried, with_entry, with_release, with_request, words_of}
 pub use Rattle.pair_rule.specs.Law.{AnswersLookup, AnswersRead, AppendEvents, Appends, Arrives, AsksRead, BackupLoses, BackupWins, Completes, CountsNone, EventsOf, HasAnswer, HasLonger, HasPort, HasRun, Holds, IsCovered, IsTold, Keeps, LeadsFaithfully, Misses, PrimaryLoses, PrimaryWins, Puts, Releases, Runnable, SeeEvents, Sees, SeesCount, SilentStep, SilentStepsShow, StartsShown, StepsAreEvents, StepsAreFaithful, Takes, TakesByte0, TakesByte1, TakesLookup, TakesRequest, ThreadStep, Wants, typed_at, with_released}
-pub use Rattle.pair_rule.specs.Rules.{CountedBy, CountsAs, Facts, Has, IsStart, Moment, Part, Rule, Same, SamePart, Sized, core_of, first_known, has, new_side, part, view_of}
+pub use Rattle.pair_rule.specs.Rules.{CountedBy, Facts, Has, Moment, Part, Rule, Same, SamePart, Sized, core_of, first_core, first_known, first_view, has, new_side, part, view_of}
 pub use Rattle.pair_rule.specs.Seats.{Empties, Fills, HasSwapsLeft, LeavesRoom, Opened, all_below, entry_by, most_swaps, numbers, with_sector, zeros}
 pub use Rattle.pair_rule.specs.Shown.{First, Happens, IsAcknowledged, IsSentBy, Leads, Nothing, Sent, Shows, ShowsVisible, Visible, arrival_of, backup_node, backup_role, backup_runs, hand_of, notes_from, primary_node, primary_role, primary_runs, terminals_of, visible, winners_of}
 pub use Rattle.pair_rule.specs.Steps.{BackupAsks, CountEvents, EmptyEvents, FillEvents, FindEvents, HasEvents, HasNoEvents, IsStep, PrimaryAsks, Promised, ReadsBoot, Stays, TableEvents, TableStep, TableStepsAreFaithful, TableStepsAreSteps, TakeEvents}

@@ -1,14 +1,12 @@
 -- The rule of the table.
-use Rattle.std.specs.Prelude.{◌≡◌, ℕ, ◌+◌, ◌≤◌, ◌^◌, true, false, List, [], ◌∷◌, ◌++◌, length, slice_index_or, Option, None}
+use Rattle.std.specs.Prelude.{◌≡◌, ℕ, ◌+◌, ◌≤◌, true, false, List, [], ◌∷◌, ◌++◌, length, slice_index_or, Option, None}
 use mathlib.Core.Option.{some}
 use lib.ListN.{get_elem?}
 use Rattle.atomic_table.specs.Table.{State}
-use Rattle.event_callbacks.specs.declared.operations.Operation.{Operation}
 use Rattle.pair_rule.specs.declared.mailbox.Mailbox.{Mailbox}
 use Rattle.pair_rule.specs.declared.mailbox.Mailbox.TheVariants.{Requests, Answers}
 use Rattle.pair_rule.specs.declared.payload.Packet.{Packet}
 use Rattle.pair_rule.specs.declared.payload.Payload.{Payload}
-use Rattle.pair_rule.specs.declared.view.Arrived.{Arrived}
 use Rattle.pair_rule.specs.declared.view.PrimaryView.{PrimaryView}
 use Rattle.pair_rule.specs.declared.view.BackupView.{BackupView}
 use Rattle.pair_rule.specs.declared.view.TerminalView.{TerminalView}
@@ -20,7 +18,7 @@ use Rattle.pair_rule.specs.declared.view.SeatView.{SeatView}
 use Rattle.pair_rule.specs.Boxes.{Homes, box_index, Who, Primary, Link, Backup, Terminal, Disk, seat_index, filler, emptier, side, Laid, Boxes}
 pub use Rattle.pair_rule.specs.Histories.{first_known}
 use Rattle.pair_rule.specs.Histories.{PlainRun}
-use Rattle.pair_rule.specs.Knowledge.{words_of, Fits, WhereSome, Stands, accepted_after, arrives, last_or}
+use Rattle.pair_rule.specs.Knowledge.{words_of, Fits, WhereSome, Stands}
 
 -- the part of what is known that is a seat's own
 abbrev pub Part : Who → Type 0
@@ -137,29 +135,3 @@ first_core g = core_of (first_known g)
 
 abbrev pub first_view : ℕ → SeatView
 first_view g = view_of (first_known g)
-
--- as many bytes are accepted after this one arrives, if there is one, as after that one
-abbrev pub CountsAs : List Arrived → Option Operation → Option Operation → Type 0
-CountsAs arrivals kept hand = accepted_after 0 (arrives kept arrivals) ≡ accepted_after 0 (arrives hand arrivals)
-
--- what may be known when a table begins: steps of a table led to it, and it stands; both lists have this many entries, all
--- of them held and seen, and the backup wants no sector; this many bytes of each port are accepted, and none in a hand is
--- still to be; nobody has asked to go on alone; and no more requests were taken, and no more answers came, than there were
-pub record IsStart (generation entries accepted0 accepted1 : ℕ) (k : Knowledge) : Type 0 where
-  pub generation_is : generation ≡ k.generation
-  pub stands : Stands k
-  pub ran : PlainRun k
-  pub list : entries ≡ length k.primary.list
-  pub seen : entries ≡ k.primary.seen
-  pub copy : entries ≡ length k.backup.list
-  pub nothing_wanted : None ≡ k.backup.wanted
-  pub held : entries ≡ last_or 0 k.backup.held_values
-  pub primary_waits : 0 ≡ k.primary.winner
-  pub backup_waits : 0 ≡ k.backup.winner
-  pub arrived0 : accepted0 ≡ accepted_after 0 k.terminal.arrivals0
-  pub arrived1 : accepted1 ≡ accepted_after 0 k.terminal.arrivals1
-  pub hand0 : CountsAs k.terminal.arrivals0 None k.terminal.hand0
-  pub hand1 : CountsAs k.terminal.arrivals1 None k.terminal.hand1
-  pub taken : k.disk.takes ≤ k.primary.asked
-  pub came : length k.primary.answers ≤ length k.disk.given
-  pub few : entries ≤ 2 ^ 62

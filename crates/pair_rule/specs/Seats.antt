@@ -29,7 +29,7 @@ use Rattle.pair_rule.specs.Histories.{PlainRun}
 pub use Rattle.pair_rule.specs.Knowledge.{Replies}
 use Rattle.pair_rule.specs.Knowledge.{grown, after_sector, completed, accepted_after, last_or, winner_of, Stands}
 use Rattle.atomic_table.specs.Seated.{TableId}
-use Rattle.pair_rule.specs.Rules.{CountsAs, has, Sized, core_of}
+use Rattle.pair_rule.specs.Rules.{has, Sized, core_of}
 use Rattle.pair_rule.specs.Kinds.{Mine, WasIn, with_slot, nobody, side_at, filled, emptied, found_empty}
 
 -- a seat has its part, its slot, and one value in it
@@ -121,18 +121,18 @@ pub record IsBackup (me : Mine) (slot : ℕ) (fills empties : List ℕ) (count :
   pub keeps : Keeps Backup me slot fills empties
   pub count_is : count ≡ length me.0.core.known.backup.list
   pub count_low :
-      count ≤ 2 ^ 62 + (side_at me.0.core.empties (box_index Inbox)).number
+      count ≤ (side_at me.0.core.empties (box_index Inbox)).number
       + (side_at me.0.core.empties (box_index Sectors)).number
   pub few_packets : (side_at me.0.core.empties (box_index Inbox)).number ≤ 2 ^ 40
   pub few_sectors : (side_at me.0.core.empties (box_index Sectors)).number ≤ 2 ^ 40
   pub wanted_is : next ≡ me.0.core.known.backup.wanted
 
--- what the terminals keep themselves is what their view says; a byte that came before the table is kept no longer
+-- what the terminals keep themselves is what their view says
 pub record IsTerminal (me : Mine) (slot : ℕ) (fills empties : List ℕ) (hand0 : Option Operation) (accepted0 : ℕ)
     (hand1 : Option Operation) (accepted1 : ℕ) : Type 0 where
   pub keeps : Keeps Terminal me slot fills empties
-  pub hand0_is : CountsAs me.0.core.known.terminal.arrivals0 hand0 me.0.core.known.terminal.hand0
-  pub hand1_is : CountsAs me.0.core.known.terminal.arrivals1 hand1 me.0.core.known.terminal.hand1
+  pub hand0_is : hand0 ≡ me.0.core.known.terminal.hand0
+  pub hand1_is : hand1 ≡ me.0.core.known.terminal.hand1
   pub accepted0_is : accepted0 ≡ accepted_after 0 me.0.core.known.terminal.arrivals0
   pub accepted1_is : accepted1 ≡ accepted_after 0 me.0.core.known.terminal.arrivals1
 

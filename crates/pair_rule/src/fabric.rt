@@ -2,7 +2,6 @@
 ghost use Rattle.std.specs.Prelude.{◌≡◌};
 
 use crate::payload::Payload;
-use crate::start::Start;
 use crate::view::SeatView;
 use atomic_table::{Seat, Shared, Table, TableRule};
 use std::alloc::Global;
@@ -10,17 +9,17 @@ use std::marker::Model;
 
 pub struct PairRule;
 
-impl TableRule<Option<Payload>, SeatView, Start> for PairRule {
-    ghost use Rattle.pair_rule.specs.Rules.{Rule, view_of};
+impl TableRule<Option<Payload>, SeatView, u64> for PairRule {
+    ghost use Rattle.pair_rule.specs.Rules.{Rule, first_view};
 
-    ghost holds = { λ start. Rule start.generation };
+    ghost holds = { λ generation. Rule generation };
 
-    ghost first = { λ start. view_of start.known.known };
+    ghost first = { λ generation. first_view generation };
 }
 
-pub(crate) type PairTable = Table<Option<Payload>, SeatView, Start, PairRule, Global>;
+pub(crate) type PairTable = Table<Option<Payload>, SeatView, u64, PairRule, Global>;
 
-pub(crate) type SharedTable = Shared<Option<Payload>, SeatView, Start, PairRule>;
+pub(crate) type SharedTable = Shared<Option<Payload>, SeatView, u64, PairRule>;
 
 pub(crate) type TableSeat = Seat<Option<Payload>, SeatView>;
 

@@ -6,7 +6,6 @@ mod close;
 mod disk;
 mod fabric;
 mod kinds;
-mod known;
 mod laws;
 mod link;
 mod mailbox;
@@ -15,7 +14,6 @@ mod payload;
 mod primary;
 mod seat;
 mod seated;
-mod start;
 mod terminal;
 mod view;
 
@@ -23,7 +21,6 @@ pub use backup::BackupSeat;
 pub use close::Closed;
 pub use disk::DiskSeat;
 pub use fabric::Fabric;
-pub use known::{Known, Recalls, known_by};
 pub use laws::{
     kept_steps_are_threads, sectors_are_kept, silent_steps_are_shown, starts_are_shown,
     steps_are_events, steps_are_faithful, table_steps_are_faithful, table_steps_are_steps,
@@ -34,5 +31,4 @@ pub use open::FiveSeats;
 pub use payload::{Carried, DiskAnswer, DiskRequest, NamedSector, Packet, Payload, PortByte};
 pub use primary::PrimarySeat;
 pub use seat::MOST_SWAPS;
-pub use start::Start;
 pub use terminal::TerminalSeat;

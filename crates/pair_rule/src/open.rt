@@ -1,7 +1,7 @@
 //! How a generation's table begins.
 ghost use Rattle.std.specs.Prelude.{◌≡◌, ◌+◌, true, None, IfOk, IfErr};
 ghost use Rattle.pair_rule.specs.Boxes.{Primary, Link, Backup, Terminal, Disk, seat_index};
-ghost use Rattle.pair_rule.specs.Rules.{IsStart, core_of, first_core, has};
+ghost use Rattle.pair_rule.specs.Rules.{first_core, first_known, has};
 ghost use Rattle.pair_rule.specs.Kinds.{with_slot, without};
 ghost use Rattle.pair_rule.specs.Seats.{IsNew, Opened};
 ghost use Rattle.i8080_words.specs.declared.refusal.Fault.TheVariants.{OutOfMemory};
@@ -14,7 +14,6 @@ use crate::link::LinkSeat;
 use crate::primary::PrimarySeat;
 use crate::seat::SeatState;
 use crate::seated::Seated;
-use crate::start::Start;
 use crate::terminal::{Line, TerminalSeat};
 use atomic_table::Table;
 use i8080_words::Fault;
@@ -33,16 +32,16 @@ pub(crate) struct SeatStates {
 // A seat of a new table takes its slot. It has made no swaps.
 fn first_state<S: Seated>(
     table: &SharedTable,
-    start: &Start,
+    generation: u64,
     mut seat: TableSeat,
     slot: usize,
 ) -> SeatState
     requires table { table.now.table_id.words ≡ 13 }
-    requires seat { IsNew S.who start.now.known.known table.now.table_id seat.table_id seat.me }
+    requires seat { IsNew S.who (first_known generation) table.now.table_id seat.table_id seat.me }
     requires slot { slot ≡ 8 + seat_index S.who }
-    ensures { Opened S.who start.now.known.known table.now.table_id result.seat.table_id result.seat.me result.slot result.fills result.empties }
+    ensures { Opened S.who (first_known generation) table.now.table_id result.seat.table_id result.seat.me result.slot result.fills result.empties }
 {
-    let _ = start;
+    let _ = generation;
     table.load::<FirstSlot<S>>(&mut seat, 0);
     SeatState {
         seat,
@@ -55,46 +54,41 @@ fn first_state<S: Seated>(
 // A seat is split off the first one of a new table, and takes its slot.
 fn split_off<S: Seated>(
     table: &SharedTable,
-    start: &Start,
+    generation: u64,
     lead: &mut TableSeat,
     slot: usize,
 ) -> SeatState
     requires table { (lead.old.table_id ≡ table.now.table_id) × (table.now.table_id.words ≡ 13) }
-    requires lead { has lead.old.me.0 S.who × (lead.old.me.0.core ≡ core_of start.now.known.known) }
+    requires lead { has lead.old.me.0 S.who × (lead.old.me.0.core ≡ first_core generation) }
     requires slot { slot ≡ 8 + seat_index S.who }
     ensures table { lead.new.table_id ≡ lead.old.table_id }
     ensures lead { lead.new.me ≡ (without S.who lead.old.me.0, lead.old.me.1) }
-    ensures seat { Opened S.who start.now.known.known table.now.table_id result.seat.table_id result.seat.me result.slot result.fills result.empties }
+    ensures seat { Opened S.who (first_known generation) table.now.table_id result.seat.table_id result.seat.me result.slot result.fills result.empties }
 {
     let seat = table.split_seat::<Part<S>>(lead);
-    first_state::<S>(table, start, seat, slot)
+    first_state::<S>(table, generation, seat, slot)
 }
 
-// A new table at which this is known, whose first seat is split into five.
-pub(crate) fn open(alloc: Global, start: &Start) -> Result<(Fabric, SeatStates), AllocError>
-    requires { IsStart start.now.generation start.now.entries start.now.accepted0 start.now.accepted1 start.now.known.known }
-    ensures primary { IfOk result (λ t. Opened Primary start.now.known.known t.0 t.1.primary.seat.table_id t.1.primary.seat.me t.1.primary.slot t.1.primary.fills t.1.primary.empties) }
-    ensures link { IfOk result (λ t. Opened Link start.now.known.known t.0 t.1.link.seat.table_id t.1.link.seat.me t.1.link.slot t.1.link.fills t.1.link.empties) }
-    ensures backup { IfOk result (λ t. Opened Backup start.now.known.known t.0 t.1.backup.seat.table_id t.1.backup.seat.me t.1.backup.slot t.1.backup.fills t.1.backup.empties) }
-    ensures terminal { IfOk result (λ t. Opened Terminal start.now.known.known t.0 t.1.terminal.seat.table_id t.1.terminal.seat.me t.1.terminal.slot t.1.terminal.fills t.1.terminal.empties) }
-    ensures disk { IfOk result (λ t. Opened Disk start.now.known.known t.0 t.1.disk.seat.table_id t.1.disk.seat.me t.1.disk.slot t.1.disk.fills t.1.disk.empties) }
+// A new table at which nothing is known yet, whose first seat is split into five.
+pub(crate) fn open(alloc: Global, generation: u64) -> Result<(Fabric, SeatStates), AllocError>
+    ensures primary { IfOk result (λ t. Opened Primary (first_known generation) t.0 t.1.primary.seat.table_id t.1.primary.seat.me t.1.primary.slot t.1.primary.fills t.1.primary.empties) }
+    ensures link { IfOk result (λ t. Opened Link (first_known generation) t.0 t.1.link.seat.table_id t.1.link.seat.me t.1.link.slot t.1.link.fills t.1.link.empties) }
+    ensures backup { IfOk result (λ t. Opened Backup (first_known generation) t.0 t.1.backup.seat.table_id t.1.backup.seat.me t.1.backup.slot t.1.backup.fills t.1.backup.empties) }
+    ensures terminal { IfOk result (λ t. Opened Terminal (first_known generation) t.0 t.1.terminal.seat.table_id t.1.terminal.seat.me t.1.terminal.slot t.1.terminal.fills t.1.terminal.empties) }
+    ensures disk { IfOk result (λ t. Opened Disk (first_known generation) t.0 t.1.disk.seat.table_id t.1.disk.seat.me t.1.disk.slot t.1.disk.fills t.1.disk.empties) }
 {
-    let tail = start.entries;
-    let held = start.entries;
-    let counted0 = start.accepted0;
-    let counted1 = start.accepted1;
     let made: (PairTable, TableSeat) = Table::vacant(
         alloc,
-        &[tail, held, 0, counted0, counted1, 0, 1, 2, 3, 4, 5, 6, 7],
+        &[0, 0, 0, 0, 0, 0, 1, 2, 3, 4, 5, 6, 7],
         13,
-        start,
+        &generation,
     )?;
     let (table, mut lead) = made;
-    let link = split_off::<LinkSeat>(&table.shared, start, &mut lead, 9);
-    let backup = split_off::<BackupSeat>(&table.shared, start, &mut lead, 10);
-    let terminal = split_off::<TerminalSeat>(&table.shared, start, &mut lead, 11);
-    let disk = split_off::<DiskSeat>(&table.shared, start, &mut lead, 12);
-    let primary = first_state::<PrimarySeat>(&table.shared, start, lead, 8);
+    let link = split_off::<LinkSeat>(&table.shared, generation, &mut lead, 9);
+    let backup = split_off::<BackupSeat>(&table.shared, generation, &mut lead, 10);
+    let terminal = split_off::<TerminalSeat>(&table.shared, generation, &mut lead, 11);
+    let disk = split_off::<DiskSeat>(&table.shared, generation, &mut lead, 12);
+    let primary = first_state::<PrimarySeat>(&table.shared, generation, lead, 8);
     let states = SeatStates {
         primary,
         link,
@@ -126,21 +120,7 @@ impl Fabric {
         ensures terminal { IfOk result (λ t. t.1.terminal.core ≡ with_slot Terminal true (first_core generation)) }
         ensures disk { IfOk result (λ t. t.1.disk.core ≡ with_slot Disk true (first_core generation)) }
     {
-        Fabric::open_at(alloc, &Start::first(generation))
-    }
-
-    /// A table for one generation, and its seats, which begin with what is known. `OutOfMemory` is its only refusal.
-    pub fn open_at(alloc: Global, start: &Start) -> Result<(Fabric, FiveSeats), Fault>
-        requires start { IsStart start.now.generation start.now.entries start.now.accepted0 start.now.accepted1 start.now.known.known }
-        ensures refused { IfErr result (λ fault. fault ≡ OutOfMemory) }
-        ensures one { IfOk result (λ t. (t.1.primary.table ≡ t.0) × (t.1.link.table ≡ t.0) × (t.1.backup.table ≡ t.0) × (t.1.terminal.table ≡ t.0) × (t.1.disk.table ≡ t.0)) }
-        ensures primary { IfOk result (λ t. t.1.primary.core ≡ with_slot Primary true (core_of start.now.known.known)) }
-        ensures link { IfOk result (λ t. (t.1.link.core ≡ with_slot Link true (core_of start.now.known.known)) × (t.1.link.hand ≡ None)) }
-        ensures backup { IfOk result (λ t. t.1.backup.core ≡ with_slot Backup true (core_of start.now.known.known)) }
-        ensures terminal { IfOk result (λ t. t.1.terminal.core ≡ with_slot Terminal true (core_of start.now.known.known)) }
-        ensures disk { IfOk result (λ t. t.1.disk.core ≡ with_slot Disk true (core_of start.now.known.known)) }
-    {
-        let (fabric, states) = open(alloc, start)?;
+        let (fabric, states) = open(alloc, generation)?;
         let SeatStates {
             primary,
             link,
@@ -151,9 +131,9 @@ impl Fabric {
         let seats = FiveSeats {
             primary: PrimarySeat {
                 state: primary,
-                generation: start.generation,
-                length: start.entries,
-                seen: start.entries,
+                generation,
+                length: 0,
+                seen: 0,
             },
             link: LinkSeat {
                 state: link,
@@ -161,18 +141,18 @@ impl Fabric {
             },
             backup: BackupSeat {
                 state: backup,
-                length: start.entries,
+                length: 0,
                 wanted: None,
             },
             terminal: TerminalSeat {
                 state: terminal,
                 line0: Line {
                     hand: None,
-                    accepted: start.accepted0,
+                    accepted: 0,
                 },
                 line1: Line {
                     hand: None,
-                    accepted: start.accepted1,
+                    accepted: 0,
                 },
             },
             disk: DiskSeat { state: disk },

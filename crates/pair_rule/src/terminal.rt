@@ -100,7 +100,6 @@ impl TerminalSeat {
     }
 
     // Takes the byte that lies in the box of port 0.
-    #[tactic(auto, using(crate::proofs::HandsAgain::counts_same))]
     fn take0(&mut self, fabric: &Fabric) -> Option<PortByte>
         requires table { self.old.table ≡ fabric.now }
         requires few { swaps_at self.old.core.empties Bytes0 < 2 ^ 40 }
@@ -117,7 +116,6 @@ impl TerminalSeat {
     }
 
     // Takes the byte that lies in the box of port 1.
-    #[tactic(auto, using(crate::proofs::HandsAgain::counts_same))]
     fn take1(&mut self, fabric: &Fabric) -> Option<PortByte>
         requires table { self.old.table ≡ fabric.now }
         requires few { swaps_at self.old.core.empties Bytes1 < 2 ^ 40 }
@@ -134,7 +132,6 @@ impl TerminalSeat {
     }
 
     /// Counts the byte in hand as arrived, and returns how many bytes of the port are accepted.
-    #[tactic(auto, using(crate::proofs::HandsAgain::counts_again))]
     pub fn count(&mut self, fabric: &Fabric, port: u8) -> u64
         requires table { self.old.table ≡ fabric.now }
         requires port { port < 2 }

@@ -24,4 +24,3 @@ pub mod Ends
 pub mod Ending
 pub mod Beginning
 pub mod Shown
-pub mod Resuming

@@ -18,5 +18,4 @@ pub mod Leading
 pub mod Ending
 pub mod Left
 pub mod Primary
-pub mod Resuming
 pub mod Shown

@@ -1,10 +1,10 @@
 //! The backup's worker: it takes packets, looks up sectors that they only name, acknowledges its list, repeats its entries, and
 //! may go on alone.
-ghost use Rattle.std.specs.Prelude.{◌≡◌, ◌≢◌, ◌<◌, ◌≤◌, ◌*◌, ◌^◌, ◌-◌, Bool, cond, min, [], false, true, length, is_some, option_map, Option, IfErr, IfOk, IsTrue, OnOk};
+ghost use Rattle.std.specs.Prelude.{◌≡◌, ◌≢◌, ◌<◌, ◌≤◌, ◌*◌, ◌^◌, ◌-◌, Bool, cond, min, [], false, true, length, Option, IfErr, IfOk, OnOk};
 ghost use Rattle.pair_rule.specs.Seats.{HasSwapsLeft};
-ghost use Rattle.pair_threads.specs.BackupTurns.{FindsSector, IsTurnOf, LooksSoon, LooksUp, Takes, TakesPacket, next_chore, turn_of_asking, turn_of_draining, turn_of_nothing, turn_of_replay, turn_of_take};
+ghost use Rattle.pair_threads.specs.BackupTurns.{FindsSector, IsTurnOf, LooksSoon, LooksUp, Takes, TakesPacket, next_chore, turn_of_asking, turn_of_draining, turn_of_nothing, turn_of_replay};
 ghost use Rattle.pair_threads.specs.Ending.{IsEnding};
-ghost use Rattle.pair_threads.specs.Repeating.{Advances, FollowsFor, GoesOn, IsAt, Repeats, has_all, has_run_ahead, is_far_behind};
+ghost use Rattle.pair_threads.specs.Repeating.{Advances, FollowsFor, GoesOn, IsAt, has_all, has_run_ahead, is_far_behind};
 ghost use Rattle.pair_threads.specs.Turns.{Leaves};
 ghost use Rattle.pair_threads.specs.declared.backup.Chore.TheVariants as task;
 
@@ -16,7 +16,6 @@ use crate::worker::{Turn, Worker};
 use disk_dcdd::SectorAddress;
 use guest_lockstep::Lockstep;
 use i8080_words::{Fault, R};
-use log_journal::Journal;
 use pair_rule::{BackupSeat, Fabric};
 use std::alloc::Global;
 
@@ -76,29 +75,6 @@ impl<B: Lockstep> BackupWorker<B> {
             seat,
             guest: Repeater::new(alloc, board, plan.keeps),
             held: 0,
-            won: false,
-            chore: Chore::Take,
-            asked: false,
-            stride: STEPS,
-            plan,
-        }
-    }
-
-    /// A backup that goes on where its guest has repeated this list.
-    pub(crate) fn resume(seat: BackupSeat, list: Journal, board: B, plan: Plan) -> BackupWorker<B>
-        requires list { list.items ≡ seat.core.known.backup.list }
-        requires forgets { plan.keeps ≡ false }
-        ensures seat { result.seat ≡ seat }
-        ensures board { result.guest.board ≡ board }
-        ensures plan { (result.plan ≡ plan) × (result.won ≡ false) }
-        ensures at { (exact : Bool) (boot : B.State) → Repeats B.machine exact boot list.items false (B.state board)
-            → IsAt B.state B.machine exact boot result.guest }
-    {
-        let held = list.len() as u64;
-        BackupWorker {
-            seat,
-            guest: Repeater::resume(list, board),
-            held,
             won: false,
             chore: Chore::Take,
             asked: false,

@@ -4,7 +4,7 @@ ghost use Rattle.pair_threads.specs.Choosing.{next_chore};
 
 /// What one turn of a primary's worker does.
 #[derive(Clone, Copy, PartialEq, Eq)]
-pub enum Chore {
+pub(crate) enum Chore {
     /// See how many entries are acknowledged.
     See,
     /// Give the oldest byte of the port whose turn it is to its terminal.
@@ -32,7 +32,7 @@ pub(crate) const ROTATION: u8 = 20;
 
 impl Chore {
     /// The chore after this one in the rotation.
-    pub fn next(self) -> Chore
+    pub(crate) fn next(self) -> Chore
         ensures { result ≡ next_chore self }
     {
         match self {

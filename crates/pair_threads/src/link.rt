@@ -84,9 +84,9 @@ impl LinkWorker {
     }
 }
 
-/// The fate of a packet, by how many were sent before it: the last one of the list is that of all further packets, and without
-/// any each is delivered.
-pub fn fate_of(fates: &[Fate], packet: usize) -> Fate
+// The fate of a packet, by how many were sent before it: the last one of the list is that of all further packets, and without
+// any each is delivered.
+fn fate_of(fates: &[Fate], packet: usize) -> Fate
     ensures { result ≡ fate_at fates.now packet }
 {
     let own = fates.get(packet).copied();

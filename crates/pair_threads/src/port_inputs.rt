@@ -28,24 +28,6 @@ impl PortInputs {
         }
     }
 
-    /// So many of them are taken, and so many acceptances.
-    pub(crate) fn after(
-        typed: Vec<u8>,
-        taken: usize,
-        accepted: u64,
-        keyboard: Keyboard,
-    ) -> PortInputs
-        requires { taken ≤ vec_len typed }
-        ensures { (result.typed ≡ typed) × (result.taken ≡ taken) × (result.accepted ≡ accepted) × (result.keyboard ≡ keyboard) }
-    {
-        PortInputs {
-            typed,
-            taken,
-            accepted,
-            keyboard,
-        }
-    }
-
     /// The next byte to take.
     pub(crate) fn next(&self) -> Option<u8>
         ensures { result ≡ slice_get self.now.typed.items self.now.taken }

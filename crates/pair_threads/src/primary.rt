@@ -19,7 +19,7 @@ use pair_rule::{DiskAnswer, PrimarySeat};
 
 /// How many steps a guest makes between two keys, unless it idles: about those of an 8080 between two bytes of a line at
 /// 9,600 baud.
-pub const KEY_STEPS: u64 = 300;
+pub(crate) const KEY_STEPS: u64 = 300;
 
 /// The primary's seat, its list, its guest, and what arrived for it.
 #[derive(Drop)]

@@ -17,7 +17,7 @@ const LONGER_SLEEPS: u32 = 99;
 
 /// What a worker that found nothing to do does.
 #[derive(Clone, Copy, PartialEq, Eq)]
-pub enum Rest {
+pub(crate) enum Rest {
     /// It yields the processor to another thread, and looks again.
     Yield,
     /// It sleeps for this many microseconds.
@@ -30,7 +30,7 @@ impl Rest {
     /// asked for precise sleeps, and a guest that is held up would wait for that at each hop of a key or a byte. Yields keep
     /// a processor busy, which a guest that computes may need. Beside other work a yield gives the worker's whole share of
     /// the processor away, and takes milliseconds; who sleeps keeps its share, and has the processor soon after it wakes.
-    pub fn after(micros: u128, sleeps: u32, held_up: bool, busy: bool) -> Rest
+    pub(crate) fn after(micros: u128, sleeps: u32, held_up: bool, busy: bool) -> Rest
         ensures { result ≡ rest_after micros sleeps held_up busy }
     {
         let yields = if held_up { LONG_YIELDS } else { SHORT_YIELDS };

@@ -67,28 +67,6 @@ impl TerminalWorker {
         }
     }
 
-    /// Terminals that have accepted these bytes.
-    pub(crate) fn resume(
-        seat: TerminalSeat,
-        accepted0: Vec<u8>,
-        accepted1: Vec<u8>,
-        screen: Screen,
-    ) -> TerminalWorker
-        requires first { accepted0.items ≡ bytes_accepted 0 seat.core.known }
-        requires second { accepted1.items ≡ bytes_accepted 1 seat.core.known }
-        ensures seat { (result.seat ≡ seat) × (result.screen ≡ screen) }
-        ensures accepted { (result.accepted0 ≡ accepted0) × (result.accepted1 ≡ accepted1) }
-    {
-        TerminalWorker {
-            seat,
-            accepted0,
-            accepted1,
-            screen,
-            second: false,
-            hand: None,
-        }
-    }
-
     // Counts the byte in hand, and keeps it if it is accepted. The other port is next.
     fn count(&mut self, fabric: &Fabric, byte: PortByte) -> R<()>
         requires table { self.old.seat.table ≡ fabric.now }

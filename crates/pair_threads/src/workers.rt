@@ -5,7 +5,6 @@ use crate::link::Fate;
 use log_entry::Entry;
 use log_journal::Journal;
 use pair_lines::Lines;
-use pair_rule::Start;
 use shared_disk::{SectorStore, SharedDisk};
 
 /// What a generation on threads begins with.
@@ -49,22 +48,5 @@ pub struct GenerationEnd<B: Drop, D: SectorStore> {
     pub accepted: [Vec<u8>; 2],
     pub disk: SharedDisk<D>,
     /// The lines over which it was told and told.
-    pub lines: Lines,
-}
-
-/// What a generation on threads begins with that goes on where a run was settled.
-#[derive(Drop)]
-pub struct Resumed<B: Drop, D: SectorStore> {
-    pub workers: Workers<B, D>,
-    /// What is known.
-    pub start: Start,
-    /// The lists of entries.
-    pub primary_list: Journal,
-    pub backup_list: Journal,
-    /// How many of the bytes that are typed at each port were taken.
-    pub taken: (usize, usize),
-    /// What the terminal of each port has accepted.
-    pub accepted: (Vec<u8>, Vec<u8>),
-    /// The lines over which it is told and tells.
     pub lines: Lines,
 }

@@ -1,10 +1,7 @@
 //! What no contract says: that a pair on threads comes to its end, and that its threads run at once.
-mod alone;
-mod finishing;
 mod gates;
 mod lines;
 mod pairs;
 mod rows;
 mod silence;
 mod turns;
-mod until_over;

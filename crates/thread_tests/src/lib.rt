@@ -8,5 +8,3 @@ mod console;
 mod generations;
 #[cfg(test)]
 mod seats;
-#[cfg(test)]
-mod takeovers;

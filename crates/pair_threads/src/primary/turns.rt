@@ -1,18 +1,17 @@
 //! The turns of a primary's worker: it appends the entry that waits, and otherwise does its chores in rotation.
-ghost use Rattle.std.specs.Prelude.{◌≡◌, ◌+◌, ◌<◌, ◌≤◌, ◌⊎◌, ◌↔◌, false, [], length, None, Some, IfErr, IfOk, IfSome, IsTrue, OnOk};
+ghost use Rattle.std.specs.Prelude.{◌≡◌, ◌+◌, ◌<◌, ◌⊎◌, ◌↔◌, false, [], length, None, Some, IfErr, IfOk, IfSome, IsTrue, OnOk};
 ghost use Rattle.event_callbacks.specs.declared.devices.TheConstants.{PORTS};
 ghost use Rattle.event_callbacks.specs.declared.operations.OpId.{OpId};
 ghost use Rattle.pair_rule.specs.Seats.{HasSwapsLeft};
 ghost use Rattle.pair_threads.specs.Choosing.{fruitless_after, is_covered, to_append, turn_after};
 ghost use Rattle.pair_threads.specs.Ending.{IsEnding};
-ghost use Rattle.pair_threads.specs.Leading.{Leads, Says, by_port};
-ghost use Rattle.pair_threads.specs.Primary.{Does, HasAppended, HasDone, IsAtRest, WorkerKeeps, WorkerLeads, Works, has_work_at_1, keys_taken, second_after};
+ghost use Rattle.pair_threads.specs.Primary.{Does, HasAppended, HasDone, IsAtRest, WorkerKeeps, WorkerLeads, Works, has_work_at_1, second_after};
 ghost use Rattle.pair_threads.specs.Screens.{port_of};
 ghost use Rattle.pair_threads.specs.Turns.{Leaves};
 ghost use Rattle.pair_threads.specs.Typing.{HasListened};
 ghost use Rattle.pair_threads.specs.declared.primary.PrimaryWorker.{PrimaryWorker};
 
-use super::{KEY_STEPS, PrimaryWorker};
+use super::PrimaryWorker;
 use crate::chore::{Chore, ROTATION};
 use crate::gate::Progress;
 use crate::plan::Plan;
@@ -71,67 +70,6 @@ impl<B: Lockstep> PrimaryWorker<B> {
             track: 0,
             sector: 0,
             key_count: 0,
-            chore: Chore::Post,
-            second: false,
-            fruitless: 0,
-            held_up: false,
-            plan,
-        }
-    }
-
-    /// A primary that goes on where a run of its list was settled: all of it is acknowledged, and nothing is outstanding. Its guest may
-    /// have taken a key just before, so it has time for that one first.
-    #[tactic(auto, using(crate::proofs::Naming::none_left, crate::proofs::Naming::none_waits))]
-    pub(crate) fn resume(
-        alloc: Global,
-        seat: PrimarySeat,
-        mut list: Journal,
-        board: B,
-        ports: (PortInputs, PortInputs),
-        plan: Plan,
-    ) -> PrimaryWorker<B>
-        requires list { list.items ≡ seat.core.known.primary.list }
-        requires seen { length list.items ≡ seat.core.known.primary.seen }
-        requires forgets { plan.keeps ≡ false }
-        requires counted { (ports.0.accepted ≡ seat.core.known.primary.counted0)
-            × (ports.1.accepted ≡ seat.core.known.primary.counted1) }
-        requires answered { seat.core.known.primary.asked ≤ length seat.core.known.primary.answers }
-        ensures seat { result.seat ≡ seat }
-        ensures board { result.guest.board ≡ board }
-        ensures plan { (result.plan ≡ plan) × (result.port0 ≡ ports.0) × (result.port1 ≡ ports.1) }
-        ensures first { result.second ≡ false }
-        ensures pace { result.key_count ≡ B.machine.count (B.state board) + 300 }
-        ensures leads { (boot : B.State)
-            → Leads B.machine boot seat.core.known.primary.list [] seat.core.known.primary (B.state board)
-            → Says seat.core.known.primary.list (by_port (keys_taken ports.0) (keys_taken ports.1) [])
-            (by_port ports.0.accepted ports.1.accepted 0) → WorkerLeads B.state B.machine boot result }
-    {
-        let (port0, port1) = ports;
-        list.forget_all();
-        let length = list.len() as u64;
-        let counted0 = port0.accepted;
-        let counted1 = port1.accepted;
-        let key_count = board.count() + KEY_STEPS;
-        PrimaryWorker {
-            seat,
-            list,
-            guest: Recording::new(alloc, board),
-            port0,
-            port1,
-            seen: length,
-            counted0,
-            counted1,
-            next: length,
-            full: false,
-            posted: length,
-            emitted0: counted0,
-            emitted1: counted1,
-            asked: false,
-            answer: None,
-            tracks: Tracks::new(),
-            track: 0,
-            sector: 0,
-            key_count,
             chore: Chore::Post,
             second: false,
             fruitless: 0,

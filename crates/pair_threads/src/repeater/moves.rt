@@ -2,7 +2,7 @@
 ghost use Rattle.std.specs.Prelude.{◌≡◌, ◌⊎◌, Bool, ◌↔◌, ◌++◌, [], ◌∷◌, false, true, nat_lt, length, IfErr, IfOk, IsTrue, OnOk};
 ghost use Rattle.i8080_words.specs.declared.refusal.Fault.TheVariants.{OutOfMemory, Stalled};
 ghost use Rattle.pair_rule.specs.Knowledge.{with_carried};
-ghost use Rattle.pair_threads.specs.Repeating.{FollowsFor, GoesOn, IsAt, IsStuck, Repeats, RunsAhead, has_all, is_far_behind, may_run_ahead, ran_ahead, steps_ahead};
+ghost use Rattle.pair_threads.specs.Repeating.{FollowsFor, GoesOn, IsAt, IsStuck, RunsAhead, has_all, is_far_behind, may_run_ahead, ran_ahead, steps_ahead};
 
 use super::Repeater;
 use crate::lag::{Lead, is_too_far};
@@ -29,25 +29,6 @@ impl<B: Lockstep> Repeater<B> {
             replayed: 0,
             between: false,
             keeps,
-        }
-    }
-
-    /// A guest that has repeated this list, and keeps none of it.
-    pub(crate) fn resume(mut list: Journal, board: B) -> Repeater<B>
-        ensures board { result.board ≡ board }
-        ensures list { result.list.items ≡ list.items }
-        ensures keeps { result.keeps ≡ false }
-        ensures at { (exact : Bool) (boot : B.State) → Repeats B.machine exact boot list.items false (B.state board)
-            → IsAt B.state B.machine exact boot result }
-    {
-        let replayed = list.len();
-        list.forget_all();
-        Repeater {
-            list,
-            board,
-            replayed,
-            between: false,
-            keeps: false,
         }
     }
 

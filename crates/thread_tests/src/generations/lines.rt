@@ -8,9 +8,9 @@ use pair_threads::Who;
 use rtrb::{Consumer, RingBuffer};
 use std::alloc::Global;
 
-/// LXI SP,0100; MVI A,95; OUT 10; at 0007 EI; HLT; JMP 0007. At 0038, where it comes by interrupts, it waits until port 0 sends a byte
-/// (IN 10; ANI 02; JZ 0038), and echoes the key (IN 11; OUT 11; RET).
-pub(super) static ECHO: [u8; 68] = [
+// LXI SP,0100; MVI A,95; OUT 10; at 0007 EI; HLT; JMP 0007. At 0038, where it comes by interrupts, it waits until port 0 sends a byte
+// (IN 10; ANI 02; JZ 0038), and echoes the key (IN 11; OUT 11; RET).
+static ECHO: [u8; 68] = [
     0x31, 0x00, 0x01, 0x3e, 0x95, 0xd3, 0x10, 0xfb, 0x76, 0xc3, 0x07, 0x00, 0x00, 0x00, 0x00, 0x00,
     0x00, 0x00, 0x00, 0x00, 0x00, 0x00, 0x00, 0x00, 0x00, 0x00, 0x00, 0x00, 0x00, 0x00, 0x00, 0x00,
     0x00, 0x00, 0x00, 0x00, 0x00, 0x00, 0x00, 0x00, 0x00, 0x00, 0x00, 0x00, 0x00, 0x00, 0x00, 0x00,
@@ -18,29 +18,19 @@ pub(super) static ECHO: [u8; 68] = [
     0x11, 0xd3, 0x11, 0xc9,
 ];
 
-/// The same after it has counted 48 times down from 65,536: LXI SP,0100; MVI D,30; at 0005 LXI B,0000; at 0008 DCX B; MOV A,B; ORA C; JNZ
-/// 0008; DCR D; JNZ 0005; MVI A,95; OUT 10; at 0016 EI; HLT; JMP 0016.
-pub(super) static SLOW_ECHO: [u8; 68] = [
-    0x31, 0x00, 0x01, 0x16, 0x30, 0x01, 0x00, 0x00, 0x0b, 0x78, 0xb1, 0xc2, 0x08, 0x00, 0x15, 0xc2,
-    0x05, 0x00, 0x3e, 0x95, 0xd3, 0x10, 0xfb, 0x76, 0xc3, 0x16, 0x00, 0x00, 0x00, 0x00, 0x00, 0x00,
-    0x00, 0x00, 0x00, 0x00, 0x00, 0x00, 0x00, 0x00, 0x00, 0x00, 0x00, 0x00, 0x00, 0x00, 0x00, 0x00,
-    0x00, 0x00, 0x00, 0x00, 0x00, 0x00, 0x00, 0x00, 0xdb, 0x10, 0xe6, 0x02, 0xca, 0x38, 0x00, 0xdb,
-    0x11, 0xd3, 0x11, 0xc9,
-];
-
-/// Three keys.
-pub(super) static STROKES: [Stroke; 4] = [
+// Three keys.
+static STROKES: [Stroke; 4] = [
     Stroke::Key(0x41),
     Stroke::Key(0x42),
     Stroke::Key(0x43),
     Stroke::End,
 ];
 
-/// Their echo.
-pub(super) static ECHOED: [u8; 3] = [0x41, 0x42, 0x43];
+// Their echo.
+static ECHOED: [u8; 3] = [0x41, 0x42, 0x43];
 
-/// A keyboard at which these strokes are made.
-pub(super) fn keyboard_of(alloc: Global, strokes: &[Stroke]) -> R<Keyboard> {
+// A keyboard at which these strokes are made.
+fn keyboard_of(alloc: Global, strokes: &[Stroke]) -> R<Keyboard> {
     let (mut to, from) = RingBuffer::new(alloc, strokes.len())?;
     for stroke in strokes {
         let _ = to.push(*stroke);
@@ -48,8 +38,8 @@ pub(super) fn keyboard_of(alloc: Global, strokes: &[Stroke]) -> R<Keyboard> {
     Ok(Keyboard::of(from))
 }
 
-/// Whether just these bytes of port 0 come out of a screen's ring.
-pub(super) fn has_shown(from: &mut Consumer<Shown>, bytes: &[u8]) -> bool {
+// Whether just these bytes of port 0 come out of a screen's ring.
+fn has_shown(from: &mut Consumer<Shown>, bytes: &[u8]) -> bool {
     for byte in bytes {
         match from.pop() {
             Ok(shown) if shown.port == 0 && shown.byte == *byte => {}

@@ -19,8 +19,8 @@ use std::alloc::Global;
 use std::thread::Threads;
 use std::time::Clock;
 
-/// Records on a device whose read or write fails once if a case says so.
-pub(super) type Store = FailOnce<MemoryStore>;
+// Records on a device whose read or write fails once if a case says so.
+type Store = FailOnce<MemoryStore>;
 
 /// What a pair runs: a program at 0000, with so many steps in each turn; what the log has of sectors; which access of the disk fails
 /// (0 if none), when the backup asks to go on alone, and how many turns there are; and how many steps the backup's guest then makes by
@@ -113,7 +113,7 @@ fn outcome_of<B: Lockstep + Drop>(
 }
 
 // A guest with one drive, whose memory begins with this program.
-pub(super) fn setup_of(alloc: Global, program: &[u8]) -> R<Setup> {
+fn setup_of(alloc: Global, program: &[u8]) -> R<Setup> {
     let mut memory = Vec::from_slice(alloc, program)?;
     memory.resize(65536, 0x00)?;
     if memory.len() != 65536 {
@@ -129,7 +129,7 @@ pub(super) fn setup_of(alloc: Global, program: &[u8]) -> R<Setup> {
 }
 
 // A guest at boot.
-pub(super) fn boot<T: Completes + Drop, S: Completes + Drop, W: Completes + Drop>(
+fn boot<T: Completes + Drop, S: Completes + Drop, W: Completes + Drop>(
     alloc: Global,
     setup: &Setup,
     callbacks: Callbacks<T, S, W>,
@@ -143,7 +143,7 @@ pub(super) fn boot<T: Completes + Drop, S: Completes + Drop, W: Completes + Drop
 }
 
 // An unwritten disk of one drive, whose access of this number fails.
-pub(super) fn unwritten_disk(alloc: Global, fails: u64) -> R<SharedDisk<Store>>
+fn unwritten_disk(alloc: Global, fails: u64) -> R<SharedDisk<Store>>
     ensures { IfOk result (λ disk. IsUnwritten disk.store) }
 {
     let store = MemoryStore::at_boot(alloc, 1, &[])?;

@@ -11,7 +11,7 @@ use std::process::Abort;
 use std::time::Instant;
 
 // MVI A,03; OUT 10; MVI A,15; OUT 10: port 0 is reset, and set; then MVI A,48; OUT 11; HLT.
-pub(super) static FIRST_BYTE: [u8; 13] = [
+static FIRST_BYTE: [u8; 13] = [
     0x3e, 0x03, 0xd3, 0x10, 0x3e, 0x15, 0xd3, 0x10, 0x3e, 0x48, 0xd3, 0x11, 0x76,
 ];
 

@@ -19,7 +19,7 @@ swap-found-requires c =
     let kept = number_there _ _ c.args.mailbox _ at.exact h.sized.empties k.empties_are in (
       c.requires.table ∙ sym c.fabric.view_is,
       omega arith,
-      subst (λ index. Allows (Rule c.fabric.inside.table.shared.key.generation) c.fabric.inside.table.shared.table_id.slots
+      subst (λ index. Allows (Rule c.fabric.inside.table.shared.key) c.fabric.inside.table.shared.table_id.slots
           c.args.self.now.seat.id c.args.self.now.seat.me (5 + index) (λ _. c.empty_word-new.result)
           (empties (5 + index) c.args.self.now.seat.me)) (sym at.exact)
           (empty_allowed _ _ _ c.args.self.now.seat.me c.args.mailbox c.args.self.now.slot _ h.one.0 c.requires.before h.mine h.hand h.has_slot

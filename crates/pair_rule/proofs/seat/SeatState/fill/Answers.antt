@@ -23,7 +23,7 @@ swap-found-requires c =
     let kept = number_there _ _ c.args.mailbox _ at.exact h.sized.fills k.fills_are in (
       e.0 ∙ c.requires.table ∙ sym c.fabric.view_is,
       omega arith,
-      subst (λ index. Allows (Rule c.fabric.inside.table.shared.key.generation) c.fabric.inside.table.shared.table_id.slots
+      subst (λ index. Allows (Rule c.fabric.inside.table.shared.key) c.fabric.inside.table.shared.table_id.slots
           c.exchange.new.seat.id c.exchange.new.seat.me (5 + index) (λ _. c.full_word-new.result)
           (fills (5 + index) c.exchange.new.seat.me)) (sym at.exact)
           (fill_allowed _ _ _ c.exchange.new.seat.me c.args.mailbox c.args.self.now.slot _ c.args.payload j.mine j.hand j.has_slot

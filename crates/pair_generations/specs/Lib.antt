@@ -1,3 +1,0 @@
-pub mod Guests
-pub mod Generations
-pub mod Altair
