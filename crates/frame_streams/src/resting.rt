@@ -1,6 +1,6 @@
 //! How a loop that finds nothing to do rests: for a moment it looks again and again, and then it sleeps until it is woken.
 ghost use Rattle.std.specs.Prelude.{◌≡◌};
-ghost use Rattle.frame_streams.specs.Resting.{found, looks_again};
+ghost use Rattle.frame_streams.specs.Resting.{found, looks_again, worth_after};
 
 use std::sync::Wait;
 use std::thread::{self, Parker};
@@ -9,30 +9,37 @@ use std::time::{Clock, Duration};
 // For how many microseconds a loop looks again after it has found something.
 const LOOKS: u64 = 500;
 
+// How much looking again can be worth: so many finds in a row that came late make it worth nothing.
+const MOST_WORTH: u64 = 8;
+
 // A yield that took more microseconds than this gave the processor to other work.
 const LONG_YIELD: u64 = 1_000;
 
 // For how many microseconds a loop only sleeps after such a yield: beside other work a yield costs its whole share.
 const SHUNNED: u64 = 20_000;
 
-/// When a loop last found something, and until when it does not look again and again. Times are in microseconds of its clock.
+/// When a loop last found something, until when it does not look again and again, and what that was worth lately. Times are in
+/// microseconds of its clock.
 ///
 /// Waking a thread that sleeps takes 40 to 60 microseconds, and a byte that a guest prints waits for twelve such wakes until the
-/// backup has acknowledged it. A loop that yields the processor and looks again needs none.
+/// backup has acknowledged it. A loop that yields the processor and looks again needs none. It would take half of a processor
+/// from a guest that computes, of whose progress something is to be said each few milliseconds, and nothing in between.
 #[derive(Clone, Copy)]
 pub struct Rests {
     found_at: u64,
     shuns_until: u64,
+    worth: u64,
 }
 
 impl Rests {
     /// Of a loop that begins now.
     pub fn new(now: u64) -> Rests
-        ensures { result ≡ record { found_at = now; shuns_until = 0 } }
+        ensures { result ≡ record { found_at = now; shuns_until = 0; worth = 8 } }
     {
         Rests {
             found_at: now,
             shuns_until: 0,
+            worth: MOST_WORTH,
         }
     }
 
@@ -40,6 +47,7 @@ impl Rests {
     pub fn find(&mut self, now: u64)
         ensures { self.new ≡ found now self.old }
     {
+        self.worth = worth_after(now.saturating_sub(self.found_at), self.worth);
         self.found_at = now;
     }
 
@@ -47,7 +55,9 @@ impl Rests {
     pub fn looks_again(&self, now: u64) -> bool
         ensures { result ≡ looks_again now self.now }
     {
-        now >= self.shuns_until && now.saturating_sub(self.found_at) < LOOKS
+        self.worth > 0
+            && now >= self.shuns_until
+            && now.saturating_sub(self.found_at) < LOOKS
     }
 
     /// Rests: yields if it is to look again, and otherwise sleeps until somebody wakes it through the parker, or for so many
@@ -65,6 +75,16 @@ impl Rests {
             self.shuns_until = later.saturating_add(SHUNNED);
         }
     }
+}
+
+// What looking again is worth after a find that came so many microseconds after the one before.
+fn worth_after(waited: u64, worth: u64) -> u64
+    ensures { result ≡ worth_after waited worth }
+{
+    if waited < LOOKS {
+        return worth.min(MOST_WORTH - 2) + 2;
+    }
+    worth.saturating_sub(1)
 }
 
 /// The time by a clock, in microseconds; as before, if the clock does not tell.

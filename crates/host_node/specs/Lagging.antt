@@ -32,10 +32,10 @@ abbrev pub lag_of : Option shown.Role → (behind : ℕ) → ℕ
 lag_of (Some shown_as.Backup) steps = steps
 lag_of role steps = 0
 
--- a count is said at first, and again half a million steps after it was said last
+-- a count is said at first, and again two million steps after it was said last
 abbrev pub is_due : Option ℕ → (count : ℕ) → Bool
 is_due None count = true
-is_due (Some said) count = nat_le 500_000 (count - said)
+is_due (Some said) count = nat_le 2_000_000 (count - said)
 
 -- a node waits for a backup that is behind: a primary whose backup is whole
 abbrev pub waits_for : Option shown.Role → (is_copying is_behind : Bool) → Bool

@@ -10,7 +10,7 @@ use pair_events::Role;
 const MOST_BEHIND: u64 = 10_000_000;
 
 // After how many steps a host says again how far it is.
-const STEPS: u64 = 500_000;
+const STEPS: u64 = 2_000_000;
 
 /// How far the peer said last that it is, and how far this host said last that it is itself.
 #[derive(Clone, Copy)]

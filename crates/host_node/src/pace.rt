@@ -82,7 +82,9 @@ pub struct Pace {
     // When pages were last copied early.
     pub freshened_at: u64,
     pub beat_at: u64,
+    // What the outside was told last, and when.
     pub told: Option<Report>,
+    pub told_at: u64,
     // How far the peer is; how fast the guest runs; and the last tick.
     pub lag: Lag,
     pub speed: Speed,
@@ -119,6 +121,7 @@ impl Pace {
             freshened_at: 0,
             beat_at: 0,
             told: None,
+            told_at: 0,
             lag: Lag::new(),
             speed: Speed::new(),
             tick: 0,

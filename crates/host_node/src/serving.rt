@@ -22,6 +22,10 @@ const FRAMES: u32 = 512;
 // How many microseconds the loop rests if nobody wakes it.
 const REST: u64 = TICK / 10;
 
+// For how many microseconds after a report none goes only because keys were taken or covered: a report for each key would take
+// the outside longer than the key.
+const REPORTED: u64 = 200;
+
 /// A host and its loop's times.
 #[derive(Drop)]
 pub struct Serving<B: Copies<H> + Drop, H: Drop> {
@@ -227,6 +231,7 @@ impl<B: Copies<H> + KeyRoom + OutstandingWrites + Drop, H: Drop> Serving<B, H> {
         let report = self.host.report(known);
         if self.host.send_report(known)? {
             self.pace.told = Some(report);
+            self.pace.told_at = self.pace.now;
         }
         Ok(())
     }
@@ -271,16 +276,17 @@ impl<B: Copies<H> + KeyRoom + OutstandingWrites + Drop, H: Drop> Serving<B, H> {
         self.pace.is_idle && !self.has_outstanding()
     }
 
-    // Whether the outside was not told yet what the host is, or how many keys it has taken and covered.
+    // Whether the outside was not told yet what the host is, or for a moment how many keys it has taken and covered.
     fn is_news(&self) -> bool {
         let report = self.host.report(self.known());
         let Some(told) = &self.pace.told else {
             return true;
         };
-        told.role != report.role
-            || told.generation != report.generation
-            || told.taken != report.taken
-            || told.covered != report.covered
+        if told.role != report.role || told.generation != report.generation {
+            return true;
+        }
+        let has_keys = told.taken != report.taken || told.covered != report.covered;
+        has_keys && self.pace.is_past(self.pace.told_at, REPORTED)
     }
 }
 

@@ -21,16 +21,51 @@ pub(crate) fn post(lines: &mut [HostLine], alloc: Global, place: u8, frame: &Fra
     lines[place].send(alloc, frame)
 }
 
-/// Sends a frame to the hosts at all places.
+/// To whom a frame goes that is for no single host.
+#[derive(Clone, Copy)]
+pub(crate) enum Audience {
+    All,
+    /// Those that have reported. Nobody empties the ring of a place at which no host has come yet.
+    Reported,
+}
+
+/// Sends a frame to the hosts at all places that it is for.
 #[tactic(auto, using(crate::proofs::Lines::posted_none, crate::proofs::Lines::posted_more))]
-pub(crate) fn post_all(lines: &mut [HostLine], alloc: Global, frame: &Frame<'_>)
+pub(crate) fn post_all(lines: &mut [HostLine], alloc: Global, frame: &Frame<'_>, to: Audience)
     ensures { table.PostsAll (said_by frame.now) lines.old lines.new }
 {
     for place in 0..=u8::MAX {
         if usize::from(place) >= lines.len() {
             break;
         }
-        let _ = post(lines, alloc, place, frame);
+        let _ = post_if(lines, alloc, place, frame, to);
+    }
+}
+
+// Sends a frame to the host at a place, if it is for that one. Returns false if it is not, or if the frame is lost.
+#[tactic(auto, using(crate::proofs::Lines::lines_same))]
+fn post_if(
+    lines: &mut [HostLine],
+    alloc: Global,
+    place: u8,
+    frame: &Frame<'_>,
+    to: Audience,
+) -> bool
+    ensures { table.Posts place (said_by frame.now) result lines.old lines.new }
+{
+    if let Audience::Reported = to {
+        if !has_reported(lines, place) {
+            return false;
+        }
+    }
+    post(lines, alloc, place, frame)
+}
+
+// Whether the host at a place has reported.
+fn has_reported(lines: &[HostLine], place: u8) -> bool {
+    match lines.get(usize::from(place)) {
+        Some(line) => line.report().is_some(),
+        None => false,
     }
 }
 

@@ -16,7 +16,7 @@ ghost use Rattle.outside_switch.specs.Passing.{passed_of, typed_of};
 use crate::heard::Heard;
 use crate::line::HostLine;
 use crate::link::{Fate, Link};
-use crate::places;
+use crate::places::{self, Audience};
 use event_callbacks::PORTS;
 use host_frames::{Frame, Notice, Transfer, frame_of};
 use i8080_words::{Fault, R};
@@ -168,7 +168,7 @@ impl<D: SectorStore> Switch<D> {
         ensures others { OthersStay place self.old.lines.items self.new.lines.items }
     {
         self.close(place);
-        self.post_all(alloc, &Frame::Notice(Notice::Gone(place)));
+        self.post_all(alloc, &Frame::Notice(Notice::Gone(place)), Audience::All);
     }
 
     // The host at a place is cut off.
@@ -178,12 +178,12 @@ impl<D: SectorStore> Switch<D> {
         places::close(&mut self.lines, place);
     }
 
-    // Sends a frame to the hosts at all places.
-    fn post_all(&mut self, alloc: Global, frame: &Frame<'_>)
+    // Sends a frame to the hosts at all places that it is for.
+    fn post_all(&mut self, alloc: Global, frame: &Frame<'_>, to: Audience)
         ensures posts { PostsAll (said_by frame.now) self.old.lines.items self.new.lines.items }
         ensures devices { self.new.devices ≡ self.old.devices }
     {
-        places::post_all(&mut self.lines, alloc, frame);
+        places::post_all(&mut self.lines, alloc, frame, to);
     }
 
     /// A key is typed at the terminal of a port. Returns its index. It is sent to nobody.
@@ -249,14 +249,15 @@ impl<D: SectorStore> Switch<D> {
         places::name(&mut self.lines, place, number);
     }
 
-    /// Tells all hosts that the switch is there, for the so manieth time, and that a guest makes at most so many steps a second; with 0 as
-    /// many as it can.
+    /// Tells all hosts that have reported that the switch is there, for the so manieth time, and that a guest makes at most so many
+    /// steps a second; with 0 as many as it can.
     #[tactic(auto, using(crate::proofs::Acting::tick_met, crate::proofs::Going::acts))]
     pub fn tick(&mut self, alloc: Global, number: u64, speed: u64)
         ensures goes { GoesWith [] (seen self.old) (seen self.new) }
         ensures posts { PostsAll (Tells (notice.Tick number speed)) self.old.lines.items self.new.lines.items }
     {
-        self.post_all(alloc, &Frame::Notice(Notice::Tick { number, speed }));
+        let tick = Frame::Notice(Notice::Tick { number, speed });
+        self.post_all(alloc, &tick, Audience::Reported);
     }
 
     /// Tells all hosts to stop.
@@ -264,7 +265,7 @@ impl<D: SectorStore> Switch<D> {
     pub fn stop(&mut self, alloc: Global)
         ensures { GoesWith [] (seen self.old) (seen self.new) }
     {
-        self.post_all(alloc, &Frame::Notice(Notice::Stop));
+        self.post_all(alloc, &Frame::Notice(Notice::Stop), Audience::All);
     }
 
     /// The disk, as it is now.
