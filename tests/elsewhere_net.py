@@ -1,4 +1,4 @@
-"""Machines that a test makes of this one: network namespaces with a sshd in each, which links lead to."""
+"""Machines that a test makes of this one: network namespaces with a sshd in each, which links lead to, and a release installed in each."""
 import contextlib
 import os
 import pathlib
@@ -21,6 +21,7 @@ PasswordAuthentication no
 UsePAM no
 StrictModes no
 LogLevel ERROR
+SetEnv PATH={room}/{name}/bin:/usr/bin:/bin
 """
 
 SSH = """\
@@ -40,10 +41,10 @@ def run(*words):
 
 
 class Machine:
-    """A network namespace with a sshd, and the link to it."""
+    """A network namespace with a sshd, and the link to it; a release is installed there, so that its `pair` is on the PATH of that sshd."""
 
-    def __init__(self, name, number, room):
-        self.name, self.room, self.space = name, room, f"pair-{os.getpid()}-{name}"
+    def __init__(self, name, number, room, release):
+        self.name, self.room, self.space, self.release = name, room, f"pair-{os.getpid()}-{name}", release
         self.here, self.there = f"p{os.getpid() % 100000}{name[0]}0", f"p{os.getpid() % 100000}{name[0]}1"
         self.near, self.address = f"10.213.{number}.1", f"10.213.{number}.2"
         self.link = self.sshd = None
@@ -58,6 +59,7 @@ class Machine:
         run("ip", "link", "set", self.here, "up")
         for words in (["addr", "add", f"{self.address}/24", "dev", self.there], ["link", "set", self.there, "up"], ["link", "set", "lo", "up"]):
             run("ip", "-n", self.space, *words)
+        run("make", "-s", "-C", self.release, "install", f"PREFIX={self.room / self.name}")
         (self.room / f"{self.name}.sshd").write_text(SSHD.format(room=self.room, name=self.name))
         self.sshd = subprocess.Popen(["ip", "netns", "exec", self.space, "/usr/sbin/sshd", "-D", "-e", "-f", self.room / f"{self.name}.sshd"])
         return self
@@ -94,9 +96,10 @@ class Machine:
                     found.append(it)
         return found
 
-    def hosts(self, program):
-        """The processes of hosts there: the program itself, and no shell before it."""
-        return [it for it in self.named("host --role") if os.path.realpath(f"/proc/{it}/exe") == os.path.realpath(program)]
+    def hosts(self):
+        """The processes of hosts there: the program that is installed there itself, and no shell before it."""
+        program = os.path.realpath(self.room / self.name / "lib/pair/lib/pair_main")
+        return [it for it in self.named("host --role") if os.path.realpath(f"/proc/{it}/exe") == program]
 
     def sessions(self):
         """The processes of sshd that serve a connection."""
@@ -104,15 +107,16 @@ class Machine:
 
 
 @contextlib.contextmanager
-def machines(*names, compression="no"):
-    """Machines that ssh reaches by these names, with keys and a configuration of their own; and the folder of ssh, first on the PATH."""
+def machines(*names, release, compression="no"):
+    """Machines that ssh reaches by these names, with keys and a configuration of their own, in which a release is installed from its
+    folder; and the folder of ssh, first on the PATH."""
     before = os.environ["PATH"]
     with tempfile.TemporaryDirectory() as path, contextlib.ExitStack() as stack:
         room = pathlib.Path(path)
         for it in ("key", "host_key"):
             run("ssh-keygen", "-q", "-t", "ed25519", "-N", "", "-f", room / it)
         os.makedirs("/run/sshd", exist_ok=True)
-        made = [stack.enter_context(Machine(name, number, room)) for number, name in enumerate(names, 1)]
+        made = [stack.enter_context(Machine(name, number, room, release)) for number, name in enumerate(names, 1)]
         key = " ".join((room / "host_key.pub").read_text().split()[:2])
         (room / "known").write_text("".join(f"{it.address} {key}\n" for it in made))
         blocks = [SSH.format(name=it.name, address=it.address, room=room, user="root", compression=compression) for it in made]

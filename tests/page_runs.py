@@ -351,8 +351,17 @@ def commands_of_the_console() -> None:
 def three_commands() -> None:
     """A case: README.md has three commands, and docs/COMMANDS.md has them too."""
     everything = [columns(line)[0] for block in blocks(part("docs/COMMANDS.md", "Commands")) for line in block]
-    found = [columns(line)[0] for line in blocks(part("README.md", "Three commands"))[0]]
+    found = [columns(line)[0] for line in blocks(part("README.md", "From source"))[0]]
     expect((len(found), [it for it in found if it not in everything]), (3, []), "the commands, and those that only README.md has")
+
+
+def how_to_get_it() -> None:
+    """A case: README.md says in two lines how to get it, and in four how to put hosts on two machines; docs/HOSTS.md has the same, in fifteen."""
+    wanted = [columns(line)[0] for line in blocks(part("docs/HOSTS.md", "Two small machines, and one to sit at"))[0]]
+    found = [[columns(line)[0] for line in block] for block in blocks(part("README.md", "Get it"))]
+    expect([len(it) for it in found], [2, 4], "how many lines README.md has")
+    expect([it for block in found for it in block if it not in wanted], [], "lines that docs/HOSTS.md has otherwise")
+    expect(len(wanted) <= 15, True, "that docs/HOSTS.md has no more than fifteen lines")
 
 
 def options_are_the_programs() -> None:
@@ -368,6 +377,7 @@ OTHERS: dict[str, Case] = {
     "SCRIPTS.md: a new backup": new_backup,
     "SHELL.md: five minutes in the shell": session_of_the_shell,
     "SHELL.md: a guest that polls": guest_that_polls,
+    "README.md: how to get it": how_to_get_it,
     "README.md: three commands": three_commands,
     "README.md: a console session": functools.partial(session_at_the_console, "README.md", "A failure"),
     "CONSOLE.md: a console session": functools.partial(session_at_the_console, "docs/CONSOLE.md", "A session"),

@@ -1,5 +1,6 @@
 #!/usr/bin/env python3
-"""Makes the man page of `pair` and completions of its commands and options for bash and zsh, from what `./pair help` prints.
+"""Makes the man page of `pair` and completions of its commands and options for bash and zsh, from what `./pair help` prints; the
+statuses are those of docs/COMMANDS.md.
 
 usage: tools/manual.py man|bash|zsh
 """
@@ -9,11 +10,13 @@ from __future__ import annotations
 import re
 import sys
 
-from option_tables import INNER, Option, commands, help_of, rows
+from option_tables import INNER, PAGE, Option, commands, help_of, rows
 
-# Options whose value is a file, or ends with one after `=`; and those whose value is one of some words.
+# Options whose value is a file, or ends with one after `=`; and words of options whose help does not list them.
 FILES = {"--load", "--setup", "--disk", "--save-disk"}
 WORDS = {"--lines": "row here", "--host": "here"}
+# What a list of possible values looks like, and not a default alone.
+LISTED = re.compile(r"[a-z]+(?:, [a-z]+)+")
 
 
 def about(command: str) -> str:
@@ -21,9 +24,10 @@ def about(command: str) -> str:
     return re.search(rf"^  {command} +(.*)$", help_of(), re.MULTILINE)[1]
 
 
-def statuses() -> str:
-    """What the statuses mean."""
-    return " ".join(re.search(r"Exit status: (.*?)\n\n", help_of() + "\n", re.DOTALL)[1].split())
+def statuses() -> list[tuple[str, str]]:
+    """The statuses, and when each comes, as the page of the options has them."""
+    rows = PAGE.read_text(encoding="utf-8").split("\n## Statuses\n")[1]
+    return re.findall(r"^\| (\d[^|]*?) \| ([^|]+?) \|", rows, re.MULTILINE)
 
 
 def outer() -> list[tuple[Option, list[str]]]:
@@ -33,6 +37,12 @@ def outer() -> list[tuple[Option, list[str]]]:
 
 def name_of(option: Option) -> str:
     return option.given.split()[0]
+
+
+def words_of(option: Option) -> str:
+    """The words that the value of an option may be, if there are only some."""
+    found = LISTED.match(option.values)
+    return WORDS.get(name_of(option)) or (found[0].replace(",", "") if found else "")
 
 
 def plain(text: str) -> str:
@@ -58,9 +68,11 @@ def man(date: str = "", version: str = "") -> str:
     for option, takers in outer():
         values = f" ({option.values})" if option.values else ""
         found += [".TP", f".B {roff(option.given)}", roff(f"{', '.join(takers)}: {plain(option.text)}{values}.")]
-    found += [".SH EXIT STATUS", roff(statuses())]
+    found += [".SH EXIT STATUS"]
+    for status, when in statuses():
+        found += [".TP", f".B {roff(status)}", roff(f"{when}.")]
     found += [".SH EXAMPLES", ".nf", *map(roff, EXAMPLES), ".fi"]
-    found += [".SH SEE ALSO", roff("The pages in the folder docs of the release: CONSOLE.md, HOSTS.md, SCRIPTS.md and others.")]
+    found += [".SH SEE ALSO", roff("The pages in the folder docs of a release, or in PREFIX/lib/pair/docs: CONSOLE.md, HOSTS.md, SCRIPTS.md and others.")]
     return "\n".join(found) + "\n"
 
 
@@ -75,19 +87,33 @@ def taken_by(command: str) -> list[Option]:
     return [it for it, takers in outer() if command in takers]
 
 
+def bash_values() -> str:
+    """What bash does about the values of options, by their names."""
+    words = {name_of(it): words_of(it) for it, _ in outer() if " " in it.given}
+    rows = [f'    {it}) COMPREPLY=($(compgen -W "{some}" -- "$word")); return ;;' for it, some in sorted(words.items()) if some]
+    others = "|".join(sorted(it for it, some in words.items() if not some and it not in FILES))
+    return "\n".join([*rows, f"    {others}) return ;;"])
+
+
 def bash() -> str:
     """Completions for bash."""
     cases = "\n".join(f'    {it}) words="{" ".join(sorted({name_of(o) for o in taken_by(it)}))}" ;;' for it in commands())
-    words = "\n".join(f'    {it}) COMPREPLY=($(compgen -W "{words}" -- "$word")); return ;;' for it, words in sorted(WORDS.items()))
     return f"""\
 # Completions of pair for bash.
 _pair() {{
-  local word=${{COMP_WORDS[COMP_CWORD]}} before=${{COMP_WORDS[COMP_CWORD-1]}} words=
+  local IFS=$' \\t\\n' word=${{COMP_WORDS[COMP_CWORD]}} at=$COMP_CWORD words=
   COMPREPLY=()
-  [ "$before" != = ] || before=${{COMP_WORDS[COMP_CWORD-2]}}
-  case $before in
-    {"|".join(sorted(FILES))}) word=${{word#=}}; COMPREPLY=($(compgen -f -- "${{word##*=}}")); compopt -o filenames 2>/dev/null; return ;;
-{words}
+  # What stands on both sides of `=` are words of their own. The option is before them, or the first of them.
+  if [ "$word" = = ]; then
+    word= at=$((COMP_CWORD - 1))
+  elif [ "${{COMP_WORDS[COMP_CWORD - 1]}}" = = ]; then
+    at=$((COMP_CWORD - 2))
+  fi
+  local option=${{COMP_WORDS[at - 1]}}
+  [[ $at = "$COMP_CWORD" || ${{COMP_WORDS[at]}} != --* ]] || option=${{COMP_WORDS[at]}}
+  case $option in
+    {"|".join(sorted(FILES))}) local IFS=$'\\n'; COMPREPLY=($(compgen -f -- "$word")); compopt -o filenames 2>/dev/null; return ;;
+{bash_values()}
   esac
   if [ "$COMP_CWORD" = 1 ]; then
     COMPREPLY=($(compgen -W "{" ".join(commands())} help --version" -- "$word"))
@@ -103,19 +129,23 @@ complete -F _pair pair
 """
 
 
+def zsh_text(text: str, special: str) -> str:
+    """A text as zsh has it between single quotes, where these characters would end it; a description is read twice."""
+    return re.sub(f"[{special}]", r"\\\g<0>", text.replace("\\", "\\" * 3)).replace("'", "")
+
+
 def zsh_option(option: Option) -> str:
     """An option as _arguments of zsh has it."""
     name, _, value = option.given.partition(" ")
-    text = re.sub(r"[]\[:']", " ", plain(option.text))
-    what = "_files" if name in FILES else f"({WORDS[name]})" if name in WORDS else " "
+    files = '{compset -P "*="; _files}' if "=" in value else "_files"
+    what = files if name in FILES else f"({words_of(option)})" if words_of(option) else " "
     repeats = "*" if name in FILES | {"--host", "--remote", "--type", "--stop", "--memory"} else ""
-    return f"'{repeats}{name}[{text}]" + (f":{value.replace(':', ' ')}:{what}'" if value else "'")
+    return f"'{repeats}{name}{'=' * bool(value)}[{zsh_text(plain(option.text), ']')}]" + (f":{zsh_text(value, ':')}:{what}'" if value else "'")
 
 
 def zsh() -> str:
     """Completions for zsh."""
-    quote = "'"
-    listed = "\n".join(f"    '{it}:{re.sub(r'[:]', ' ', about(it)).replace(quote, '')}'" for it in commands())
+    listed = "\n".join(f"    '{it}:{zsh_text(about(it), ':')}'" for it in commands())
     cases = "\n".join(f"    {it}) _arguments {' '.join(map(zsh_option, taken_by(it)))} ;;" for it in commands() if taken_by(it))
     return f"""\
 #compdef pair
@@ -123,7 +153,8 @@ def zsh() -> str:
 local -a commands
 commands=(
 {listed}
-    'help:prints help, also of a command'
+    'help:Prints help, also of a command'
+    '--version:Prints the commit, and whether the program was proved'
 )
 if (( CURRENT == 2 )); then
   _describe command commands
