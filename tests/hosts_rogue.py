@@ -15,8 +15,8 @@ import time
 
 PIECE = 65536
 
-# The tags of the frames that other hosts send (packets, and how far they are), and of the arbiter's answers.
-OF_HOSTS, OF_ARBITER = (b"P", b"R"), (b"O", b"L")
+# The tags of the frames that other hosts send (packets, those without their block, and how far they are), and of the arbiter's answers.
+OF_HOSTS, OF_ARBITER = (b"P", b"r", b"R"), (b"O", b"L")
 
 
 def frame(body):

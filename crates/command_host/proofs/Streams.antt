@@ -33,6 +33,7 @@ module _ {B S : Type 0} {H : Type 0} (state : B → S) (M : Machine S) (copied :
   reads_still source reader into = record {
     source_is = refl;
     none_pending = into.none_pending;
+    none_kept = into.none_kept;
     none_handed = into.none_handed;
     ring = ap (λ r. r.inbox) rings_are ∙ into.ring;
   }
@@ -42,6 +43,7 @@ module _ {B S : Type 0} {H : Type 0} (state : B → S) (M : Machine S) (copied :
   writes_still sink writer from = record {
     sink_is = refl;
     none_came = from.none_came;
+    none_kept = from.none_kept;
     ring = from.ring ∙ sym (ap (λ r. r.outbox) rings_are);
   }
 

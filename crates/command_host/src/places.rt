@@ -3,7 +3,7 @@ ghost use Rattle.command_host.specs.Places.{AddsPlaces};
 
 use crate::host::buffered;
 use command_hosts::{Session, Steward};
-use frame_streams::{FrameReader, FrameWriter, read_frames, write_frames};
+use frame_streams::{CarriedBlocks, FrameReader, FrameWriter, read_frames, write_frames};
 use host_frames::FrameBuffer;
 use i8080_words::{Fault, R};
 use rtrb::{Consumer, Producer, RingBuffer};
@@ -70,6 +70,7 @@ fn read_place<H: Threads + Wait + Clock + Copy + Drop + Send + Sync + 'static>(
             let reader = FrameReader {
                 source,
                 pending,
+                carried: CarriedBlocks::new(alloc),
                 bodies,
             };
             let (reader, _) = read_frames(&rt, alloc, reader, &wake);
@@ -105,7 +106,12 @@ fn write_place<H: Threads + Wait + Clock + Copy + Drop + Send + Sync + 'static>(
             return;
         }
         if let Ok(sink) = buffered(alloc, sink) {
-            let _ = write_frames(&rt, FrameWriter { sink, frames }, &wake);
+            let writer = FrameWriter {
+                sink,
+                carried: CarriedBlocks::new(alloc),
+                frames,
+            };
+            let _ = write_frames(&rt, writer, &wake);
         }
     });
     match thread {

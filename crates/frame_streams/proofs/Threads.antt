@@ -3,19 +3,21 @@ use Rattle.std.proofs.Common.{ℕ, suc, ◌≡◌, Option, Some, Ok, Err, List, 
 use Rattle.std.proofs.lemmas.Bool.{false≢true}
 use Rattle.std.specs.Global.{Global, Vec}
 use Rattle.std.specs.Prelude.{IfOk, IsOk, OnOk, Result}
-use Rattle.std.specs.Io.KnownBytes.{Appends, Consumes}
+use Rattle.std.specs.Io.KnownBytes.{Consumes}
 use Rattle.std.specs.List.{AllByRecursion}
 use Rattle.frame_streams.proofs.Reading.{contents_both}
 use Rattle.frame_streams.proofs.Rings.{finished_of, one_ring, put_into_same, taken_from_same}
 use Rattle.frame_streams.proofs.Writing.{and_then}
+use Rattle.frame_streams.specs.Blocks.{Expands, Shortens}
 use Rattle.frame_streams.specs.Reading.{EndsWith, contents_of}
 use Rattle.frame_streams.specs.Rings.{Leaves}
-use Rattle.frame_streams.specs.Threads.{HasRead, HasWritten, ReadsInto, WasReadBut, WasWritten, WritesFrom, joined}
-use Rattle.frame_streams.specs.Writing.{WroteRest, bytes_of}
+use Rattle.frame_streams.specs.Threads.{HasRead, HasWritten, ReadsInto, WasReadBut, WasWritten, WritesFrom}
+use Rattle.frame_streams.specs.Slots.{blocks_in}
+use Rattle.frame_streams.specs.Writing.{WroteRest}
 use Rattle.frame_streams.specs.declared.reader.FrameReader.{FrameReader}
 use Rattle.frame_streams.specs.declared.read_thread.ReadEnd.{ReadEnd}
 use Rattle.frame_streams.specs.declared.writer.FrameWriter.{FrameWriter}
-use Rattle.host_frames.specs.Stream.{IsBody, stream_of}
+use Rattle.host_frames.specs.Stream.{IsBody}
 use Rattle.rtrb.specs.Ring.{Finishes, IsFinishedOf, IsPair, received, sent}
 use Rattle.rtrb.specs.declared.AnyItems.{AnyItems}
 use Rattle.rtrb.specs.declared.consumer.Consumer.{Consumer}
@@ -29,12 +31,20 @@ contents_length [] = refl
 contents_length (x ∷ xs) = ap suc (contents_length xs)
 
 -- a reader over a new ring
-pub reads_into : {S : Type 0} (source : S) (pending : List ℕ) (to : Producer (Vec ℕ) Global AnyItems)
+pub reads_into : {S : Type 0} (source : S) (pending : List ℕ) (carried : List (Option (List ℕ)))
+    (to : Producer (Vec ℕ) Global AnyItems)
     (from : Consumer (Vec ℕ) Global AnyItems) (reader : FrameReader S)
-    → reader ≡ record { source = source; pending = pending; bodies = to } → pending ≡ [] → sent to ≡ [] → IsPair to from
-    → ReadsInto source from reader
-reads_into source pending to from reader is none unsent pair = subst (λ (r : FrameReader _). ReadsInto source from r) (sym is)
-    (record { source_is = refl; none_pending = none; none_handed = unsent; ring = one_ring to from pair })
+    → reader ≡ record { source = source; pending = pending; carried = carried; bodies = to } → pending ≡ []
+    → carried ≡ [] → sent to ≡ [] → IsPair to from → ReadsInto source from reader
+reads_into source pending carried to from reader is none unkept unsent pair =
+    subst (λ (r : FrameReader _). ReadsInto source from r) (sym is)
+    (record {
+      source_is = refl;
+      none_pending = none;
+      none_kept = unkept;
+      none_handed = unsent;
+      ring = one_ring to from pair;
+    })
 
 module _ {S : Type 0} (left : S → Option (List ℕ)) where
   -- the ring is the one that the reader has left
@@ -61,28 +71,28 @@ module _ {S : Type 0} (left : S → Option (List ℕ)) where
         counted = contents_length leaves.rest ∙ leaves.counted;
         read = record {
           taken = has.reads.taken;
-          rest = has.new.pending;
+          wires = has.reads.wires;
+          blocks = has.reads.blocks;
+          rest = has.reads.rest;
           consumed = subst (λ s. Consumes (left old.source) (left s) has.reads.taken) (sym has.source_is) has.reads.consumed;
           whole = subst (λ l. AllByRecursion IsBody l) handed has.reads.whole;
-          stream =
-              sym (ap (λ l. l ++ has.reads.taken) into.none_pending) ∙ has.reads.stream
-              ∙ ap (λ l. stream_of l ++ has.new.pending) handed;
-          over = subst (λ s. EndsWith (Some read.end) (left s) has.new.pending) (sym has.source_is) has.reads.over;
+          stream = sym (ap (λ l. l ++ has.reads.taken) into.none_pending) ∙ has.reads.stream;
+          expands =
+              subst (λ o. Expands (blocks_in o) has.reads.wires (contents_of (received bodies) ++ contents_of leaves.rest) has.reads.blocks)
+              into.none_kept (subst (λ l. Expands (blocks_in old.carried) has.reads.wires l has.reads.blocks) handed has.reads.expands);
+          over = subst (λ s. EndsWith (Some read.end) (left s) has.reads.blocks has.reads.rest) (sym has.source_is) has.reads.over;
         };
       }
 
 -- ---- writing
 
 -- a writer over a new ring
-pub writes_from : {W : Type 0} (sink : W) (to : Producer (Vec ℕ) Global AnyItems) (from : Consumer (Vec ℕ) Global AnyItems)
-    (writer : FrameWriter W) → writer ≡ record { sink = sink; frames = from } → received from ≡ [] → IsPair to from
-    → WritesFrom sink to writer
-writes_from sink to from writer is none pair = subst (λ (w : FrameWriter _). WritesFrom sink to w) (sym is)
-    (record { sink_is = refl; none_came = none; ring = one_ring to from pair })
-
-joined_is : (frames : List (Vec ℕ)) → bytes_of frames ≡ joined (contents_of frames)
-joined_is [] = refl
-joined_is (x ∷ xs) = ap (λ l. x.items ++ l) (joined_is xs)
+pub writes_from : {W : Type 0} (sink : W) (carried : List (Option (List ℕ))) (to : Producer (Vec ℕ) Global AnyItems)
+    (from : Consumer (Vec ℕ) Global AnyItems) (writer : FrameWriter W)
+    → writer ≡ record { sink = sink; carried = carried; frames = from } → carried ≡ [] → received from ≡ []
+    → IsPair to from → WritesFrom sink to writer
+writes_from sink carried to from writer is unkept none pair = subst (λ (w : FrameWriter _). WritesFrom sink to w) (sym is)
+    (record { sink_is = refl; none_came = none; none_kept = unkept; ring = one_ring to from pair })
 
 -- what holds of a call that went well
 pub when_ok : {T E P : Type 0} (r : Result T E) → IsOk r → OnOk r P → P
@@ -106,6 +116,12 @@ module _ {W : Type 0} (contents : W → Option (List ℕ)) where
       let wrote = and_then contents old left rest.new has.wrote rest.wrote in
       let came : wrote.frames ≡ sent frames =
       sym (ap (λ l. l ++ wrote.frames) from.none_came) ∙ sym wrote.came ∙ rest.all ∙ finishes.1 in
-      subst (λ s. Appends (contents old.sink) (contents s) (joined (contents_of (sent frames)))) (sym rest.sink_is)
-      (subst (λ l. Appends (contents old.sink) (contents rest.new.sink) l)
-      (ap bytes_of came ∙ joined_is (sent frames)) wrote.written)
+      subst (λ s. WasWritten contents old.sink (contents_of (sent frames)) s) (sym rest.sink_is)
+      (record {
+        wires = wrote.wires;
+        blocks = blocks_in rest.new.carried;
+        shortens =
+            subst (λ o. Shortens (blocks_in o) (contents_of (sent frames)) wrote.wires (blocks_in rest.new.carried)) from.none_kept
+            (subst (λ l. Shortens (blocks_in old.carried) (contents_of l) wrote.wires (blocks_in rest.new.carried)) came wrote.shortens);
+        written = wrote.written;
+      })

@@ -1,3 +1,7 @@
+pub mod Blocks
+pub mod Slots
+pub mod Crossing
+pub mod Laws
 pub mod Reading
 pub mod Writing
 pub mod Rings

@@ -1,12 +1,13 @@
 -- What the threads at the two ends of a stream have done when they have ended.
-use Rattle.std.specs.Prelude.{◌≡◌, ℕ, List, [], ◌++◌, flat_map, length, IfOk, OnOk, Option, Some}
+use Rattle.std.specs.Prelude.{◌≡◌, ℕ, List, [], ◌++◌, length, IfOk, OnOk, Option, Some}
 use Rattle.std.specs.Global.{Global, Vec}
 use Rattle.std.specs.Io.KnownBytes.{Appends, Consumes}
 use Rattle.std.specs.List.{AllByRecursion}
 use Rattle.host_frames.specs.Stream.{IsBody, stream_of}
+use Rattle.frame_streams.specs.Blocks.{Blocks, Expands, Shortens, no_blocks}
 use Rattle.frame_streams.specs.Reading.{EndsWith, Reads}
 use Rattle.frame_streams.specs.Rings.{put_into, taken_from}
-use Rattle.frame_streams.specs.Writing.{Wrote}
+use Rattle.frame_streams.specs.Writing.{Wrote, joined}
 use Rattle.frame_streams.specs.declared.reader.FrameReader.{FrameReader}
 use Rattle.frame_streams.specs.declared.reader.StreamEnd.{StreamEnd}
 use Rattle.frame_streams.specs.declared.read_thread.ReadEnd.{ReadEnd}
@@ -25,6 +26,7 @@ pub record ReadsInto {S : Type 0} (source : S) (bodies : Consumer (Vec ℕ) Glob
     : Type 0 where
   pub source_is : reader.source ≡ source
   pub none_pending : reader.pending ≡ []
+  pub none_kept : reader.carried ≡ []
   pub none_handed : sent reader.bodies ≡ []
   pub ring : taken_from bodies ≡ put_into reader.bodies
 
@@ -35,16 +37,20 @@ pub record HasRead {S : Type 0} (left : S → Option (List ℕ)) (old : FrameRea
   pub source_is : read.source ≡ new.source
   pub finishes : IfOk read.finished (Finishes new.bodies)
 
--- A stream was read up to an end, and these are the bodies of its frames: the bytes that were taken are their frames, each once
--- and in order, and what is left of them begins no whole frame if the stream was closed. It ended so.
+-- A stream was read up to an end, and these are the bodies of its frames, with the blocks that some of them name: the bytes that
+-- were taken are their frames, each once and in order, and what is left of them begins no whole frame if the stream was closed.
+-- It ended so.
 pub record WasRead {S : Type 0} (left : S → Option (List ℕ)) (from : S) (bodies : List (List ℕ)) (to : S) (end : StreamEnd)
     : Type 0 where
   pub taken : List ℕ
+  pub wires : List (List ℕ)
+  pub blocks : Blocks
   pub rest : List ℕ
   pub consumed : Consumes (left from) (left to) taken
   pub whole : AllByRecursion IsBody bodies
-  pub stream : taken ≡ stream_of bodies ++ rest
-  pub over : EndsWith (Some end) (left to) rest
+  pub stream : taken ≡ stream_of wires ++ rest
+  pub expands : Expands no_blocks wires bodies blocks
+  pub over : EndsWith (Some end) (left to) blocks rest
 
 -- so it was, and these are the bodies of its first frames: all but so many
 pub record WasReadBut {S : Type 0} (left : S → Option (List ℕ)) (from : S) (bodies : List (List ℕ)) (to : S) (end : StreamEnd)
@@ -64,6 +70,7 @@ pub record WritesFrom {W : Type 0} (sink : W) (frames : Producer (Vec ℕ) Globa
     : Type 0 where
   pub sink_is : writer.sink ≡ sink
   pub none_came : received writer.frames ≡ []
+  pub none_kept : writer.carried ≡ []
   pub ring : taken_from writer.frames ≡ put_into frames
 
 -- what came to it was written, and nothing more is known to have come
@@ -71,13 +78,12 @@ pub record HasWritten {W : Type 0} (contents : W → Option (List ℕ)) (old new
   pub wrote : Wrote contents old new
   pub rest : known_items new.frames ≡ []
 
--- frames one after another
-abbrev pub joined : List (List ℕ) → List ℕ
-joined frames = flat_map (λ f. f) frames
-
--- these frames were written to a stream, each once and in order, and nothing else was
-abbrev pub WasWritten : {W : Type 0} → (W → Option (List ℕ)) → W → List (List ℕ) → W → Type 0
-WasWritten contents from frames to = Appends (contents from) (contents to) (joined frames)
+-- these frames were written to a stream, each once and in order, without the blocks that had crossed, and nothing else was
+pub record WasWritten {W : Type 0} (contents : W → Option (List ℕ)) (from : W) (frames : List (List ℕ)) (to : W) : Type 0 where
+  pub wires : List (List ℕ)
+  pub blocks : Blocks
+  pub shortens : Shortens no_blocks frames wires blocks
+  pub written : Appends (contents from) (contents to) (joined wires)
 
 -- so they were, if it says so
 abbrev pub IsWritten : {W : Type 0} → (W → Option (List ℕ)) → W → List (List ℕ) → WrittenStream W → Type 0

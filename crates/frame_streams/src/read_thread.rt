@@ -5,6 +5,7 @@ ghost use Rattle.frame_streams.specs.Rings.{Leaves};
 ghost use Rattle.frame_streams.specs.Threads.{HasHeard, HasRead, ReadsInto};
 ghost use Rattle.rtrb.specs.Ring.{IsFinishedOf, received};
 
+use crate::carried::CarriedBlocks;
 use crate::failures::{Deserted, finish};
 use crate::reader::{FrameReader, StreamEnd, read_frames};
 use host_frames::FrameBuffer;
@@ -61,6 +62,7 @@ pub fn start_reading<
     let reader = FrameReader {
         source,
         pending,
+        carried: CarriedBlocks::new(alloc),
         bodies,
     };
     let reading = spawn_reader(rt, alloc, reader, wake)?;

@@ -3,8 +3,9 @@ ghost use Rattle.std.specs.Prelude.{◌≡◌, ◌<◌, ◌≤◌, ◌++◌, Non
 ghost use Rattle.std.specs.Io.KnownBytes.{Consumes};
 ghost use Rattle.rtrb.specs.Ring.{ProducerLooked, known_free};
 ghost use Rattle.host_frames.specs.Stream.{IsPartial};
-ghost use Rattle.frame_streams.specs.Reading.{HandsNext, Reads, end_of};
+ghost use Rattle.frame_streams.specs.Reading.{HandsBody, HandsNext, Reads, end_of};
 
+use crate::carried::CarriedBlocks;
 use crate::failures::{Deserted, ReadFailed, left_by_taker, read};
 use host_frames::{FrameBuffer, streams_stand_apart};
 use i8080_words::Fault;
@@ -32,11 +33,12 @@ pub enum StreamEnd {
     Deserted(Deserted),
 }
 
-/// A stream, what has come of its next frame, and where the bodies of its frames go.
+/// A stream, what has come of its next frame, the blocks that it has carried, and where the bodies of its frames go.
 #[derive(Drop)]
 pub struct FrameReader<S> {
     pub source: S,
     pub pending: FrameBuffer,
+    pub carried: CarriedBlocks,
     pub bodies: Producer<Vec<u8>>,
 }
 
@@ -70,15 +72,13 @@ impl<S: Read> FrameReader<S> {
     }
 
     // Hands on the frames that are whole, and reads a piece more.
-    #[tactic(auto, using(crate::proofs::Reading::and_then))]
     fn turn<C: Wait + Clock>(&mut self, rt: &C, alloc: Global, wake: &Parker) -> Option<StreamEnd>
         ensures { Reads S.remaining result self.old self.new }
     {
-        let end = self.hand_on(rt, alloc, wake);
-        if end.is_some() {
-            return end;
+        match self.hand_on(rt, alloc, wake) {
+            None => self.read_piece(),
+            Some(end) => Some(end),
         }
-        self.read_piece()
     }
 
     // Hands on the frames that are whole.
@@ -116,12 +116,23 @@ impl<S: Read> FrameReader<S> {
             return Err(StreamEnd::Deserted(deserted));
         }
         match self.pending.next(alloc) {
-            Ok(Some(body)) => {
-                self.bodies.push_reserved(body);
+            Ok(Some(body)) => self.hand_body(body, wake),
+            Ok(None) => Ok(false),
+            Err(fault) => Err(end_of(fault)),
+        }
+    }
+
+    // Hands on a body that has crossed the stream, for which there is room, with the block that it names.
+    fn hand_body(&mut self, body: Vec<u8>, wake: &Parker) -> Result<bool, StreamEnd>
+        requires { 0 < known_free self.old.bodies }
+        ensures { HandsBody self.old body.items result self.new }
+    {
+        match self.carried.expand(body) {
+            Ok(whole) => {
+                self.bodies.push_reserved(whole);
                 wake.unpark();
                 Ok(true)
             }
-            Ok(None) => Ok(false),
             Err(fault) => Err(end_of(fault)),
         }
     }
@@ -130,6 +141,7 @@ impl<S: Read> FrameReader<S> {
     fn wait_for_room<C: Wait + Clock>(&mut self, rt: &C) -> Result<(), Deserted>
         ensures source { self.new.source ≡ self.old.source }
         ensures pending { self.new.pending ≡ self.old.pending }
+        ensures carried { self.new.carried ≡ self.old.carried }
         ensures looked { ProducerLooked self.old.bodies self.new.bodies }
         ensures room { OnOk result (0 < known_free self.new.bodies) }
     {

@@ -5,6 +5,7 @@ ghost use Rattle.frame_streams.specs.Threads.{HasWritten, IsWritten, WritesFrom}
 ghost use Rattle.frame_streams.specs.Writing.{WritesRest};
 ghost use Rattle.rtrb.specs.Ring.{Finishes, IsFinishedOf, sent};
 
+use crate::carried::CarriedBlocks;
 use crate::failures::{Deserted, Unwritten, WriteFailed, finish};
 use crate::writer::{FrameWriter, write_frames};
 use i8080_words::{Fault, R};
@@ -43,7 +44,11 @@ pub fn start_writing<
     let (to, frames) = RingBuffer::new(alloc, capacity)?;
     let wake = Arc::new(alloc, Parker::new())?;
     let theirs = Arc::try_clone(&wake)?;
-    let writer = FrameWriter { sink, frames };
+    let writer = FrameWriter {
+        sink,
+        carried: CarriedBlocks::new(alloc),
+        frames,
+    };
     let writing = spawn_writer(rt, writer, theirs)?;
     Ok((to, wake, writing))
 }

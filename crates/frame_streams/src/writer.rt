@@ -1,10 +1,15 @@
 //! The thread that writes frames to a stream.
-ghost use Rattle.std.specs.Prelude.{◌≡◌, ◌++◌, [], Ok, false, OnOk, IfOk};
+ghost use Rattle.std.specs.Prelude.{◌≡◌, ◌<◌, ◌∷◌, ◌++◌, [], Ok, false, length, OnOk, IfOk};
+ghost use Rattle.std.specs.Io.KnownBytes.{Appends};
+ghost use Rattle.host_frames.specs.Frames.{framed};
 ghost use Rattle.rtrb.specs.Ring.{IsFinishedOf, SameConsumer, all_sent, known_items, received};
-ghost use Rattle.frame_streams.specs.Writing.{Wrote};
+ghost use Rattle.frame_streams.specs.Blocks as blocks;
+ghost use Rattle.frame_streams.specs.Writing.{Wrote, WroteFrame};
 
+use crate::carried::{CarriedBlocks, SHORT};
 use crate::failures::{WriteFailed, flush, put};
 use crate::resting::{Rests, micros};
+use crate::slots::BLOCK_BYTES;
 use rtrb::{Consumer, Finished};
 use std::io::Write;
 use std::sync::Wait;
@@ -17,10 +22,11 @@ const MOST_AT_ONCE: usize = 64;
 // How many microseconds it rests if nobody wakes it.
 const REST: u64 = 50_000;
 
-/// A stream, and the spelled frames that are to be written to it.
+/// A stream, the blocks that it has carried, and the spelled frames that are to be written to it.
 #[derive(Drop)]
 pub struct FrameWriter<W> {
     pub sink: W,
+    pub carried: CarriedBlocks,
     pub frames: Consumer<Vec<u8>>,
 }
 
@@ -98,8 +104,20 @@ impl<W: Write> FrameWriter<W> {
         let Ok(frame) = self.frames.pop() else {
             return Ok(false);
         };
-        put(&mut self.sink, &frame)?;
+        self.write_frame(&frame)?;
         Ok(true)
+    }
+
+    // Writes a frame, without its block if that has crossed. If there is no memory to keep its block, it crosses again.
+    fn write_frame(&mut self, frame: &[u8]) -> Result<(), WriteFailed>
+        ensures { OnOk result (WroteFrame W.contents self.old self.new frame.now) }
+    {
+        let body = body_in(frame);
+        if self.carried.has(body) {
+            return put_short(&mut self.sink, &body[..body.len() - BLOCK_BYTES]);
+        }
+        let _ = self.carried.keep(body).is_ok();
+        put(&mut self.sink, frame)
     }
 
     // Writes all frames that are left in the ring, into which nothing more is put.
@@ -112,8 +130,27 @@ impl<W: Write> FrameWriter<W> {
         let count = self.frames.slots_after(&mut finished);
         for _done in 0..count {
             let left = self.frames.pop_known();
-            put(&mut self.sink, &left)?;
+            self.write_frame(&left)?;
         }
         flush(&mut self.sink)
     }
+}
+
+// The body of a frame.
+fn body_in(frame: &[u8]) -> &[u8]
+    ensures { result.now ≡ blocks.body_in frame.now }
+{
+    if frame.len() < 4 {
+        return &[];
+    }
+    &frame[4..]
+}
+
+// Writes the frame of a head, whose block is not carried.
+fn put_short<W: Write>(sink: &mut W, head: &[u8]) -> Result<(), WriteFailed>
+    requires { length head.now < 255 }
+    ensures { OnOk result (Appends (W.contents sink.old) (W.contents sink.new) (framed (SHORT ∷ head.now))) }
+{
+    put(sink, &[0x46, 0x52, 0, head.len() as u8 + 1, SHORT])?;
+    put(sink, head)
 }

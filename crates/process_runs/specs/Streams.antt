@@ -1,10 +1,10 @@
 -- Why a stream delivers only what was written to it: the thread that writes it and the thread that reads it alter nothing, if the
--- bytes that one took are the first ones that the other has written.
+-- bytes that one took are the first ones that the other has written, and neither had kept a block before.
 use Rattle.std.specs.Prelude.{◌≡◌, ℕ, List, [], map, Option}
 use Rattle.std.specs.Global.{Vec}
 use Rattle.std.specs.List.{AllByRecursion}
 use Rattle.frame_streams.specs.Reading.{Reads, contents_of}
-use Rattle.frame_streams.specs.Writing.{Wrote, bytes_of}
+use Rattle.frame_streams.specs.Writing.{Wrote, joined}
 use Rattle.frame_streams.specs.declared.reader.FrameReader.{FrameReader}
 use Rattle.frame_streams.specs.declared.reader.StreamEnd.{StreamEnd}
 use Rattle.frame_streams.specs.declared.writer.FrameWriter.{FrameWriter}
@@ -20,7 +20,7 @@ IsFrame bytes = (said : Said) × IsSpelling said bytes.items
 abbrev pub StreamsDeliver : (R W : Type 0) → Type 0
 StreamsDeliver R W =
     (left : R → Option (List ℕ)) (contents : W → Option (List ℕ)) (end : Option StreamEnd) (a b : FrameReader R)
-    (c d : FrameWriter W) (reads : Reads left end a b) (wrote : Wrote contents c d) → a.pending ≡ [] →
-    AllByRecursion IsFrame wrote.frames → IsPrefix reads.taken (bytes_of wrote.frames) →
+    (c d : FrameWriter W) (reads : Reads left end a b) (wrote : Wrote contents c d) → a.pending ≡ [] → a.carried ≡ [] →
+    c.carried ≡ [] → AllByRecursion IsFrame wrote.frames → IsPrefix reads.taken (joined wrote.wires) →
     IsPrefix (map framed (contents_of reads.bodies)) (contents_of wrote.frames)
     × Delivered (contents_of reads.bodies) (contents_of wrote.frames)

@@ -1,10 +1,11 @@
 -- The ring was only looked at, and then the next frame was handed on, or refused, or is not whole.
-use Rattle.std.proofs.Common.{◌∙◌, ◌∷◌, ◌++◌, [], None, Some, Ok, ap, sym, subst}
+use Rattle.std.proofs.Common.{◌∙◌, None, Some, Ok, sym, subst}
 use Rattle.host_frames.specs.Stream.{Gives, IsPartial, Refuses}
 use Rattle.frame_streams.specs.Reading.{end_of}
+use Rattle.frame_streams.specs.Slots.{blocks_in}
 use Rattle.frame_streams.specs.declared.reader.FrameReader.{FrameReader}
 use Rattle.frame_streams.specs.declared.reader.StreamEnd.{StreamEnd}
-use Rattle.frame_streams.proofs.Reading.{consumed_none, none_yet, of_none, of_one, refused_so, same_on}
+use Rattle.frame_streams.proofs.Reading.{consumed_none, none_yet, of_none, handed_next, refused_so}
 use Rattle.frame_streams.proofs.reader.FrameReader.hand_next.Goals as goal
 
 pub returns-in-Err : goal.returns-in-Err
@@ -12,7 +13,7 @@ returns-in-Err g c =
     let looked = c.wait_for_room.ensures in
     of_none g.S.Read.remaining (Some (StreamEnd.Deserted c.in-Err.deserted)) c.args.self.now c.wait_for_room.new.self
     (consumed_none g.S.Read.remaining c.args.self.now c.wait_for_room.new.self looked.source)
-    looked.pending looked.looked.1 tt looked.looked.0
+    looked.pending looked.carried looked.looked.1 tt looked.looked.0
 
 pub returns-in-Ok-Some : goal.returns-in-Ok-Some
 returns-in-Ok-Some g c =
@@ -20,14 +21,14 @@ returns-in-Ok-Some g c =
     let gives : Gives c.wait_for_room.new.self.pending (Ok (Some c.in-Ok-Some.body)) c.next.new.self =
     subst (λ o. Gives c.wait_for_room.new.self.pending (Ok o) c.next.new.self) c.in-Ok-Some.field-0-is
     c.in-Ok-Some.ensures in
-    let b : FrameReader g.row.S.Denot = record {
+    let m : FrameReader g.row.S.Denot = record {
       source = c.wait_for_room.new.self.source;
       pending = c.next.new.self;
-      bodies = c.push_reserved.new.self;
+      carried = c.wait_for_room.new.self.carried;
+      bodies = c.wait_for_room.new.self.bodies;
     } in
-    of_one g.S.Read.remaining c.args.self.now b c.in-Ok-Some.body looked.source gives.0 (sym looked.pending ∙ gives.1)
-    (c.push_reserved.ensures.sent.0 ∙ ap (λ l. l ++ c.in-Ok-Some.body ∷ []) looked.looked.1)
-    (same_on g.S.Read.remaining c.args.self.now c.wait_for_room.new.self b looked.looked.0 c.push_reserved.ensures.ring)
+    handed_next g.S.Read.remaining c.args.self.now m c.hand_body.new.self c.in-Ok-Some.body.items c.hand_body.result
+    looked.source looked.carried looked.looked.1 looked.looked.0 gives.0 (sym looked.pending ∙ gives.1) c.hand_body.ensures
 
 pub returns-in-Ok-None : goal.returns-in-Ok-None
 returns-in-Ok-None g c =
@@ -38,8 +39,9 @@ returns-in-Ok-None g c =
       none_yet g.S.Read.remaining c.args.self.now (record {
         source = c.wait_for_room.new.self.source;
         pending = c.next.new.self;
+        carried = c.wait_for_room.new.self.carried;
         bodies = c.wait_for_room.new.self.bodies;
-      }) looked.source (gives.0 ∙ looked.pending) looked.looked.1 looked.looked.0,
+      }) looked.source (gives.0 ∙ looked.pending) looked.carried looked.looked.1 looked.looked.0,
       subst (λ p. IsPartial p) (sym gives.0) gives.1,
     )
 
@@ -51,8 +53,10 @@ returns-in-Err-next g c =
     (of_none g.S.Read.remaining (Some (end_of c.in-Err-next.fault)) c.args.self.now (record {
       source = c.wait_for_room.new.self.source;
       pending = c.next.new.self;
+      carried = c.wait_for_room.new.self.carried;
       bodies = c.wait_for_room.new.self.bodies;
     }) (consumed_none g.S.Read.remaining c.args.self.now c.wait_for_room.new.self looked.source)
-    (gives.0 ∙ looked.pending) looked.looked.1
-    (refused_so c.in-Err-next.fault (g.S.Read.remaining c.wait_for_room.new.self.source) c.next.new.self
-    (subst (λ p. Refuses c.in-Err-next.fault p) (sym gives.0) gives.1)) looked.looked.0)
+    (gives.0 ∙ looked.pending) looked.carried looked.looked.1
+    (refused_so c.in-Err-next.fault (g.S.Read.remaining c.wait_for_room.new.self.source)
+    (blocks_in c.wait_for_room.new.self.carried)
+    c.next.new.self (subst (λ p. Refuses c.in-Err-next.fault p) (sym gives.0) gives.1)) looked.looked.0)

@@ -5,4 +5,5 @@ use Rattle.frame_streams.proofs.reader.FrameReader.wait_for_room.Given as goal
 
 abbrev pub invariant-loop : goal.invariant-loop
 invariant-loop g l = (l.self.source ≡ l.fn.self.source) × (l.self.pending ≡ l.fn.self.pending)
+    × (l.self.carried ≡ l.fn.self.carried)
     × ProducerLooked l.fn.self.bodies l.self.bodies
