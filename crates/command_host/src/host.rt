@@ -22,7 +22,7 @@ use frame_streams::{
 use guest_board::Setup;
 use host_node::{End, Mail, Settings, serve};
 use i8080_words::{Fault, R};
-use key_room::{KeyRoom, OutstandingWrites};
+use key_room::{KeyRoom, OutstandingWrites, Snapshots};
 use rtrb::Consumer;
 use std::alloc::Global;
 use std::io::{BufWriter, Read, Write};
@@ -123,7 +123,7 @@ fn run_setup<
 /// all that it said is written. If it ends before the stream to it does, nobody waits for that: then nothing is said of what was
 /// read.
 pub fn run_booted<
-    B: Copies<K> + KeyRoom + OutstandingWrites + Drop,
+    B: Copies<K> + KeyRoom + OutstandingWrites + Snapshots + Drop,
     K: Drop,
     H: Threads + Wait + Clock + Copy + Drop + Send + Sync + 'static,
     I: Read + Drop + Send + 'static,

@@ -14,7 +14,7 @@ pub enum HostEvent {
     Lost(u32),
     /// It is alone, and no spare is there that can be its backup. It is told so again and again.
     Alone,
-    /// A host that is alone is told to give it a copy of its machine, for this generation.
+    /// A host that is alone is told to give it a copy of its machine, for this generation. It is told so again and again.
     Joins(u32),
     /// The disk has refused a write of it.
     Unwritten,

@@ -27,8 +27,8 @@ const BODIES_A_TURN: u64 = 512;
 /// After how many microseconds hosts are told again that the switch is there.
 const TICK: u64 = 50_000;
 
-/// After how many microseconds a host that is alone is told again to begin.
-const BEGIN: u64 = 500_000;
+/// After how many microseconds a host that is alone is told again to begin: it does once a copy has gone early.
+const BEGIN: u64 = 10_000;
 
 /// For how many microseconds nothing may be written and shown by a guest that runs.
 const SILENT: u64 = 10_000_000;
@@ -349,7 +349,9 @@ impl<D: SectorStore, S: Steward + Drop> Session<D, S> {
             return;
         }
         self.moments.begun = now;
-        self.steward.hears(spare, HostEvent::Joins(generation));
+        if self.is_open(spare) {
+            self.steward.hears(spare, HostEvent::Joins(generation));
+        }
     }
 
     // Tells all hosts that the switch is there, if it is time for that.

@@ -1,5 +1,5 @@
 -- What a frame means in the law of processes, on the stream from or to the host of a node. Ticks, the end of a stream, a
--- stop, a refused write, progress, packets without bytes and the other fields of a report mean nothing there.
+-- stop, a refused write, progress, packets without bytes, early parts and the other fields of a report mean nothing there.
 use Rattle.std.specs.Prelude.{◌≡◌, ℕ, ◌<◌, ◌^◌, ◌==◌, Bool, true, false, if◌then◌else◌, unwrap_or, slice_get, slice_index, List, [], ◌∷◌, ◌++◌, Option, Some}
 use Rattle.clone_state.specs.Parts.{PartMessage, message_bytes}
 use Rattle.disk_dcdd.specs.declared.address.SectorAddress.{SectorAddress}
@@ -95,4 +95,6 @@ pub data Speaks (drives node : ℕ) : Said → List law.Frame → Type 0 where
   -- a packet that says only that the host is there, and one that says how many parts have come
   OfBeat : (place : ℕ) → Speaks drives node (Packet place []) []
   OfParts : (place high low : ℕ) → Speaks drives node (Packet place (0x4A ∷ high ∷ low ∷ [])) []
+  -- a part of an image that is sent early, before a generation has begun
+  OfEarly : (place : ℕ) (part : List ℕ) → Speaks drives node (Packet place (0x45 ∷ part)) []
   OfProgress : (place entries count : ℕ) → Speaks drives node (Tells (Progress place entries count)) []

@@ -3,7 +3,7 @@ use Rattle.std.specs.Prelude.{IfErr, Option, Result, Ok, Err}
 use Rattle.guest_lockstep.specs.Machine.{Machine}
 use Rattle.guest_parts.specs.Guest.{Guest}
 use Rattle.host_node.proofs.Going.{and_then}
-use Rattle.host_node.specs.Ends.{IsEnd, IsRefusal}
+use Rattle.host_node.specs.Ends.{HasNoMachine, IsEnd, IsRefusal}
 use Rattle.host_node.specs.Goes as goes
 use Rattle.host_node.specs.Goes.{Goes}
 use Rattle.host_node.specs.Looks.{HasRole}
@@ -34,6 +34,11 @@ module _ {B S : Type 0} {H : Type 0} (state : B → S) (M : Machine S) (copied :
       → IfErr r (λ end. IsEnd state M copied end b c) → IfErr r (λ end. IsEnd state M copied end a c)
   errs_since a b c (Ok value) way is = tt
   errs_since a b c (Err end) way is = ends_since a b c end way is
+
+  -- it was to be given a machine, and has none
+  pub orphaned : (a b : HostNode B H) (role : Option Role) → HasRole state M b.node role → HasNoMachine role
+      → IsEnd state M copied of_end.Orphaned a b
+  orphaned a b role has none = (role, has, none)
 
   -- the node refused what it does in its role
   pub refused : (a b : HostNode B H) (role : Option Role) (end : End) → HasRole state M a.node role → Goes state M copied a b

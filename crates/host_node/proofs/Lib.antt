@@ -13,5 +13,6 @@ pub mod Begun
 pub mod Reported
 pub mod Looking
 pub mod Waiting
+pub mod EarlyParts
 pub mod Ending
 pub mod Booting

@@ -1,5 +1,5 @@
 -- Why the loop of a host ends: what came says so, or what the host has then.
-use Rattle.std.specs.Prelude.{◌≡◌, Option, Some, []}
+use Rattle.std.specs.Prelude.{◌≡◌, Option, Some, None, []}
 use Rattle.guest_lockstep.specs.Machine.{Machine}
 use Rattle.guest_parts.specs.Guest.{Guest}
 use Rattle.host_frames.specs.Frames.{Tells}
@@ -18,6 +18,12 @@ abbrev pub Repeats : Option Role → Type 0
 Repeats (Some role.Backup) = Unit {0}
 Repeats (Some role.Draining) = Unit {0}
 Repeats _ = ⊥
+
+-- a host with this role has no machine yet: it joins, or is a spare
+abbrev pub HasNoMachine : Option Role → Type 0
+HasNoMachine None = Unit {0}
+HasNoMachine (Some role.Joining) = Unit {0}
+HasNoMachine _ = ⊥
 
 -- how a node of this role ends its loop if it refuses: its peer has sent what does not fit, or memory is out
 abbrev pub IsRefusal : Option Role → End → Type 0
@@ -41,5 +47,5 @@ module _ {B S : Type 0} {H : Type 0} (state : B → S) (M : Machine S) (copied :
   IsEnd of_end.Closed first last = last.mail.waits ≡ []
   IsEnd of_end.Lost first last = HasRole state M last.node (Some role.Halted)
   IsEnd of_end.Diverged first last = Passed Repeats first last
-  IsEnd of_end.Orphaned first last = HasRole state M last.node (Some role.Joining)
+  IsEnd of_end.Orphaned first last = (given : Option Role) × HasRole state M last.node given × HasNoMachine given
   IsEnd of_end.OutOfMemory first last = Unit {0}

@@ -7,6 +7,7 @@ pub mod Looks
 pub mod Guests
 pub mod Reports
 pub mod Lagging
+pub mod Early
 pub mod Speeds
 pub mod Ends
 pub mod Boots

@@ -4,14 +4,14 @@ ghost use Rattle.host_node.specs.Guests.{KeepsNoKey, OffersKey};
 ghost use Rattle.host_node.specs.Lagging.{IsHeldBack};
 ghost use Rattle.std.specs.Prelude.{◌≡◌, false};
 
-use crate::pace::AGAIN;
+use crate::pace::{AGAIN, PARTS};
 use crate::serving::Serving;
 use clone_state::Copies;
 use disk_dcdd::{OUTSTANDING, SECTORS};
 use event_callbacks::OpId;
 use guest_lockstep::{ReplayEnd, StopReason};
 use i8080_words::{Fault, R};
-use key_room::{KeyRoom, OutstandingWrites};
+use key_room::{KeyRoom, OutstandingWrites, Snapshots};
 
 // How many steps a guest makes before it is offered its next key, unless it idles.
 const BETWEEN_KEYS: u64 = 300;
@@ -22,10 +22,8 @@ const FEW_STEPS: u64 = 500;
 // For how many microseconds somebody waits for a guest that was given something.
 const MOMENT: u64 = 1_000;
 
-// How many entries are sent in one turn at most, and how many parts are under way.
+// How many entries are sent in one turn at most.
 const ENTRIES: u64 = 256;
-
-const PARTS: u64 = 64;
 
 // How many bytes of a port are released in one turn at most.
 const BYTES: u64 = 16;
@@ -35,7 +33,7 @@ const FRESHEN: u64 = 2_000;
 
 const PAGES: u64 = 8;
 
-impl<B: Copies<H> + KeyRoom + OutstandingWrites + Drop, H: Drop> Serving<B, H> {
+impl<B: Copies<H> + KeyRoom + OutstandingWrites + Snapshots + Drop, H: Drop> Serving<B, H> {
     // A primary runs its guest, and sends its log; before its backup is whole, the image.
     #[tactic(auto, using(crate::proofs::Going::stays, crate::proofs::Going::and_then))]
     pub(crate) fn serve_as_primary(&mut self) -> R<bool>
@@ -59,13 +57,15 @@ impl<B: Copies<H> + KeyRoom + OutstandingWrites + Drop, H: Drop> Serving<B, H> {
         Ok(has_sent | has_said)
     }
 
-    // A node that is alone runs its guest, and copies pages early for the next backup.
+    // A node that is alone runs its guest, and copies pages for the next backup, which is sent a copy early once it is known.
     #[tactic(auto, using(crate::proofs::Going::stays, crate::proofs::Going::and_then))]
     pub(crate) fn run_alone(&mut self) -> R<bool>
         ensures { Goes B.state B.machine B.copied self.old.host self.new.host }
     {
         self.freshen();
-        self.run()
+        let has_sent = self.send_image_early()?;
+        let is_busy = self.run()?;
+        Ok(has_sent | is_busy)
     }
 
     // Copies some pages early, if it is time. Without memory for them they are copied when the generation begins.
@@ -347,7 +347,7 @@ impl<B: Copies<H> + KeyRoom + OutstandingWrites + Drop, H: Drop> Serving<B, H> {
         Ok(has_sent)
     }
 
-    // Sends parts of the image, at most so many past those that have come; once all of these are sent, from the first again if
+    // Sends parts of the image, few past those that have come unless all have early; once all of these are sent, from the first again if
     // none came for a while.
     #[tactic(auto, using(crate::proofs::Going::stays, crate::proofs::Going::and_then))]
     fn send_parts(&mut self) -> R<bool>
@@ -355,7 +355,7 @@ impl<B: Copies<H> + KeyRoom + OutstandingWrites + Drop, H: Drop> Serving<B, H> {
     {
         let mut has_sent = false;
         for _ in 0..PARTS {
-            if self.pace.next_part >= self.pace.parts.saturating_add(PARTS) {
+            if self.pace.next_part >= self.pace.most_parts() {
                 break;
             }
             if !self.host.send_part(self.pace.next_part)? {

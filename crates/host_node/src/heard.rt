@@ -41,6 +41,10 @@ pub enum Heard {
     Begun,
     /// The host joins a generation.
     Joined,
+    /// The node is alone, and is told to begin a generation with the host at a place, to which no copy has gone early yet.
+    Asked { generation: u32, host: u8 },
+    /// A part of an image came early, of this index.
+    Early(u16),
     /// The outside is there, by its tick of this number, and a guest makes at most so many steps a second; 0 if it runs as fast as it can.
     Tick { number: u64, speed: u64 },
 }

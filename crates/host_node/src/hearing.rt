@@ -5,6 +5,7 @@ ghost use Rattle.host_node.specs.Goes.{Goes};
 ghost use Rattle.host_node.specs.Mail.{IsFrom};
 ghost use Rattle.host_frames.specs.Frames.{Packet, Tells, Transfers, said_by};
 
+use crate::early::EARLY;
 use crate::heard::Heard;
 use crate::host::{HostNode, Hosted};
 use crate::pace::End;
@@ -69,12 +70,15 @@ impl<B: Copies<H> + Drop, H: Drop> HostNode<B, H> {
         }
     }
 
-    // Takes a packet of the peer. A host that waits for the arbiter's answer takes none.
+    // Takes a packet of the peer, or one that comes early. A host that waits for the arbiter's answer takes none of its peer.
     #[tactic(auto, using(crate::proofs::Going::stays))]
     fn take_packet(&mut self, host: u8, bytes: &[u8]) -> R<Heard>
         requires { IsFrom self.old.mail.came (Packet host bytes.now) }
         ensures { Goes B.state B.machine B.copied self.old self.new }
     {
+        if let [EARLY, ..] = *bytes {
+            return Ok(self.take_early(host, bytes));
+        }
         if host != self.peer || self.is_waiting {
             return Ok(Heard::Nothing);
         }

@@ -4,6 +4,7 @@ ghost use Rattle.host_node.specs.Goes.{Goes};
 ghost use Rattle.host_node.specs.Looks.{HasCount, HasDue, HasGeneration, HasGuest, HasKeys, HasRole};
 ghost use Rattle.host_node.specs.declared.host.Hosted.TheVariants as hosted;
 
+use crate::early::Early;
 use crate::mail::Mail;
 use clone_state::Copies;
 use event_callbacks::PORTS;
@@ -21,7 +22,8 @@ pub enum Hosted<B: Copies<H> + Drop, H: Drop> {
 }
 
 /// A host: the number of its node among the hosts of the pair, how many drives the pair's machines have, the place of the
-/// node's peer at the switch, the node, and the mail. A spare has no number yet: it joins the generation of its number.
+/// node's peer at the switch, the node, the mail, and the copy that goes early, if one does. A spare has no number yet: it joins the
+/// generation of its number.
 #[derive(Drop)]
 pub struct HostNode<B: Copies<H> + Drop, H: Drop> {
     pub(crate) alloc: Global,
@@ -31,6 +33,7 @@ pub struct HostNode<B: Copies<H> + Drop, H: Drop> {
     pub(crate) is_waiting: bool,
     pub(crate) node: Hosted<B, H>,
     pub(crate) mail: Mail,
+    pub(crate) early: Option<Early>,
 }
 
 impl<B: Copies<H> + Drop, H: Drop> HostNode<B, H> {
@@ -58,6 +61,7 @@ impl<B: Copies<H> + Drop, H: Drop> HostNode<B, H> {
             is_waiting: false,
             node: Hosted::Node(node),
             mail,
+            early: None,
         }
     }
 
@@ -76,6 +80,7 @@ impl<B: Copies<H> + Drop, H: Drop> HostNode<B, H> {
             is_waiting: false,
             node: Hosted::Spare(callbacks),
             mail,
+            early: None,
         }
     }
 

@@ -6,6 +6,7 @@ ghost use Rattle.host_node.specs.Goes.{Goes};
 ghost use Rattle.host_node.specs.Mail.{IsFrom};
 ghost use Rattle.host_node.specs.Roles.{MayAsk};
 
+use crate::early::is_ready;
 use crate::heard::Heard;
 use crate::host::{HostNode, Hosted};
 use arbiter_core::Arbiter;
@@ -60,10 +61,11 @@ impl<B: Copies<H> + Drop, H: Drop> HostNode<B, H> {
         }
         node.stop()?;
         self.node = Hosted::Halted;
+        self.early = None;
         Ok(Heard::Lost)
     }
 
-    // A node that is alone begins this generation with the host at that place.
+    // A node that is alone begins this generation with the host at that place, once a copy has gone there early.
     #[tactic(auto, using(crate::proofs::Begun::begins, crate::proofs::Going::stays, crate::proofs::Going::looked))]
     pub(crate) fn begin(&mut self, generation: u32, host: u8) -> R<Heard>
         requires { IsFrom self.old.mail.came (Tells (notice.Begin generation host)) }
@@ -76,7 +78,13 @@ impl<B: Copies<H> + Drop, H: Drop> HostNode<B, H> {
             return Ok(Heard::Nothing);
         };
         let before = node.generation();
-        if before == u32::MAX || before + 1 != generation || !self.mail.has_room() {
+        if before == u32::MAX || before + 1 != generation {
+            return Ok(Heard::Nothing);
+        }
+        if !is_ready(&self.early, generation, host) {
+            return Ok(Heard::Asked { generation, host });
+        }
+        if !self.mail.has_room() {
             return Ok(Heard::Nothing);
         }
         let join = Frame::Notice(Notice::Join {
@@ -89,6 +97,7 @@ impl<B: Copies<H> + Drop, H: Drop> HostNode<B, H> {
         node.begin(self.alloc)?;
         self.mail.say_bytes(bytes);
         self.peer = host;
+        self.early = None;
         Ok(Heard::Begun)
     }
 

@@ -8,9 +8,9 @@ use crate::serving::Serving;
 use clone_state::Copies;
 use guest_lockstep::StopReason;
 use i8080_words::{Fault, R};
-use key_room::{KeyRoom, OutstandingWrites};
+use key_room::{KeyRoom, OutstandingWrites, Snapshots};
 
-impl<B: Copies<H> + KeyRoom + OutstandingWrites + Drop, H: Drop> Serving<B, H> {
+impl<B: Copies<H> + KeyRoom + OutstandingWrites + Snapshots + Drop, H: Drop> Serving<B, H> {
     // Whether a primary's guest waits for the backup.
     #[tactic(auto, using(crate::proofs::Waiting::holds_back))]
     pub(crate) fn is_held_back(&self) -> bool

@@ -2,6 +2,8 @@
 #![tactic(auto)]
 
 mod acting;
+mod copying;
+mod early;
 mod heard;
 mod hearing;
 mod host;

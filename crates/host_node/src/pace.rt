@@ -18,6 +18,10 @@ const FEWEST_TICKS: u64 = 2;
 /// After how many microseconds what was sent is sent again.
 pub const AGAIN: u64 = 100_000;
 
+/// How many parts of an image are sent past those that have come, unless all have come early: streams name what they have carried in few
+/// bytes.
+pub const PARTS: u64 = 64;
+
 /// How a host's loop goes. Times are in microseconds.
 #[derive(Clone, Copy)]
 pub struct Settings {
@@ -64,6 +68,12 @@ pub struct Pace {
     pub next_part: u64,
     pub parts: u64,
     pub parts_at: u64,
+    // The generation and the place for which an image goes early, whether it does for the second time, and whether all of it has come then;
+    // whether parts of one have come here early.
+    pub early: (u32, u8),
+    pub is_second: bool,
+    pub has_crossed: bool,
+    pub is_given: bool,
     // How many parts have come, and whether the peer was not told so yet; whether an acknowledgement is due.
     pub parts_here: u16,
     pub owes_parts: bool,
@@ -107,6 +117,10 @@ impl Pace {
             next_part: 0,
             parts: 0,
             parts_at: now,
+            early: (0, 0),
+            is_second: false,
+            has_crossed: false,
+            is_given: false,
             parts_here: 0,
             owes_parts: false,
             owes_acknowledgement: false,
@@ -177,13 +191,14 @@ impl Pace {
             Heard::Gone(host) => self.is_gone = self.is_gone || host == peer,
             Heard::Begun => self.begin(),
             Heard::Joined => self.join(),
+            Heard::Early(index) => self.note_early(index),
             Heard::Tick { number, speed } => {
                 self.silent = self.silent.saturating_add(1);
                 self.tick = number;
                 self.speed.set(speed, self.now);
             }
             Heard::Progress(lead) => self.lag.hear(lead),
-            Heard::Nothing | Heard::Malformed | Heard::Lost => {}
+            Heard::Nothing | Heard::Malformed | Heard::Lost | Heard::Asked { .. } => {}
         }
     }
 
@@ -230,6 +245,44 @@ impl Pace {
         }
     }
 
+    // A part came early, and whoever sends them is there. So is what it sent before, but for what was lost on the way.
+    fn note_early(&mut self, index: u16) {
+        self.change_peer();
+        self.is_given = true;
+        self.parts_here = index.saturating_add(1);
+        self.owes_parts = true;
+    }
+
+    /// An image goes early, for this generation, to the host at a place, which is there.
+    pub fn begin_early(&mut self, generation: u32, place: u8) {
+        self.change_peer();
+        self.early = (generation, place);
+        self.is_second = false;
+        self.has_crossed = false;
+        self.begin_parts();
+    }
+
+    /// An image goes early for the second time.
+    pub fn begin_second(&mut self) {
+        self.is_second = true;
+        self.begin_parts();
+    }
+
+    /// Up to which part an image may be sent now.
+    pub fn most_parts(&self) -> u64 {
+        if self.has_crossed {
+            return u64::MAX;
+        }
+        self.parts.saturating_add(PARTS)
+    }
+
+    // No part of an image was sent yet.
+    fn begin_parts(&mut self) {
+        self.next_part = 0;
+        self.parts = 0;
+        self.parts_at = self.now;
+    }
+
     fn note_parts(&mut self, parts: u64) {
         self.hear_peer();
         if parts > self.parts {
@@ -254,22 +307,22 @@ impl Pace {
         self.asked_disk_at = None;
     }
 
-    // The node is the primary of a new generation, whose backup is given the image.
+    // The node is the primary of a new generation, whose backup is given the image. It is the host to which a copy has gone early, and may
+    // be gone since.
     fn begin(&mut self) {
-        self.change_peer();
+        self.hear_peer();
         self.next_entry = 0;
         self.acknowledged = 0;
         self.acknowledged_at = self.now;
         self.is_copying = true;
-        self.next_part = 0;
-        self.parts = 0;
-        self.parts_at = self.now;
+        self.begin_parts();
         self.lag = Lag::new();
     }
 
     // The host is given an image.
     fn join(&mut self) {
         self.change_peer();
+        self.is_given = false;
         self.parts_here = 0;
         self.owes_parts = false;
         self.lag = Lag::new();

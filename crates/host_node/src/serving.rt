@@ -1,6 +1,6 @@
 //! The loop of a host: turns that take what came, let the node go on, and send what is due. No turn waits for a stream.
-ghost use Rattle.std.specs.Prelude.{◌≡◌, ◌⊎◌, IfErr};
-ghost use Rattle.host_node.specs.Ends.{IsEnd, IsRefusal};
+ghost use Rattle.std.specs.Prelude.{◌≡◌, ◌⊎◌, IfErr, IsTrue};
+ghost use Rattle.host_node.specs.Ends.{HasNoMachine, IsEnd, IsRefusal};
 ghost use Rattle.host_node.specs.Goes.{Goes};
 ghost use Rattle.host_node.specs.declared.pace.End.TheVariants as of_end;
 
@@ -10,7 +10,7 @@ use crate::reporting::Known;
 use clone_state::Copies;
 use frame_streams::{Rests, micros};
 use i8080_words::{Fault, R};
-use key_room::{KeyRoom, OutstandingWrites};
+use key_room::{KeyRoom, OutstandingWrites, Snapshots};
 use pair_events::Role;
 use std::sync::Wait;
 use std::thread::Parker;
@@ -37,12 +37,11 @@ pub struct Serving<B: Copies<H> + Drop, H: Drop> {
 /// Serves until there is a reason to end, which is returned with the host. The reader of frames wakes the loop through the
 /// parker.
 #[tactic(auto, using(crate::proofs::Going::stays, crate::proofs::Going::and_then))]
-pub fn serve<B: Copies<H> + KeyRoom + OutstandingWrites + Drop, H: Drop, C: Wait + Clock>(
-    rt: &C,
-    host: HostNode<B, H>,
-    settings: Settings,
-    wake: &Parker,
-) -> (HostNode<B, H>, End)
+pub fn serve<
+    B: Copies<H> + KeyRoom + OutstandingWrites + Snapshots + Drop,
+    H: Drop,
+    C: Wait + Clock,
+>(rt: &C, host: HostNode<B, H>, settings: Settings, wake: &Parker) -> (HostNode<B, H>, End)
     ensures goes { Goes B.state B.machine B.copied host result.0 }
     ensures why { IsEnd B.state B.machine B.copied result.1 host result.0 }
 {
@@ -56,7 +55,7 @@ pub fn serve<B: Copies<H> + KeyRoom + OutstandingWrites + Drop, H: Drop, C: Wait
     (serving.host, end)
 }
 
-impl<B: Copies<H> + KeyRoom + OutstandingWrites + Drop, H: Drop> Serving<B, H> {
+impl<B: Copies<H> + KeyRoom + OutstandingWrites + Snapshots + Drop, H: Drop> Serving<B, H> {
     // Takes turns until there is a reason to end.
     #[tactic(auto, using(crate::proofs::Going::stays, crate::proofs::Going::and_then, crate::proofs::Ending::ends_since))]
     fn serve_all<C: Wait + Clock>(&mut self, rt: &C, wake: &Parker) -> End
@@ -117,6 +116,7 @@ impl<B: Copies<H> + KeyRoom + OutstandingWrites + Drop, H: Drop> Serving<B, H> {
         };
         let peer = self.host.peer();
         self.pace.note(heard, peer);
+        self.prepare(heard);
         Ok(true)
     }
 
@@ -156,7 +156,7 @@ impl<B: Copies<H> + KeyRoom + OutstandingWrites + Drop, H: Drop> Serving<B, H> {
     }
 
     // Lets the node go on, unless it has halted, or can never be whole.
-    #[tactic(auto, using(crate::proofs::Going::stays, crate::proofs::Going::and_then, crate::proofs::Ending::refused))]
+    #[tactic(auto, using(crate::proofs::Going::stays, crate::proofs::Going::and_then, crate::proofs::Ending::orphaned, crate::proofs::Ending::refused))]
     fn act(&mut self) -> Result<bool, End>
         ensures goes { Goes B.state B.machine B.copied self.old.host self.new.host }
         ensures why { IfErr result (λ end. IsEnd B.state B.machine B.copied end self.old.host self.new.host) }
@@ -165,14 +165,24 @@ impl<B: Copies<H> + KeyRoom + OutstandingWrites + Drop, H: Drop> Serving<B, H> {
         if let Some(Role::Halted) = role {
             return Err(End::Lost);
         }
-        if let Some(Role::Joining) = role {
-            if self.pace.is_suspected(self.settings.patience) {
-                return Err(End::Orphaned);
-            }
+        if self.is_orphaned(role) {
+            return Err(End::Orphaned);
         }
         match self.act_as(role) {
             Ok(is_busy) => Ok(is_busy),
             Err(fault) => Err(end_of(role, fault)),
+        }
+    }
+
+    // Whether the host is to have a machine that it does not have, and whoever was to send it is suspected; or is gone, if only parts have
+    // come early.
+    fn is_orphaned(&self, role: Option<Role>) -> bool
+        ensures { IsTrue result → HasNoMachine role }
+    {
+        match role {
+            Some(Role::Joining) => self.pace.is_suspected(self.settings.patience),
+            None => self.pace.is_given && self.pace.is_gone,
+            _ => false,
         }
     }
 
@@ -186,8 +196,8 @@ impl<B: Copies<H> + KeyRoom + OutstandingWrites + Drop, H: Drop> Serving<B, H> {
             Some(Role::Alone) => self.run_alone(),
             Some(Role::Backup) => self.follow(),
             Some(Role::Draining) => self.drain(),
-            Some(Role::Joining) => self.tell_parts(),
-            Some(Role::Halted) | None => Ok(false),
+            Some(Role::Joining) | None => self.tell_parts(),
+            Some(Role::Halted) => Ok(false),
         }
     }
 

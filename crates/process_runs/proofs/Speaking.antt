@@ -34,24 +34,34 @@ use Rattle.process_runs.proofs.Parts.{one_part}
 -- ---- packets: the tag tells a part of an image from a packet of the log
 
 -- a packet of the log begins with none of the tags of the packets of images
-not_image : (p : channel.Packet) (tag : ℕ) (rest : List ℕ) → packet_bytes p ≡ tag ∷ rest → (tag ≡ 0x4A) ⊎ (tag ≡ 0x50) → ⊥
+not_image : (p : channel.Packet) (tag : ℕ) (rest : List ℕ) → packet_bytes p ≡ tag ∷ rest
+    → (tag ≡ 0x4A) ⊎ ((tag ≡ 0x50) ⊎ (tag ≡ 0x45)) → ⊥
 not_image (Log generation index e) tag rest is t =
     let first : 0x4C ≡ tag = cc in
     elim t [
       | inl a ↦ omega (arith, first, a)
-      | inr b ↦ omega (arith, first, b)
+      | inr b ↦ elim b [
+        | inl c ↦ omega (arith, first, c)
+        | inr d ↦ omega (arith, first, d)
+      ]
     ]
 not_image (Ack generation held None) tag rest is t =
     let first : 0x41 ≡ tag = cc in
     elim t [
       | inl a ↦ omega (arith, first, a)
-      | inr b ↦ omega (arith, first, b)
+      | inr b ↦ elim b [
+        | inl c ↦ omega (arith, first, c)
+        | inr d ↦ omega (arith, first, d)
+      ]
     ]
 not_image (Ack generation held (Some replayed)) tag rest is t =
     let first : 0x42 ≡ tag = cc in
     elim t [
       | inl a ↦ omega (arith, first, a)
-      | inr b ↦ omega (arith, first, b)
+      | inr b ↦ elim b [
+        | inl c ↦ omega (arith, first, c)
+        | inr d ↦ omega (arith, first, d)
+      ]
     ]
 
 not_nothing : (p : channel.Packet) → packet_bytes p ≡ [] → ⊥
@@ -63,8 +73,8 @@ not_nothing (Ack generation held (Some replayed)) is = absurd (cc)
 one_carried : (bytes : List ℕ) (f g : law.Frame) → IsCarried bytes f → IsCarried bytes g → f ≡ g
 one_carried bytes f g (inl p) (inl q) =
     p.3 ∙ ap carried (one_meaning p.0 q.0 p.1 q.1 (sym p.2 ∙ q.2)) ∙ sym q.3
-one_carried bytes f g (inl p) (inr q) = absurd (not_image p.0 0x50 _ (sym p.2 ∙ q.2) (inr refl))
-one_carried bytes f g (inr p) (inl q) = absurd (not_image q.0 0x50 _ (sym q.2 ∙ p.2) (inr refl))
+one_carried bytes f g (inl p) (inr q) = absurd (not_image p.0 0x50 _ (sym p.2 ∙ q.2) (inr (inl refl)))
+one_carried bytes f g (inr p) (inl q) = absurd (not_image q.0 0x50 _ (sym q.2 ∙ p.2) (inr (inl refl)))
 one_carried bytes f g (inr p) (inr q) =
     p.3 ∙ ap (λ (m : PartMessage). law.Carries (message.ImagePart m.generation m.index m.payload))
     (one_part p.0 q.0 p.1 q.1 (sym p.2 ∙ q.2)) ∙ sym q.3
@@ -77,6 +87,10 @@ no_beat frame (inr q) = absurd (let e = q.2 in (cc))
 no_parts : (rest : List ℕ) (frame : law.Frame) → IsCarried (0x4A ∷ rest) frame → ⊥
 no_parts rest frame (inl p) = not_image p.0 0x4A rest (sym p.2) (inl refl)
 no_parts rest frame (inr q) = absurd (let e = q.2 in let first : ◌≡◌ {A = ℕ} 0x4A 0x50 = cc in omega (arith, first))
+
+no_early : (part : List ℕ) (frame : law.Frame) → IsCarried (0x45 ∷ part) frame → ⊥
+no_early part frame (inl p) = not_image p.0 0x45 part (sym p.2) (inr (inr refl))
+no_early part frame (inr q) = absurd (let e = q.2 in let first : ◌≡◌ {A = ℕ} 0x45 0x50 = cc in omega (arith, first))
 
 -- ---- what means one thing
 
@@ -162,6 +176,8 @@ speaks_told drives node said frames sent fits (meaning.OfBeat place) came = λ f
     absurd (no_beat frame (only drives node (Packet place []) frame means))
 speaks_told drives node said frames sent fits (meaning.OfParts place high low) came = λ frame means.
     absurd (no_parts (high ∷ low ∷ []) frame (only drives node (Packet place (0x4A ∷ high ∷ low ∷ [])) frame means))
+speaks_told drives node said frames sent fits (meaning.OfEarly place part) came = λ frame means.
+    absurd (no_early part frame (only drives node (Packet place (0x45 ∷ part)) frame means))
 speaks_told drives node said frames sent fits (meaning.OfProgress place entries count) came = λ frame means.
     absurd (only drives node (Tells (Progress place entries count)) frame means)
 
