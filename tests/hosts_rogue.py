@@ -5,8 +5,11 @@ usage: tests/hosts_rogue.py nothing|half|garbage|flood [WORD ..]     the further
        tests/hosts_rogue.py dies BYTES PROGRAM WORD ..                 the host of these words, killed after so many bytes came to it
        tests/hosts_rogue.py deaf PROGRAM WORD ..     the host of these words, which hears no other host from SIGUSR1 on, until the arbiter
                                                      has answered it
+       tests/hosts_rogue.py counts FILE PROGRAM WORD ..     the host of these words; FILE says how many frames it has sent with a block,
+                                                     and how many without theirs
 """
 import os
+import pathlib
 import signal
 import subprocess
 import sys
@@ -17,6 +20,9 @@ PIECE = 65536
 
 # The tags of the frames that other hosts send (packets, those without their block, and how far they are), and of the arbiter's answers.
 OF_HOSTS, OF_ARBITER = (b"P", b"r", b"R"), (b"O", b"L")
+
+# How many bytes a frame with a block has.
+WITH_BLOCK = (4 + 265, 4 + 266)
 
 
 def frame(body):
@@ -78,6 +84,31 @@ def frames_of(source):
         yield head + source.read(int.from_bytes(head[2:], "big"))
 
 
+class Counted(Host):
+    """A host whose blocks are counted."""
+
+    def __init__(self, path, words):
+        self.path, self.whole, self.short = pathlib.Path(path), 0, 0
+        super().__init__(words)
+
+    def pass_back(self):
+        for it in frames_of(self.run.stdout):
+            self.whole += it[4:5] == b"P" and len(it) in WITH_BLOCK
+            self.short += it[4:5] == b"r"
+            self.path.write_text(f"{self.whole} {self.short}", encoding="utf-8")
+            write(it)
+        os._exit(self.run.wait())
+
+
+def count(path, words):
+    """Runs a host, passes all on, and counts its blocks."""
+    host = Counted(path, words)
+    while some := os.read(0, PIECE):
+        host.give(some)
+    host.run.stdin.close()
+    sleep_for_good()
+
+
 def be_deaf(words):
     """Runs a host, and passes on what is said to it, but for what other hosts say while it is deaf."""
     is_deaf = threading.Event()
@@ -98,6 +129,8 @@ def main(mode, *words):
         die_after(int(words[0]), words[1:])
     if mode == "deaf":
         be_deaf(words)
+    if mode == "counts":
+        count(words[0], words[1:])
     if mode == "flood":
         flood()
     if mode == "half":

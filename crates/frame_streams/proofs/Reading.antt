@@ -8,10 +8,10 @@ use Rattle.std.proofs.lemmas.List.{take_all}
 use Rattle.rtrb.specs.Ring.{SameProducer, sent}
 use Rattle.host_frames.specs.Frames.{framed}
 use Rattle.host_frames.specs.Stream.{IsBody, Refuses, stream_of}
-use Rattle.std.specs.Prelude.{Bool, true, false, Result, Ok, Err, IfNone}
+use Rattle.std.specs.Prelude.{Bool, true, false, Result, Ok, Err}
 use Rattle.frame_streams.specs.Blocks.{Blocks, Expands, expanded, kept}
 use Rattle.i8080_words.specs.declared.refusal.Fault.{Fault}
-use Rattle.frame_streams.specs.Reading.{EndsWith, Handed, HandsBody, HandsNext, NotHanded, Reads, contents_of, end_of}
+use Rattle.frame_streams.specs.Reading.{EndsWith, Handed, HandsBody, HandsNext, NotHanded, Reads, Stays, contents_of, end_of}
 use Rattle.frame_streams.proofs.Blocks.{expanded_body, expands_both}
 use Rattle.frame_streams.specs.Slots.{blocks_in}
 use Rattle.frame_streams.specs.declared.reader.FrameReader.{FrameReader}
@@ -72,9 +72,21 @@ fed old new piece count is counted few most =
     is ∙ ap (λ l. old ++ l) (take_all count piece all)
 
 -- what is pending is the rest, whatever end there is
-stays_so : (end : Option StreamEnd) (P : Type 0) → P → IfNone end P
+stays_so : (end : Option StreamEnd) (P : Type 0) → P → Stays end P
 stays_so None P p = p
-stays_so (Some end) P p = tt
+stays_so (Some StreamEnd.Closed) P p = p
+stays_so (Some (StreamEnd.Failed failed)) P p = p
+stays_so (Some StreamEnd.Malformed) P p = tt
+stays_so (Some StreamEnd.OutOfMemory) P p = tt
+stays_so (Some (StreamEnd.Deserted deserted)) P p = p
+
+-- or a frame is the reason to end
+refused_stays : (end : StreamEnd) (Q P : Type 0) → ((end ≡ StreamEnd.Malformed) × Q) ⊎ (end ≡ StreamEnd.OutOfMemory)
+    → Stays (Some end) P
+refused_stays end Q P why = elim why [
+  | inl p ↦ subst (λ e. Stays (Some e) P) (sym p.0) tt
+  | inr p ↦ subst (λ e. Stays (Some e) P) (sym p) tt
+]
 
 module _ {S : Type 0} (left : S → Option (List ℕ)) where
   pub same_on : (a b c : FrameReader S) → SameProducer a.bodies b.bodies → SameProducer b.bodies c.bodies
@@ -153,7 +165,8 @@ module _ {S : Type 0} (left : S → Option (List ℕ)) where
     over = not_handed end (left b.source) (blocks_in a.carried) wire m.pending a.pending is pending
         (subst (λ c. ((end ≡ StreamEnd.Malformed) × (expanded (blocks_in c) wire ≡ None)) ⊎ (end ≡ StreamEnd.OutOfMemory))
         carried h.why);
-    stays = tt;
+    stays = refused_stays end (expanded (blocks_in m.carried) wire ≡ None)
+        ((a.pending ≡ b.pending) × (blocks_in a.carried ≡ blocks_in b.carried)) h.why;
     same = subst (λ r. SameProducer a.bodies r) (sym h.handed) same;
   }
 

@@ -1,5 +1,5 @@
 -- What the reading thread has taken from its stream, and handed on.
-use Rattle.std.specs.Prelude.{◌≡◌, ◌⊎◌, ℕ, Bool, true, false, List, [], ◌∷◌, ◌++◌, map, IfNone, Option, None, Some, Result, Ok, Err}
+use Rattle.std.specs.Prelude.{◌≡◌, ◌⊎◌, ℕ, Bool, true, false, List, [], ◌∷◌, ◌++◌, map, Option, None, Some, Result, Ok, Err}
 use Rattle.std.specs.Global.{Vec}
 use Rattle.std.specs.Io.KnownBytes.{Consumes, IsAtEnd}
 use Rattle.std.specs.List.{AllByRecursion}
@@ -28,6 +28,12 @@ EndsWith (Some StreamEnd.Malformed) left blocks rest = BeginsNone rest ⊎ Begin
 EndsWith (Some StreamEnd.OutOfMemory) left blocks rest = BeginsWhole rest
 EndsWith _ left blocks rest = Unit {0}
 
+-- this holds unless a frame is the reason to end
+abbrev pub Stays : Option StreamEnd → Type 0 → Type 0
+Stays (Some StreamEnd.Malformed) P = Unit {0}
+Stays (Some StreamEnd.OutOfMemory) P = Unit {0}
+Stays _ P = P
+
 -- how a stream ends whose next frame is refused so
 abbrev pub end_of : Fault → StreamEnd
 end_of OutOfMemory = StreamEnd.OutOfMemory
@@ -38,7 +44,7 @@ abbrev pub contents_of : List (Vec ℕ) → List (List ℕ)
 contents_of bodies = map (λ (b : Vec ℕ). b.items) bodies
 
 -- Some bytes were taken. With what was pending they are frames, each once and in order, of which the bodies were handed on, with
--- the blocks that some of them name; and a rest, which is pending now, unless there is a reason to end.
+-- the blocks that some of them name; and a rest, which is pending now, unless a frame is the reason to end.
 pub record Reads {S : Type 0} (left : S → Option (List ℕ)) (end : Option StreamEnd) (old new : FrameReader S)
     : Type 0 where
   pub taken : List ℕ
@@ -52,7 +58,7 @@ pub record Reads {S : Type 0} (left : S → Option (List ℕ)) (end : Option Str
   pub stream : old.pending ++ taken ≡ stream_of wires ++ rest
   pub expands : Expands (blocks_in old.carried) wires (contents_of bodies) blocks
   pub over : EndsWith end (left new.source) blocks rest
-  pub stays : IfNone end ((rest ≡ new.pending) × (blocks ≡ blocks_in new.carried))
+  pub stays : Stays end ((rest ≡ new.pending) × (blocks ≡ blocks_in new.carried))
   pub same : SameProducer old.bodies new.bodies
 
 -- the next frame was handed on, or none is whole, or there is a reason to end

@@ -19,7 +19,8 @@ joined frames = flat_map (λ f. f) frames
 pub record WroteFrame {W : Type 0} (contents : W → Option (List ℕ)) (old new : FrameWriter W) (frame : List ℕ) : Type 0 where
   pub wire : List ℕ
   pub short : wire ≡ shortened (blocks_in old.carried) frame
-  pub keeps : (blocks_in new.carried ≡ kept (blocks_in old.carried) (body_in wire)) ⊎ (blocks_in new.carried ≡ forgotten (blocks_in old.carried) (body_in wire))
+  pub keeps : (blocks_in new.carried ≡ kept (blocks_in old.carried) (body_in wire))
+      ⊎ (blocks_in new.carried ≡ forgotten (blocks_in old.carried) (body_in wire))
   pub written : Appends (contents old.sink) (contents new.sink) wire
   pub same : new.frames ≡ old.frames
 

@@ -32,8 +32,10 @@ pub(crate) fn keep_block(
 ) -> R<()>
     requires place { place < PLACES }
     requires slots { AreSlots slots.old.items }
-    ensures ok { OnOk result ((other : ℕ) → blocks_in slots.new.items other ≡ with_block (blocks_in slots.old.items) place block.now other) }
-    ensures err { OnErr result ((other : ℕ) → blocks_in slots.new.items other ≡ with_block (blocks_in slots.old.items) place [] other) }
+    ensures ok { OnOk result ((other : ℕ) → blocks_in slots.new.items other
+        ≡ with_block (blocks_in slots.old.items) place block.now other) }
+    ensures err { OnErr result ((other : ℕ) → blocks_in slots.new.items other
+        ≡ with_block (blocks_in slots.old.items) place [] other) }
     ensures full { IfErr result (λ fault. fault ≡ OutOfMemory) }
     ensures slots { AreSlots slots.new.items }
 {
