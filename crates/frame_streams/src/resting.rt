@@ -55,9 +55,7 @@ impl Rests {
     pub fn looks_again(&self, now: u64) -> bool
         ensures { result ≡ looks_again now self.now }
     {
-        self.worth > 0
-            && now >= self.shuns_until
-            && now.saturating_sub(self.found_at) < LOOKS
+        self.worth > 0 && now >= self.shuns_until && now.saturating_sub(self.found_at) < LOOKS
     }
 
     /// Rests: yields if it is to look again, and otherwise sleeps until somebody wakes it through the parker, or for so many
