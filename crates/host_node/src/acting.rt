@@ -16,6 +16,9 @@ use key_room::{KeyRoom, OutstandingWrites, Snapshots};
 // How many steps a guest makes before it is offered its next key, unless it idles.
 const BETWEEN_KEYS: u64 = 300;
 
+// How many keys of a port are taken in a turn at most.
+const KEYS: u64 = 8;
+
 // How many steps are made in a turn at most while somebody waits for the guest, so that its loop soon looks for what comes.
 const FEW_STEPS: u64 = 500;
 
@@ -85,9 +88,36 @@ impl<B: Copies<H> + KeyRoom + OutstandingWrites + Snapshots + Drop, H: Drop> Ser
     fn run(&mut self) -> R<bool>
         ensures { Goes B.state B.machine B.copied self.old.host self.new.host }
     {
+        let has_read = self.read_keys()?;
         let has_taken = self.take_keys()?;
         let is_busy = self.step_and_ask()?;
-        Ok(has_taken | is_busy)
+        Ok(has_read | has_taken | is_busy)
+    }
+
+    // Takes keys as long as the guest reads them, all but the last of a turn.
+    #[tactic(auto, using(crate::proofs::Going::stays, crate::proofs::Going::and_then))]
+    fn read_keys(&mut self) -> R<bool>
+        ensures { Goes B.state B.machine B.copied self.old.host self.new.host }
+    {
+        let mut has_read = false;
+        for _ in 1..KEYS {
+            if !self.read_key()? {
+                break;
+            }
+            has_read = true;
+        }
+        Ok(has_read)
+    }
+
+    // Takes a key of each port, and makes the steps in which the guest may read it. Returns false if there is none to be taken.
+    #[tactic(auto, using(crate::proofs::Going::stays, crate::proofs::Going::and_then))]
+    fn read_key(&mut self) -> R<bool>
+        ensures { Goes B.state B.machine B.copied self.old.host self.new.host }
+    {
+        if !self.take_keys()? {
+            return Ok(false);
+        }
+        self.step()
     }
 
     // Makes steps, and asks of terminals and disk what they ask for.
@@ -179,6 +209,14 @@ impl<B: Copies<H> + KeyRoom + OutstandingWrites + Snapshots + Drop, H: Drop> Ser
             return FEW_STEPS.min(self.settings.steps);
         }
         self.settings.steps
+    }
+
+    // How many moves a backup makes in a turn at most: many if it is late, or it would stay so.
+    fn most_moves(&self) -> u64 {
+        if self.pace.lag.is_late(self.host.count()) {
+            return self.settings.steps;
+        }
+        self.most_steps()
     }
 
     // Whether something of the guest is on its way to or from a device.
@@ -397,7 +435,7 @@ impl<B: Copies<H> + KeyRoom + OutstandingWrites + Snapshots + Drop, H: Drop> Ser
     fn replay(&mut self) -> R<bool>
         ensures { Goes B.state B.machine B.copied self.old.host self.new.host }
     {
-        let most = self.most_steps();
+        let most = self.most_moves();
         let replayed = self.host.replay(most)?;
         self.pace.note_replayed(&replayed);
         self.fetch(replayed.why)?;

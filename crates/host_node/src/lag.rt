@@ -1,16 +1,16 @@
 //! How far the hosts of a pair are, and how far a backup may be behind.
 ghost use Rattle.std.specs.Prelude.{◌≡◌, None, Some};
-ghost use Rattle.host_node.specs.Lagging.{behind, is_due, is_far_behind, is_too_far, lag_of, waits_for};
+ghost use Rattle.host_node.specs.Lagging.{behind, is_due, is_far_behind, is_late, is_too_far, lag_of, waits_for};
 
 use ft_node::Lead;
 use pair_events::Role;
 
-// How many steps a backup may be behind: about those of a twentieth of a second. If it is further behind, its primary's guest
+// How many steps a backup may be behind: about those of a hundredth of a second. If it is further behind, its primary's guest
 // makes no step (VMware FT, section 3.2.2).
-const MOST_BEHIND: u64 = 10_000_000;
+const MOST_BEHIND: u64 = 4_000_000;
 
 // After how many steps a host says again how far it is.
-const STEPS: u64 = 2_000_000;
+const STEPS: u64 = 1_000_000;
 
 /// How far the peer said last that it is, and how far this host said last that it is itself.
 #[derive(Clone, Copy)]
@@ -65,6 +65,13 @@ impl Lag {
             Some(lead) => lead.count.saturating_sub(count),
             None => 0,
         }
+    }
+
+    /// Whether the peer has said that it is so far past a guest of this count that the guest is to make many steps at once.
+    pub fn is_late(&self, count: u64) -> bool
+        ensures { result ≡ is_late self.now.heard count }
+    {
+        self.behind(count) > STEPS
     }
 
     /// Whether it is time to say that this host has come to a count.
