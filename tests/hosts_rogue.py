@@ -95,7 +95,9 @@ class Counted(Host):
         for it in frames_of(self.run.stdout):
             self.whole += it[4:5] == b"P" and len(it) in WITH_BLOCK
             self.short += it[4:5] == b"r"
-            self.path.write_text(f"{self.whole} {self.short}", encoding="utf-8")
+            written = self.path.with_suffix(".new")
+            written.write_text(f"{self.whole} {self.short}", encoding="utf-8")
+            os.replace(written, self.path)
             write(it)
         os._exit(self.run.wait())
 
