@@ -1,5 +1,6 @@
 pub mod Words
 pub mod Answering
+pub mod Asking
 pub mod Keeping
 pub mod Stations
 pub mod Inputs
