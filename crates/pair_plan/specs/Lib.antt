@@ -1,0 +1,3 @@
+pub mod First
+pub mod Serves
+pub mod Allowed
