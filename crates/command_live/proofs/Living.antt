@@ -1,5 +1,5 @@
 -- What a pair on threads prints is an end of its generation; what is typed at it, line by line.
-use Rattle.std.proofs.Common.{◌≡◌, ℕ, ◌+◌, ◌<◌, zero, suc, true, Option, Some, None, List, [], ◌∷◌, ◌++◌, Result, Ok, Err, inl, inr, refl, subst, sym, ap, ◌∙◌, length, replicate, take, get_or, if◌then◌else◌, append-nil, arith}
+use Rattle.std.proofs.Common.{◌≡◌, ℕ, ◌+◌, ◌<◌, zero, suc, Option, Some, None, List, [], ◌∷◌, ◌++◌, Result, Ok, Err, inl, inr, refl, subst, sym, ap, ◌∙◌, length, replicate, take, get_or, if◌then◌else◌, append-nil, arith}
 use Rattle.std.specs.Prelude.{◌⊎◌, IfErr, IfOk, IsTrue, OnOk}
 use Rattle.std.specs.Global.{Vec}
 use Rattle.std.specs.Result.{IsErrAnd}
@@ -171,7 +171,7 @@ pub has_ended : (setup : ScriptSetup) (given : List SectorWrite) (lines : List L
     (booted : List Record) (typed0 typed1 : List ℕ) (winner : Option Who) (primary backup : List Entry) (held : ℕ)
     (screens : List (List ℕ)) (records : List Record) (s t : Guest)
     → BeginsAs setup given lines boot backup_boot booted typed0 typed1
-    → EndsBy (booted_from some_altair boot (bytes_in booted)) true typed0 typed1 winner primary backup held screens records s t
+    → EndsBy (booted_from some_altair boot (bytes_in booted)) typed0 typed1 winner primary backup held screens records s t
     → HasEnded setup given lines winner screens records
 has_ended setup given lines boot backup_boot booted typed0 typed1 winner primary backup held screens records s t
     begins ends = record {
@@ -182,11 +182,11 @@ has_ended setup given lines boot backup_boot booted typed0 typed1 winner primary
       held = held;
       s = s;
       t = t;
-      ends = subst (λ g. EndsBy (booted_from some_altair g (bytes_in booted)) true (typed_in 0 lines) (typed_in 1 lines) winner
+      ends = subst (λ g. EndsBy (booted_from some_altair g (bytes_in booted)) (typed_in 0 lines) (typed_in 1 lines) winner
           primary backup held screens records s t) begins.primary_is
-          (subst (λ l. EndsBy (booted_from some_altair boot (bytes_in booted)) true l (typed_in 1 lines) winner primary backup held
+          (subst (λ l. EndsBy (booted_from some_altair boot (bytes_in booted)) l (typed_in 1 lines) winner primary backup held
           screens records s t) begins.typed.0
-          (subst (λ l. EndsBy (booted_from some_altair boot (bytes_in booted)) true typed0 l winner primary backup held screens
+          (subst (λ l. EndsBy (booted_from some_altair boot (bytes_in booted)) typed0 l winner primary backup held screens
           records s t) begins.typed.1 ends));
     }
 
@@ -199,11 +199,11 @@ if_both (Err e) P Q R more h i = tt
 -- what was typed in the end was typed before
 pub typed_so : {S : Type 0} (M : Machine S) (typed0 typed1 first second : List ℕ) (winner : Option Who)
     (primary backup : List Entry) (held : ℕ) (screens : List (List ℕ)) (records : List Record) (s t : S) → typed0 ≡ first
-    → typed1 ≡ second → EndsBy M true typed0 typed1 winner primary backup held screens records s t
-    → EndsBy M true first second winner primary backup held screens records s t
+    → typed1 ≡ second → EndsBy M typed0 typed1 winner primary backup held screens records s t
+    → EndsBy M first second winner primary backup held screens records s t
 typed_so M typed0 typed1 first second winner primary backup held screens records s t is0 is1 ends =
-    subst (λ a. EndsBy M true a second winner primary backup held screens records s t) is0
-    (subst (λ b. EndsBy M true typed0 b winner primary backup held screens records s t) is1 ends)
+    subst (λ a. EndsBy M a second winner primary backup held screens records s t) is0
+    (subst (λ b. EndsBy M typed0 b winner primary backup held screens records s t) is1 ends)
 
 -- and the images of its disk
 pub ends_of : (setup : ScriptSetup) (given : List SectorWrite) (lines : List Line) (saved drives : List ℕ) (winner : Option Who)

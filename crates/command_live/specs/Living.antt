@@ -1,5 +1,5 @@
 -- What a pair on threads prints.
-use Rattle.std.specs.Prelude.{◌≡◌, ℕ, true, IsTrue, Option, Some, None, List, [], ◌∷◌, ◌++◌, Result, MatchResult, codes, replicate}
+use Rattle.std.specs.Prelude.{◌≡◌, ℕ, IsTrue, Option, Some, None, List, [], ◌∷◌, ◌++◌, Result, MatchResult, codes, replicate}
 use Rattle.std.specs.Global.{Vec}
 use Rattle.std.specs.Io.KnownBytes.{Appends, Keeps}
 use Rattle.disk_dcdd.specs.Address.{has_sector, bytes_with_all}
@@ -53,7 +53,7 @@ pub record EndsOf (setup : ScriptSetup) (given : List SectorWrite) (typed0 typed
   pub records : List Record
   pub s : Guest
   pub t : Guest
-  pub ends : EndsBy (altair setup.guest sectors) true typed0 typed1 winner primary backup held screens records s t
+  pub ends : EndsBy (altair setup.guest sectors) typed0 typed1 winner primary backup held screens records s t
   pub images_are : images ≡ images_of records saved
   pub whole : AreWhole images saved
 
@@ -82,7 +82,7 @@ pub record HasEnded (setup : ScriptSetup) (given : List SectorWrite) (lines : Li
   pub held : ℕ
   pub s : Guest
   pub t : Guest
-  pub ends : EndsBy (altair setup.guest sectors) true (typed_in 0 lines) (typed_in 1 lines) winner primary backup held
+  pub ends : EndsBy (altair setup.guest sectors) (typed_in 0 lines) (typed_in 1 lines) winner primary backup held
       screens records s t
 
 -- such an end is printed

@@ -1,15 +1,12 @@
 -- Steps that are events of the world: an acknowledgement is sent and received, a packet arrives.
-use Rattle.std.proofs.Common.{◌≡◌, ℕ, zero, suc, ◌≤◌, max, eqb, cond, Bool, true, false, List, [], ◌∷◌, ◌++◌, length, sym, refl, ap, ◌∙◌, subst, ◌⊎◌, inl, inr, ⊎_elim, arith, eq-eqb, Option, Some, None, slice_get, slice_set}
+use Rattle.std.proofs.Common.{◌≡◌, ℕ, zero, suc, ◌≤◌, max, eqb, cond, Bool, true, false, List, [], ◌∷◌, ◌++◌, length, sym, refl, ap, ◌∙◌, subst, ◌⊎◌, inl, inr, ⊎_elim, arith, eq-eqb, Some, slice_get, slice_set}
 use Rattle.std.proofs.lemmas.Bool.{le-ltb}
-use mathlib.Core.Option.{some}
-use lib.ListN.{get_elem?}
-use Rattle.pair_rule.proofs.Words.{Accepts, Acknowledge, Acknowledgement, Among, BadAck, Copying, DeliverAcknowledgement, DeliverLog, Entry, First, HeldIs, Inbox, Knowledge, Leads, Log, LogEntry, Machine, MessageIs, NamedSector, New, Node, Nothing, Old, Packet, Sector, SectorRead, Sectors, SeeEvents, Sent, Shows, Stands, Whole, World, acknowledge_refusal, after_empty, at_acknowledgement, at_log_entry, at_node, backup_node, backup_role, backup_runs, completed, fault_if, first_of, hears, held, holds, last_or, longer_by, named_by, primary_node, primary_role, primary_runs, saw, visible, wanted_then, with_carried, with_node}
+use Rattle.pair_rule.proofs.Words.{Accepts, Acknowledge, Acknowledgement, Among, BadAck, Copying, DeliverAcknowledgement, DeliverLog, First, HeldIs, Inbox, IsEntryOf, Knowledge, Leads, Log, LogEntry, Machine, MessageIs, New, Node, Nothing, Old, Packet, SeeEvents, Sent, Shows, Stands, World, acknowledge_refusal, after_empty, at_acknowledgement, at_log_entry, at_node, backup_node, backup_role, backup_runs, fault_if, first_of, hears, held, holds, last_or, primary_node, primary_role, primary_runs, saw, visible, with_node}
 use Rattle.pair_protocol.proofs.OneNode.{with_same}
 use Rattle.pair_rule.proofs.Filled.{among_last}
 use Rattle.pair_rule.proofs.ListsThatGrow.{last_among}
 use Rattle.pair_rule.proofs.WordChanges.{held_short}
-use Rattle.pair_rule.proofs.Agree.{completes}
-use Rattle.pair_rule.proofs.ShownNodes.{wants_shows, only_more, only_held, later_covered, index_of, more_sent, among_either, read_slice, serving, waiting, first_node, second_node}
+use Rattle.pair_rule.proofs.ShownNodes.{only_more, only_held, later_covered, index_of, more_sent, among_either, read_slice, serving, waiting, first_node, second_node}
 
 module _ {S : Type 0} (M : Machine S) (C : Copying S) (typed0 typed1 : List ℕ) (k : Knowledge) (w : World S)
     (z : Shows M typed0 typed1 k w) where
@@ -148,29 +145,29 @@ module _ {S : Type 0} (M : Machine S) (C : Copying S) (typed0 typed1 : List ℕ)
       go (suc n) more short (inl e) = absurd (omega (arith, e))
       go (suc n) more short (inr at) = see_one (suc n) none more short at
 
-  -- an entry comes to the backup
-  take_one : (index : ℕ) (entry : Entry) (wants : Option NamedSector) → k.backup.winner ≡ 0 → (m : ℕ)
-      → slice_get w.messages m ≡ Some (LogEntry 1 index entry) → (b : Bool) → eqb index (length k.backup.list) ≡ b
+  -- a packet comes to the backup
+  take_one : (p : Packet) → k.backup.winner ≡ 0 → (m : ℕ) → slice_get w.messages m ≡ Some (LogEntry 1 p.index p.entry)
+      → (b : Bool) → eqb p.index (length k.backup.list) ≡ b
       → Leads M C typed0 typed1 (record k {
         backup =
-            record k.backup { list = cond b (k.backup.list ++ entry ∷ []) k.backup.list; wanted = wants };
+            record k.backup { list = cond b (k.backup.list ++ p.entry ∷ []) k.backup.list };
       }) w
       (λ events. (m : ℕ) × (events ≡ DeliverLog m 1 ∷ []))
-  take_one index entry wants none m there true is = let next : index ≡ length k.backup.list = grind arith in record {
+  take_one p none m there true is = let next : p.index ≡ length k.backup.list = grind arith in record {
     events = DeliverLog m 1 ∷ [];
     formed = (m, refl);
     replies = New ∷ [];
-    new = with_node w 1 (holds backup entry);
+    new = with_node w 1 (holds backup p.entry);
     run = First (Accepts (λ i. at_log_entry (at_backup none i) (there i)) record {
       generation = 1;
-      index = index;
-      e = entry;
+      index = p.index;
+      e = p.entry;
       message = there;
       next = true;
       at = record {
         x = backup;
         there = at_backup none;
-        y = holds backup entry;
+        y = holds backup p.entry;
         done = (next, refl);
         after = refl;
       };
@@ -183,8 +180,8 @@ module _ {S : Type 0} (M : Machine S) (C : Copying S) (typed0 typed1 : List ℕ)
       recorded = z.recorded;
       entries_are = z.entries_are;
       count = z.count;
-      nodes = ap (λ l. slice_set l 1 (holds backup entry)) z.nodes ∙
-          (λ i. primary_node (visible k) z.moves z.s ∷ record (holds backup entry) {
+      nodes = ap (λ l. slice_set l 1 (holds backup p.entry)) z.nodes ∙
+          (λ i. primary_node (visible k) z.moves z.s ∷ record (holds backup p.entry) {
             role = backup_role (sym none i);
             running = backup_runs (sym none i);
           } ∷ []);
@@ -199,59 +196,32 @@ module _ {S : Type 0} (M : Machine S) (C : Copying S) (typed0 typed1 : List ℕ)
       only = z.only;
     };
   }
-  take_one index entry wants none m there false is = record {
+  take_one p none m there false is = record {
     events = DeliverLog m 1 ∷ [];
     formed = (m, refl);
     replies = Old ∷ [];
     new = w;
     run = First (Accepts (λ i. at_log_entry (at_backup none i) (there i)) record {
       generation = 1;
-      index = index;
-      e = entry;
+      index = p.index;
+      e = p.entry;
       message = there;
       next = false;
       at = record {
         x = backup;
         there = at_backup none;
         y = backup;
-        done = ((λ e. let c : true ≡ false = sym (eq-eqb index (length k.backup.list) e) ∙ is in absurd (cc)), refl);
+        done = ((λ e. let c : true ≡ false = sym (eq-eqb p.index (length k.backup.list) e) ∙ is in absurd (cc)), refl);
         after = sym (with_same w 1 backup (at_backup none));
       };
       reply = refl;
     }) Nothing;
     once = inl refl;
-    shows = wants_shows M typed0 typed1 k w z wants;
+    shows = z;
   }
 
-  entry_there : (index : ℕ) (entry : Entry) → get_elem? k.primary.list index ≡ some entry
-      → (m : ℕ) × (slice_get w.messages m ≡ Some (LogEntry 1 index entry))
-  entry_there index entry at = index_of (LogEntry 1 index entry) w.messages
-      (z.sent.logs index entry (read_slice k.primary.list index entry at))
-
-  -- a packet with a whole entry
-  pub take_leads : (p : Packet) (e : Entry) → k.backup.winner ≡ 0 → p.carried ≡ Whole e
-      → get_elem? k.primary.list p.index ≡ some e
+  pub take_leads : (p : Packet) → k.backup.winner ≡ 0 → IsEntryOf k.generation k.primary.list p
       → Leads M C typed0 typed1 (after_empty Inbox (Log p) k) w (λ events. (m : ℕ) × (events ≡ DeliverLog m 1 ∷ []))
-  take_leads p e none whole at = let m = entry_there p.index e at in
-      let next : Bool = eqb p.index (length k.backup.list) in
-      subst (λ c. Leads M C typed0 typed1 (record k {
-        backup =
-            record k.backup {
-              list = cond next (with_carried k.backup.list c) k.backup.list;
-              wanted = cond next (named_by c) k.backup.wanted;
-            };
-      }) w (λ events. (m : ℕ) × (events ≡ DeliverLog m 1 ∷ []))) (sym whole)
-      (take_one p.index e (cond next None k.backup.wanted) none m.0 m.1 next refl)
-
-  -- a sector that completes the entry that is wanted
-  pub complete_leads : Stands k → (r : SectorRead) (e : Entry) → k.backup.winner ≡ 0 → completed k.backup.wanted r ≡ Some e
-      → Among r k.disk.found
-      → Leads M C typed0 typed1 (after_empty Sectors (Sector r) k) w (λ events. (m : ℕ) × (events ≡ DeliverLog m 1 ∷ []))
-  complete_leads st r e none done found =
-      let m = entry_there (length k.backup.list) e
-      (completes k.disk k.primary.list k.backup.list k.backup.wanted st.disk.agree st.log.wanted r found e done) in
-      subst (λ x. Leads M C typed0 typed1 (record k {
-        backup =
-            record k.backup { list = longer_by k.backup.list x; wanted = wanted_then k.backup.wanted x };
-      }) w (λ events. (m : ℕ) × (events ≡ DeliverLog m 1 ∷ []))) (sym done)
-      (take_one (length k.backup.list) e None none m.0 m.1 true (eq-eqb (length k.backup.list) (length k.backup.list) refl))
+  take_leads p none is = let m = index_of (LogEntry 1 p.index p.entry) w.messages
+      (z.sent.logs p.index p.entry (read_slice k.primary.list p.index p.entry is.1)) in take_one p none m.0 m.1
+      (eqb p.index (length k.backup.list)) refl

@@ -11,7 +11,6 @@ use Rattle.pair_rule.proofs.Parts.{Owned, one_box, owned_fill, owned_empty, owne
 use Rattle.pair_rule.proofs.BoxSwaps.{Table, Goes, word_at, word_set, at_here, at_fill, box, fill_facts, empty_facts, found_facts}
 use Rattle.pair_rule.proofs.Filled.{local_fill, local_empty, fill_keeps, can_same}
 use Rattle.pair_rule.proofs.Emptied.{empty_keeps}
-use Rattle.pair_rule.proofs.ReadsAgree.{agrees_by}
 
 -- the load in the seat's slot is the one that a play names
 from_option : Payload → Option Payload → Payload
@@ -47,7 +46,7 @@ module _ (g : ℕ) (s : Table) (r : Rule g s) (id : ℕ) (v : SeatView) (at : ge
         → words_of (turn core).known ≡ words_of core.known
         → Facts g (set r.boxes (box_index b) new) (swapped s.homes hand x (slot_of word)) (turn core)
         → (y : Option Payload) → get_elem? s.homes (slot_of word) ≡ some (some y)
-        → (slot_of word < 13 → told word (with_core v (turn v.core), (slot_of word, y) ∷ []))
+        → (slot_of word < 11 → told word (with_core v (turn v.core), (slot_of word, y) ∷ []))
         → Goes g s.words s.homes s.views (5 + box_index b) id (v, (hand, x) ∷ []) (λ _. new) told
     swap_goes n x turn told o mine held_here words facts y lying tells =
         let f = r.facts in let a = at_here g r.boxes s.homes core f b hand in (
@@ -70,8 +69,8 @@ module _ (g : ℕ) (s : Table) (r : Rule g s) (id : ℕ) (v : SeatView) (at : ge
             facts = facts;
           },
           subst (λ z. told z (with_core v (turn v.core), (slot_of word, y) ∷ [])) (sym found_word)
-              (tells (let near = within s.homes (slot_of word) (some y) lying in let deep = f.laid.deep in let eight =
-              f.eight in let five = f.sized.hands in omega arith)),
+              (tells (let near = within s.homes (slot_of word) (some y) lying in let deep = f.laid.deep in let six =
+              f.six in let five = f.sized.hands in omega arith)),
         )
 
     fill_goes : (q : Payload) → has v (filler b) → get_elem? v.core.hands (seat_index (filler b)) ≡ some hand
@@ -84,8 +83,7 @@ module _ (g : ℕ) (s : Table) (r : Rule g s) (id : ℕ) (v : SeatView) (at : ge
         let f = r.facts in let o = own (filler b) mine in let sides : side_at v.core.fills (box_index b) ≡ side_at core.fills
         (box_index b) = or_both v.core.fills core.fills (box_index b) new_side (o.fills b refl) in
         let could = can_same b q v.core.known core.known o.generation o.known can in
-        let may' = may_put b q v.core.known core.known o.known may in
-        let k = fill_keeps core.known f.stands b q could (agrees_by core.known f.ran b q may'.reply) in
+        let k = fill_keeps core.known f.stands b q could in
         let l = local_fill b q in
         let full = f.laid.full (box_index b) word (at_here g r.boxes s.homes core f b hand) in
         swap_goes (filler b) (Some q) (filled b q word) (fills (5 + box_index b) (v, (hand, Some q) ∷ []))
@@ -93,7 +91,7 @@ module _ (g : ℕ) (s : Table) (r : Rule g s) (id : ℕ) (v : SeatView) (at : ge
         (subst (λ z. Facts g (set r.boxes (box_index b) z) (swapped s.homes hand (Some q) (slot_of word)) (filled b q word core))
         (sym (is ∙ ap (λ (z : Side). full_word (z.number + 1) hand) sides))
         (fill_facts g r.boxes s.homes core f b hand q (sym o.hand ∙ hands) (sym o.has_slot ∙ has_slot) l k.0 k.1
-        (plain.Goes f.ran (plain.Fills b q may' could))))
+        (plain.Goes f.ran (plain.Fills b q (may_put b q v.core.known core.known o.known may) could))))
         full.0 full.1
         (λ small c e. let same = one_box b c (let z : 5 + box_index b ≡ 5 + box_index c = e in omega arith) in
         subst (λ (z : Mailbox). Filled z (v, (hand, Some q) ∷ []) word

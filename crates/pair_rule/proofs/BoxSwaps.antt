@@ -49,19 +49,19 @@ module _ (g : ℕ) (boxes : List ℕ) (homes : Homes) (c : Core) (f : Facts g bo
   here = get_or boxes (box_index b) 0
 
   pub at_here : get_elem? boxes (box_index b) ≡ some here
-  at_here = let near = few_boxes b in at_or boxes (box_index b) 0 (let eight = f.eight in omega arith)
+  at_here = let near = few_boxes b in at_or boxes (box_index b) 0 (let six = f.six in omega arith)
 
   pub at_fill : get_elem? c.fills (box_index b) ≡ some (side_at c.fills (box_index b))
-  at_fill = let near = few_boxes b in at_or c.fills (box_index b) new_side (let eight = f.sized.fills in omega arith)
+  at_fill = let near = few_boxes b in at_or c.fills (box_index b) new_side (let six = f.sized.fills in omega arith)
 
   pub at_empty : get_elem? c.empties (box_index b) ≡ some (side_at c.empties (box_index b))
-  at_empty = let near = few_boxes b in at_or c.empties (box_index b) new_side (let eight = f.sized.empties in omega arith)
+  at_empty = let near = few_boxes b in at_or c.empties (box_index b) new_side (let six = f.sized.empties in omega arith)
 
   abbrev pub box : Boxed here homes (side_at c.fills (box_index b)) (side_at c.empties (box_index b)) (is_full here)
   box = f.boxed b here (side_at c.fills (box_index b)) (side_at c.empties (box_index b)) at_here at_fill at_empty
 
-  pub small : (s : Who) → get_elem? c.hands (seat_index s) ≡ some hand → hand < 13
-  small s at = let o = (f.laid.seats (seat_index s) hand at).1 in let d = f.laid.deep in let eight = f.eight in let five =
+  pub small : (s : Who) → get_elem? c.hands (seat_index s) ≡ some hand → hand < 11
+  small s at = let o = (f.laid.seats (seat_index s) hand at).1 in let d = f.laid.deep in let six = f.six in let five =
       f.sized.hands in omega arith
 
   -- the two boxes are one, or another box stands as it was
@@ -80,7 +80,7 @@ module _ (g : ℕ) (boxes : List ℕ) (homes : Homes) (c : Core) (f : Facts g bo
     fill_boxes y own k w fs es aw af ae = ⊎_elim
         (λ (t : (box_index k ≡ box_index b) × (new ≡ w)). let e = t.0 in
         let fe : y ≡ fs = some-injective y fs
-        (sym (set_here c.fills (box_index b) y (let near = few_boxes b in let eight = f.sized.fills in omega arith)) ∙ ap
+        (sym (set_here c.fills (box_index b) y (let near = few_boxes b in let six = f.sized.fills in omega arith)) ∙ ap
         (get_elem? (set c.fills (box_index b) y)) (sym e) ∙ af) in
         let ee : side_at c.empties (box_index b) ≡ es =
         some-injective (side_at c.empties (box_index b)) es (sym at_empty ∙ ap (get_elem? c.empties) (sym e) ∙ ae) in
@@ -96,7 +96,7 @@ module _ (g : ℕ) (boxes : List ℕ) (homes : Homes) (c : Core) (f : Facts g bo
     empty_boxes y own k w fs es aw af ae = ⊎_elim
         (λ (t : (box_index k ≡ box_index b) × (new ≡ w)). let e = t.0 in
         let ee : y ≡ es = some-injective y es
-        (sym (set_here c.empties (box_index b) y (let near = few_boxes b in let eight = f.sized.empties in omega arith)) ∙ ap
+        (sym (set_here c.empties (box_index b) y (let near = few_boxes b in let six = f.sized.empties in omega arith)) ∙ ap
         (get_elem? (set c.empties (box_index b) y)) (sym e) ∙ ae) in
         let fe : side_at c.fills (box_index b) ≡ fs =
         some-injective (side_at c.fills (box_index b)) fs (sym at_fill ∙ ap (get_elem? c.fills) (sym e) ∙ af) in
@@ -125,7 +125,7 @@ module _ (g : ℕ) (boxes : List ℕ) (homes : Homes) (c : Core) (f : Facts g bo
       let y : Side = side n (filler_met (is_full here) here (side_at c.fills (box_index b)).met) (Some q) in record {
         generation = l.generation c.known ∙ f.generation;
         sized = (owned_fill b q here l).sized c f.sized;
-        eight = length-set boxes (box_index b) new ∙ f.eight;
+        six = length-set boxes (box_index b) new ∙ f.six;
         laid = laid_after (filler b) (Some q) at new is has_slot;
         boxed = fill_boxes (filler b) (Some q) at new is y
             (slots.fills here homes (swapped homes hand (Some q) (slot_of here)) (side_at c.fills (box_index b))
@@ -161,7 +161,7 @@ module _ (g : ℕ) (boxes : List ℕ) (homes : Homes) (c : Core) (f : Facts g bo
       let y : Side = side n (number_of here) (Some q) in record {
         generation = l.generation c.known ∙ f.generation;
         sized = (owned_empty b q here l).sized c f.sized;
-        eight = length-set boxes (box_index b) new ∙ f.eight;
+        six = length-set boxes (box_index b) new ∙ f.six;
         laid = laid_after (emptier b) x at new is has_slot;
         boxed = empty_boxes (emptier b) x at new is y
             (slots.empties here homes (swapped homes hand x (slot_of here)) (side_at c.fills (box_index b))
@@ -184,7 +184,7 @@ module _ (g : ℕ) (boxes : List ℕ) (homes : Homes) (c : Core) (f : Facts g bo
       let y : Side = side n (side_at c.empties (box_index b)).met (side_at c.empties (box_index b)).last in record {
         generation = f.generation;
         sized = (owned_find b here).sized c f.sized;
-        eight = length-set boxes (box_index b) new ∙ f.eight;
+        six = length-set boxes (box_index b) new ∙ f.six;
         laid = laid_after (emptier b) x at new is has_slot;
         boxed = empty_boxes (emptier b) x at new is y
             (slots.finds_empty here homes (swapped homes hand x (slot_of here)) (side_at c.fills (box_index b))

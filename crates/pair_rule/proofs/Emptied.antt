@@ -1,18 +1,16 @@
 -- What held still holds after boxes are emptied.
-use Rattle.std.proofs.Common.{◌+◌, [], ◌∷◌, ◌++◌, length, refl, Option, Some}
-use Rattle.pair_rule.proofs.Words.{Among, Answer, Answers, Bytes0, Bytes1, DiskAnswer, DiskRequest, Entry, Fits, Inbox, IsAsked, IsByteOf, IsEntryOf, Knowledge, Log, Lookup, Lookups, Mailbox, Operation, Out, Outbox, Packet, Payload, Request, Requests, Sector, SectorAddress, SectorRead, Sectors, Stands, after_empty, after_sector, completed, grown}
+use Rattle.std.proofs.Common.{◌+◌, [], ◌∷◌, ◌++◌, length, refl, Some}
+use Rattle.pair_rule.proofs.Words.{Among, Answer, Answers, Bytes0, Bytes1, DiskAnswer, DiskRequest, Fits, Inbox, IsAsked, IsByteOf, IsEntryOf, Knowledge, Log, Mailbox, Operation, Out, Outbox, Packet, Payload, Request, Requests, Stands, after_empty, grown}
 use Rattle.pair_rule.proofs.BoxSwaps.{Keeps}
 use Rattle.pair_rule.proofs.Filled.{all_more}
-use Rattle.pair_rule.proofs.ListsThatGrow.{grown_length, grown_prefix, grown_wanted, longer_by_length, longer_by_prefix, longer_by_wanted, rising_higher}
-use Rattle.pair_rule.proofs.Agree.{completes}
+use Rattle.pair_rule.proofs.ListsThatGrow.{grown_prefix, rising_higher, grown_length}
 
 module _ (k : Knowledge) (s : Stands k) where
-  link_has : (p : Packet) → IsEntryOf k.generation k.primary.list k.disk.given p → Keeps (λ k. record k { link = Some p }) k
+  link_has : (p : Packet) → IsEntryOf k.generation k.primary.list p → Keeps (λ k. record k { link = Some p }) k
   link_has p i = record {
     stands = record {
       log = record {
         prefix = s.log.prefix;
-        wanted = s.log.wanted;
         in_link = i;
         rising = s.log.rising;
         behind = s.log.behind;
@@ -27,16 +25,14 @@ module _ (k : Knowledge) (s : Stands k) where
     fits = λ b x f. f;
   }
 
-  backup_has : (p : Packet) → IsEntryOf k.generation k.primary.list k.disk.given p
+  backup_has : (p : Packet) → IsEntryOf k.generation k.primary.list p
       → Keeps (λ k. record k { backup = grown k.backup p }) k
   backup_has p i = record {
     stands = record {
       log = record {
-        prefix = grown_prefix k.primary.list k.backup.list k.disk.given p.index p.carried i.1.0 _ refl s.log.prefix i.1.1 i.1.2;
-        wanted = grown_wanted k.primary.list k.backup.list k.disk.given k.backup.wanted p.index p.carried i.1.0 _ refl i.1.1
-            i.1.2 s.log.wanted;
+        prefix = grown_prefix k.primary.list k.backup.list p _ refl s.log.prefix i.1;
         in_link = s.log.in_link;
-        rising = rising_higher 0 (length k.backup.list) _ k.backup.held_values (grown_length k.backup.list p.carried _) s.log.rising;
+        rising = rising_higher 0 (length k.backup.list) _ k.backup.held_values (grown_length k.backup.list p _) s.log.rising;
         behind = s.log.behind;
         once = s.log.once;
       };
@@ -44,47 +40,6 @@ module _ (k : Knowledge) (s : Stands k) where
       port0 = s.port0;
       port1 = s.port1;
       disk = s.disk;
-    };
-    words = refl;
-    fits = λ b x f. f;
-  }
-
-  -- a sector came, and if it is the one that is wanted, the list grows by its entry
-  sector_has : (r : SectorRead) → Among r k.disk.found → Keeps (λ k. record k { backup = after_sector k.backup r }) k
-  sector_has r i = let x : Option Entry = completed k.backup.wanted r in record {
-    stands = record {
-      log = record {
-        prefix = longer_by_prefix k.primary.list k.backup.list x
-            (completes k.disk k.primary.list k.backup.list k.backup.wanted s.disk.agree s.log.wanted r i) s.log.prefix;
-        wanted = longer_by_wanted k.primary.list k.backup.list k.disk.given k.backup.wanted x s.log.wanted;
-        in_link = s.log.in_link;
-        rising = rising_higher 0 (length k.backup.list) _ k.backup.held_values (longer_by_length k.backup.list x) s.log.rising;
-        behind = s.log.behind;
-        once = s.log.once;
-      };
-      decided = s.decided;
-      port0 = s.port0;
-      port1 = s.port1;
-      disk = s.disk;
-    };
-    words = refl;
-    fits = λ b x f. f;
-  }
-
-  lookup_has : (a : SectorAddress) → Keeps (λ k. record k { disk = record k.disk { sought = Some a } }) k
-  lookup_has a = record {
-    stands = record {
-      log = s.log;
-      decided = s.decided;
-      port0 = s.port0;
-      port1 = s.port1;
-      disk = record {
-        taken = s.disk.taken;
-        puts = s.disk.puts;
-        answers = s.disk.answers;
-        replies = s.disk.replies;
-        agree = s.disk.agree;
-      };
     };
     words = refl;
     fits = λ b x f. f;
@@ -126,13 +81,7 @@ module _ (k : Knowledge) (s : Stands k) where
       decided = s.decided;
       port0 = s.port0;
       port1 = s.port1;
-      disk = record {
-        taken = i;
-        puts = s.disk.puts;
-        answers = s.disk.answers;
-        replies = s.disk.replies;
-        agree = s.disk.agree;
-      };
+      disk = record { taken = i; puts = s.disk.puts; answers = s.disk.answers; replies = s.disk.replies };
     };
     words = refl;
     fits = λ b x f. f;
@@ -151,7 +100,6 @@ module _ (k : Knowledge) (s : Stands k) where
         puts = s.disk.puts;
         answers = all_more k.primary.answers a (λ a. Among a k.disk.given) s.disk.answers i;
         replies = s.disk.replies;
-        agree = s.disk.agree;
       };
     };
     words = refl;
@@ -165,6 +113,4 @@ module _ (k : Knowledge) (s : Stands k) where
   empty_keeps Bytes1 (Out o) f = hand1_has o f
   empty_keeps Requests (Request r) f = taken_has r f
   empty_keeps Answers (Answer a) f = answer_has a f
-  empty_keeps Lookups (Lookup x) f = lookup_has x
-  empty_keeps Sectors (Sector x) f = sector_has x f
   empty_keeps _ _ f = absurd f

@@ -1,14 +1,12 @@
 -- What each step does to what is known: who may make it, and that what held still holds.
-use Rattle.std.proofs.Common.{◌≡◌, ℕ, ◌+◌, List, [], ◌∷◌, ◌++◌, length, sym, refl, ◌∙◌, subst, inl, inr, Option, Some, None}
-use mathlib.Core.Option.{some}
+use Rattle.std.proofs.Common.{◌≡◌, ℕ, ◌+◌, List, [], ◌∷◌, ◌++◌, sym, refl, ap, ◌∙◌, subst, inl, inr, Option, Some, None}
 use lib.ListN.{get_elem?}
-use Rattle.pair_rule.proofs.Words.{Agrees, AgreesOf, AllAre, Among, Answer, Answers, Arrived, Backup, Byte, Bytes0, Bytes1, CanFill, Carries, Disk, DiskAnswer, DiskRequest, DiskView, Entry, Fits, Inbox, IsAsked, IsByteOf, IsEntryOf, IsNext, IsReplied, Knowledge, Link, Log, Lookup, Lookups, Mailbox, NamedSector, Operation, Out, Outbox, Packet, Payload, PortStands, Primary, PrimaryView, Request, Requests, SamePart, Sector, SectorAddress, SectorRead, SectorWrite, Sectors, Stands, Terminal, WhereSome, Write, after_empty, after_fill, after_sector, among-left, at_longer, emptier, filler, grown, put_by, with_release, with_request}
+use Rattle.pair_rule.proofs.Words.{AllAre, Among, Answer, Answers, Arrived, Backup, Byte, Bytes0, Bytes1, CanFill, Disk, DiskAnswer, DiskRequest, DiskView, Entry, Fits, Inbox, IsAsked, IsByteOf, IsEntryOf, IsReplied, Knowledge, Link, Log, Mailbox, Operation, Out, Outbox, Packet, Payload, PortStands, Primary, PrimaryView, Request, Requests, SamePart, SectorAddress, SectorWrite, Stands, Terminal, WhereSome, Write, after_empty, after_fill, among-left, at_longer, emptier, filler, grown, put_by, with_release, with_request}
 use Rattle.pair_rule.specs.declared.payload.DiskRequest.TheVariants as ask
 use Rattle.pair_rule.specs.declared.payload.DiskAnswer.TheVariants as answer
 use Rattle.pair_rule.specs.declared.view.PrimaryCall.{PrimaryCall}
 use Rattle.pair_rule.proofs.Parts.{Local, nothing, on_part}
 use Rattle.pair_rule.proofs.BoxSwaps.{Keeps, keeps_all}
-use Rattle.pair_rule.proofs.Agree.{agree_answer, agree_found, carries_all, entry_given, next_given}
 pub use Rattle.pair_rule.proofs.Elements.{all_map, all_more, among_last, if_map}
 
 -- ---- what holds of a list goes on to hold of a longer one
@@ -21,13 +19,8 @@ asked_more : (xs ys : List Operation) (r : DiskRequest) → IsAsked xs r → IsA
 asked_more xs ys (ask.Write w) i = among-left (Write w) xs ys i
 asked_more xs ys (ask.Read a) i = i
 
-pub entry_more : (g : ℕ) (list : List Entry) (given : List DiskAnswer) (e : Entry) (p : Packet) → IsEntryOf g list given p
-    → IsEntryOf g (list ++ e ∷ []) given p
-entry_more g list given e p i = (i.0, (i.1.0, at_longer list (e ∷ []) p.index i.1.0 i.1.1, i.1.2))
-
-pub next_more : (list : List Entry) (given : List DiskAnswer) (copy : List Entry) (e : Entry) (t : NamedSector)
-    → IsNext list given copy t → IsNext (list ++ e ∷ []) given copy t
-next_more list given copy e t i = (i.0, at_longer list (e ∷ []) (length copy) i.0 i.1, i.2)
+pub entry_more : (g : ℕ) (list : List Entry) (e : Entry) (p : Packet) → IsEntryOf g list p → IsEntryOf g (list ++ e ∷ []) p
+entry_more g list e p i = (i.0, at_longer list (e ∷ []) p.index p.entry i.1)
 
 -- what was put stays put
 pub put_more : (t : Option DiskRequest) (puts : List SectorWrite) (w : SectorWrite) → Among w puts → Among w (put_by t puts)
@@ -41,12 +34,6 @@ replied_more t puts (answer.Written n) i = (i.0, put_more t puts i.0 i.1, i.2)
 replied_more t puts (answer.Read r) (inl e) = inl e
 replied_more t puts (answer.Read r) (inr i) = inr (i.0, put_more t puts i.0 i.1, i.2, i.3, i.4)
 
--- what the disk reads agrees with what it read before
-abbrev pub AgreesBy : Mailbox → Knowledge → Payload → Type 0
-AgreesBy Answers k (Answer a) = AgreesOf k.disk a
-AgreesBy Sectors k (Sector r) = Agrees k.disk r
-AgreesBy _ k _ = Unit {0}
-
 -- ---- whose each change is
 
 pub local_fill : (b : Mailbox) (q : Payload) → Local (filler b) (after_fill b q)
@@ -54,7 +41,6 @@ local_fill Bytes0 (Out o) = on_part Primary (with_release o)
 local_fill Bytes1 (Out o) = on_part Primary (with_release o)
 local_fill Requests (Request r) = on_part Primary (with_request r)
 local_fill Answers (Answer a) = on_part Disk (λ d. record d { puts = put_by d.taken d.puts; given = d.given ++ a ∷ [] })
-local_fill Sectors (Sector x) = on_part Disk (λ d. record d { found = d.found ++ x ∷ [] })
 local_fill _ _ = nothing _
 
 pub local_empty : (b : Mailbox) (q : Payload) → Local (emptier b) (after_empty b q)
@@ -64,8 +50,6 @@ local_empty Bytes0 (Out o) = on_part Terminal (λ t. record t { hand0 = Some o }
 local_empty Bytes1 (Out o) = on_part Terminal (λ t. record t { hand1 = Some o })
 local_empty Requests (Request r) = on_part Disk (λ d. record d { taken = Some r; takes = d.takes + 1 })
 local_empty Answers (Answer a) = on_part Primary (λ p. record p { answers = p.answers ++ a ∷ [] })
-local_empty Lookups (Lookup x) = on_part Disk (λ d. record d { sought = Some x })
-local_empty Sectors (Sector x) = on_part Backup (λ b. after_sector b x)
 local_empty _ _ = nothing _
 
 -- ---- what stands goes on to stand: where boxes are filled
@@ -99,7 +83,6 @@ module _ (k : Knowledge) (s : Stands k) where
       puts = all_map k.disk.puts _ _ (λ w i. among-left (Write w) k.primary.released more i) s.disk.puts;
       answers = s.disk.answers;
       replies = s.disk.replies;
-      agree = s.disk.agree;
     };
   }
 
@@ -140,16 +123,9 @@ module _ (k : Knowledge) (s : Stands k) where
   puts_more (Some (ask.Write w)) i = all_more k.disk.puts w (λ w. Among (Write w) k.primary.released) s.disk.puts i
   puts_more (Some (ask.Read a)) i = s.disk.puts
 
-  answered_stands : (a : DiskAnswer) → IsReplied (put_by k.disk.taken k.disk.puts) a → AgreesOf k.disk a → Stands (answered a)
-  answered_stands a can agrees = record {
-    log = record {
-      prefix = s.log.prefix;
-      wanted = if_map k.backup.wanted _ _ (next_given k.primary.list k.disk.given (a ∷ []) k.backup.list) s.log.wanted;
-      in_link = if_map k.link _ _ (entry_given k.generation k.primary.list k.disk.given (a ∷ [])) s.log.in_link;
-      rising = s.log.rising;
-      behind = s.log.behind;
-      once = s.log.once;
-    };
+  answered_stands : (a : DiskAnswer) → IsReplied (put_by k.disk.taken k.disk.puts) a → Stands (answered a)
+  answered_stands a can = record {
+    log = s.log;
     decided = s.decided;
     port0 = s.port0;
     port1 = s.port1;
@@ -159,76 +135,39 @@ module _ (k : Knowledge) (s : Stands k) where
       answers = all_map k.primary.answers _ _ (λ x i. among-left x k.disk.given (a ∷ []) i) s.disk.answers;
       replies = all_more k.disk.given a (IsReplied (put_by k.disk.taken k.disk.puts))
           (all_map k.disk.given _ _ (λ x i. replied_more k.disk.taken k.disk.puts x i) s.disk.replies) can;
-      agree = agree_answer k.disk (put_by k.disk.taken k.disk.puts) a s.disk.agree agrees;
     };
   }
 
   answered_fits : (a : DiskAnswer) (b : Mailbox) (x : Payload) → Fits b k x → Fits b (answered a) x
   answered_fits a Answers (Answer x) f = among-left x k.disk.given (a ∷ []) f
-  answered_fits a Outbox (Log p) f = entry_given k.generation k.primary.list k.disk.given (a ∷ []) p f
-  answered_fits a Inbox (Log p) f = entry_given k.generation k.primary.list k.disk.given (a ∷ []) p f
   answered_fits a _ _ f = f
-
-  -- the disk answered a lookup
-  abbrev found : SectorRead → Knowledge
-  found r = record k { disk = record k.disk { found = k.disk.found ++ r ∷ [] } }
-
-  found_stands : (r : SectorRead) → Agrees k.disk r → Stands (found r)
-  found_stands r agrees = record {
-    log = s.log;
-    decided = s.decided;
-    port0 = s.port0;
-    port1 = s.port1;
-    disk = record {
-      taken = s.disk.taken;
-      puts = s.disk.puts;
-      answers = s.disk.answers;
-      replies = s.disk.replies;
-      agree = agree_found k.disk r s.disk.agree agrees;
-    };
-  }
-
-  found_fits : (r : SectorRead) (b : Mailbox) (x : Payload) → Fits b k x → Fits b (found r) x
-  found_fits r Sectors (Sector x) f = among-left x k.disk.found (r ∷ []) f
-  found_fits r _ _ f = f
 
   abbrev MayFill : Mailbox → Payload → Type 0
   MayFill b q = Keeps (after_fill b q) k × Fits b (after_fill b q k) q
 
-  pub fill_keeps : (b : Mailbox) (q : Payload) → CanFill b k q → AgreesBy b k q → MayFill b q
-  fill_keeps Outbox (Log p) can agrees = (
-    keeps_all k s,
-    (can.0, (can.1.0, can.1.1, carries_all k.primary.answers k.disk.given s.disk.answers p.carried can.1.0 can.1.2)),
-  )
-  fill_keeps Inbox (Log p) can agrees = (keeps_all k s, subst (λ x. WhereSome x (IsEntryOf k.generation k.primary.list k.disk.given)) can s.log.in_link)
-  fill_keeps Bytes0 (Out (Byte to number byte)) can agrees =
+  pub fill_keeps : (b : Mailbox) (q : Payload) → CanFill b k q → MayFill b q
+  fill_keeps Outbox (Log p) can = (keeps_all k s, can)
+  fill_keeps Inbox (Log p) can = (keeps_all k s, subst (λ x. WhereSome x (IsEntryOf k.generation k.primary.list)) can s.log.in_link)
+  fill_keeps Bytes0 (Out (Byte to number byte)) can =
       (release_keeps (Byte to number byte), (can, among_last (Byte to number byte) k.primary.released))
-  fill_keeps Bytes1 (Out (Byte to number byte)) can agrees =
+  fill_keeps Bytes1 (Out (Byte to number byte)) can =
       (release_keeps (Byte to number byte), (can, among_last (Byte to number byte) k.primary.released))
-  fill_keeps Requests (Request (ask.Write w)) can agrees = (release_keeps (Write w), among_last (Write w) k.primary.released)
-  fill_keeps Requests (Request (ask.Read a)) can agrees = (asks_keeps a, tt)
-  fill_keeps Answers (Answer a) can agrees = (
+  fill_keeps Requests (Request (ask.Write w)) can = (release_keeps (Write w), among_last (Write w) k.primary.released)
+  fill_keeps Requests (Request (ask.Read a)) can = (asks_keeps a, tt)
+  fill_keeps Answers (Answer a) can = (
     record {
-      stands = answered_stands a can agrees;
+      stands = answered_stands a can;
       words = refl;
       fits = answered_fits a;
     },
     among_last a k.disk.given,
   )
-  fill_keeps Lookups (Lookup x) can agrees = (keeps_all k s, tt)
-  fill_keeps Sectors (Sector x) can agrees = (
-    record { stands = found_stands x agrees; words = refl; fits = found_fits x },
-    among_last x k.disk.found,
-  )
-  fill_keeps _ _ can agrees = absurd can
+  fill_keeps _ _ can = absurd can
 
 -- whether it may be filled is known to the seat that fills it
 pub can_same : (b : Mailbox) (q : Payload) (k l : Knowledge) → k.generation ≡ l.generation → SamePart (filler b) k l
     → CanFill b k q → CanFill b l q
-can_same Outbox (Log p) k l g e can = (
-  can.0 ∙ g,
-  subst (λ (z : PrimaryView). (x : Entry) × (get_elem? z.list p.index ≡ some x) × Carries z.answers p.carried x) e can.1,
-)
+can_same Outbox (Log p) k l g e can = (can.0 ∙ g, ap (λ (z : PrimaryView). get_elem? z.list p.index) (sym e) ∙ can.1)
 can_same Inbox (Log p) k l g e can = sym e ∙ can
 can_same Answers (Answer a) k l g e can = subst (λ (d : DiskView). IsReplied (put_by d.taken d.puts) a) e can
 can_same _ _ k l g e can = can

@@ -17,7 +17,7 @@ module _ (g : ℕ) (boxes : List ℕ) (homes : Homes) (c : Core) (f : Facts g bo
   slot_facts b y laid = record {
     generation = f.generation;
     sized = (owned_slot s b).sized c f.sized;
-    eight = f.eight;
+    six = f.six;
     laid = laid;
     boxed = λ j w p q aw ap' aq. box_stays w homes (set homes h y) p q
         (home_else boxes c.hands c.has_slot homes f.laid (seat_index s) h at y (box_index j) w aw) _ (f.boxed j w p q aw ap' aq);

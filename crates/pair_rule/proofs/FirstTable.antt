@@ -1,29 +1,28 @@
 -- The table at the start meets the rule.
-use Rattle.std.proofs.Common.{◌≡◌, ℕ, zero, suc, ◌+◌, ◌<◌, List, [], ◌∷◌, sym, refl, ◌∙◌, subst, inl, inr, le_refl, arith, None, replicate}
+use Rattle.std.proofs.Common.{◌≡◌, ℕ, zero, suc, ◌+◌, ◌<◌, List, [], ◌∷◌, sym, refl, ◌∙◌, subst, inl, le_refl, arith, None, replicate}
 use mathlib.Core.Option.{some, some-injective, some-ne-none}
 use lib.ListN.{get_elem?}
 use Rattle.atomic_table.specs.Table.{opening}
 use Rattle.pair_rule.proofs.Words.{Boxed, Fits, Homes, Knowledge, Mailbox, Outbox, Primary, Rule, Same, SeatView, Side, Sized, Stands, WhereSome, Who, box_index, core_of, first_core, first_known, first_view, has, is_full, new_side, slot_of, view_of}
 use Rattle.pair_rule.specs.Histories.{Opens}
-use Rattle.pair_rule.proofs.Agree.{AllAgree}
 
 abbrev homes0 : Homes
 homes0 = some None ∷ some None ∷ some None ∷ some None ∷ some None ∷ some None ∷ some None ∷ some None ∷ some None ∷ some None
-    ∷ some None ∷ some None ∷ some None ∷ []
+    ∷ some None ∷ []
 
 abbrev boxes0 : List ℕ
-boxes0 = 0 ∷ 1 ∷ 2 ∷ 3 ∷ 4 ∷ 5 ∷ 6 ∷ 7 ∷ []
+boxes0 = 0 ∷ 1 ∷ 2 ∷ 3 ∷ 4 ∷ 5 ∷ []
 
 slot0 : (j w : ℕ) → get_elem? boxes0 j ≡ some w → (slot_of w ≡ j) × (get_elem? homes0 (slot_of w) ≡ some (some None))
-slot0 (suc (suc (suc (suc (suc (suc (suc (suc j)))))))) w e = absurd (some-ne-none w (sym e))
+slot0 (suc (suc (suc (suc (suc (suc j)))))) w e = absurd (some-ne-none w (sym e))
 slot0 j w e = subst (λ w. (slot_of w ≡ j) × (get_elem? homes0 (slot_of w) ≡ some (some None))) (some-injective _ w e) (refl, refl)
 
 abbrev hands0 : List ℕ
-hands0 = 8 ∷ 9 ∷ 10 ∷ 11 ∷ 12 ∷ []
+hands0 = 6 ∷ 7 ∷ 8 ∷ 9 ∷ 10 ∷ []
 
-hand0 : (s h : ℕ) → get_elem? hands0 s ≡ some h → (h ≡ 8 + s) × (h < 13) × (get_elem? homes0 h ≡ some (some None))
+hand0 : (s h : ℕ) → get_elem? hands0 s ≡ some h → (h ≡ 6 + s) × (h < 11) × (get_elem? homes0 h ≡ some (some None))
 hand0 (suc (suc (suc (suc (suc s))))) h e = absurd (some-ne-none h (sym e))
-hand0 s h e = subst (λ h. (h ≡ 8 + s) × (h < 13) × (get_elem? homes0 h ≡ some (some None))) (some-injective _ h e)
+hand0 s h e = subst (λ h. (h ≡ 6 + s) × (h < 11) × (get_elem? homes0 h ≡ some (some None))) (some-injective _ h e)
     (refl, omega arith, refl)
 
 box0 : (b : Mailbox) → (get_elem? boxes0 (box_index b) ≡ some (box_index b)) ×
@@ -43,14 +42,9 @@ alone : (v w : SeatView) (j : ℕ) → get_elem? (v ∷ []) j ≡ some w → (j 
 alone v w zero e = (refl, some-injective v w e)
 alone v w (suc j) e = absurd (some-ne-none w (sym e))
 
--- no read yet
-none_read : AllAgree (first_known 0).disk
-none_read r (inl at) = absurd at
-none_read r (inr at) = absurd at
-
 pub first_stands : (g : ℕ) → Stands (first_known g)
 first_stands g = record {
-  log = record { prefix = ([], refl); wanted = tt; in_link = tt; rising = le_refl 0; behind = le_refl 0; once = inl refl };
+  log = record { prefix = ([], refl); in_link = tt; rising = le_refl 0; behind = le_refl 0; once = inl refl };
   decided = record {
     few = omega arith;
     same = λ x y. absurd (x refl);
@@ -59,11 +53,11 @@ first_stands g = record {
   };
   port0 = record { accepted = le_refl 0; in_hand = tt; arrived = tt };
   port1 = record { accepted = le_refl 0; in_hand = tt; arrived = tt };
-  disk = record { taken = tt; puts = tt; answers = tt; replies = tt; agree = none_read };
+  disk = record { taken = tt; puts = tt; answers = tt; replies = tt };
 }
 
 pub opens : (g : ℕ)
-    → Rule g (opening (0 ∷ 0 ∷ 0 ∷ 0 ∷ 0 ∷ 0 ∷ 1 ∷ 2 ∷ 3 ∷ 4 ∷ 5 ∷ 6 ∷ 7 ∷ []) (replicate 13 None) (first_view g))
+    → Rule g (opening (0 ∷ 0 ∷ 0 ∷ 0 ∷ 0 ∷ 0 ∷ 1 ∷ 2 ∷ 3 ∷ 4 ∷ 5 ∷ []) (replicate 11 None) (first_view g))
 opens g = let v : SeatView = first_view g in let k : Knowledge = first_known g in record {
   core = first_core g;
   boxes = boxes0;
@@ -87,7 +81,7 @@ opens g = let v : SeatView = first_view g in let k : Knowledge = first_known g i
   facts = record {
     generation = refl;
     sized = first_sized k;
-    eight = refl;
+    six = refl;
     laid = record {
       owner = λ slot. slot;
       deep = refl;
@@ -107,8 +101,6 @@ opens g = let v : SeatView = first_view g in let k : Knowledge = first_known g i
     fitting = λ b f e. let z = box0 b in subst (λ (x : Side). WhereSome x.last (Fits b k))
         (some-injective new_side f (sym z.1 ∙ e)) tt;
     counted = record {
-      asked_before = 0;
-      given_before = 0;
       asked_is = refl;
       taken = le_refl 0;
       given_is = refl;

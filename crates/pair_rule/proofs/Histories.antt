@@ -1,6 +1,6 @@
 -- What a seat may do is known to the seat itself.
 use Rattle.std.proofs.Common.{◌≡◌, sym, ap, ◌∙◌, subst}
-use Rattle.pair_rule.proofs.Words.{Answer, Answers, AsksNot, Backup, BackupView, DiskView, Finds, FirstsAgree, FirstsAgreeOf, IsReply, Knowledge, Mailbox, MayAppend, MayPut, Payload, Primary, PrimaryView, Replies, SamePart, Sector, Sectors, Who, filler}
+use Rattle.pair_rule.proofs.Words.{Answer, Answers, AsksNot, Backup, BackupView, DiskView, IsReply, Knowledge, Mailbox, MayAppend, MayPut, Payload, Primary, PrimaryView, Replies, SamePart, Who, filler}
 
 pub asks_same : (s : Who) (k l : Knowledge) → SamePart s k l → AsksNot s k → AsksNot s l
 asks_same Primary k l e none = ap (λ (p : PrimaryView). p.winner) (sym e) ∙ none
@@ -8,8 +8,7 @@ asks_same Backup k l e none = ap (λ (b : BackupView). b.winner) (sym e) ∙ non
 asks_same _ k l e none = tt
 
 reply_same : (b : Mailbox) (q : Payload) (k l : Knowledge) → SamePart (filler b) k l → IsReply b k q → IsReply b l q
-reply_same Answers (Answer a) k l e r = subst (λ (d : DiskView). Replies d a × FirstsAgreeOf d a) e r
-reply_same Sectors (Sector x) k l e r = subst (λ (d : DiskView). Finds d x × FirstsAgree d x) e r
+reply_same Answers (Answer a) k l e r = subst (λ (d : DiskView). Replies d a) e r
 reply_same _ _ k l e r = tt
 
 pub may_put : (b : Mailbox) (q : Payload) (k l : Knowledge) → SamePart (filler b) k l → MayPut b k q → MayPut b l q

@@ -17,16 +17,16 @@ at_mixed : (who : Mailbox → Who) (s : Who) (own rest : List Side) (b : Mailbox
 at_mixed who s own rest Outbox = refl
 at_mixed who s own rest _ = refl
 
-mixed_own : (who : Mailbox → Who) (s : Who) (own rest : List Side) (b : Mailbox) → length own ≡ 8 → who b ≡ s
+mixed_own : (who : Mailbox → Who) (s : Who) (own rest : List Side) (b : Mailbox) → length own ≡ 6 → who b ≡ s
     → get_elem? (mixed who s own rest) (box_index b) ≡ get_elem? own (box_index b)
-mixed_own who s own rest b eight is = at_mixed who s own rest b ∙ ap
+mixed_own who s own rest b six is = at_mixed who s own rest b ∙ ap
     (λ (z : Bool). some (which z (side_at own (box_index b)) (side_at rest (box_index b))))
     (eq-eqb (seat_index (who b)) (seat_index s) (ap seat_index is)) ∙ sym
     (at_or own (box_index b) new_side (let few = few_boxes b in omega arith))
 
-mixed_rest : (who : Mailbox → Who) (s : Who) (own rest : List Side) (b : Mailbox) → length rest ≡ 8
+mixed_rest : (who : Mailbox → Who) (s : Who) (own rest : List Side) (b : Mailbox) → length rest ≡ 6
     → seat_index (who b) ≢ seat_index s → get_elem? (mixed who s own rest) (box_index b) ≡ get_elem? rest (box_index b)
-mixed_rest who s own rest b eight ne = at_mixed who s own rest b ∙ ap
+mixed_rest who s own rest b six ne = at_mixed who s own rest b ∙ ap
     (λ (z : Bool). some (which z (side_at own (box_index b)) (side_at rest (box_index b))))
     (ne_eqb (seat_index (who b)) (seat_index s) ne) ∙ sym
     (at_or rest (box_index b) new_side (let few = few_boxes b in omega arith))

@@ -1,13 +1,13 @@
 -- Each kind of step, one after another.
 use Rattle.std.proofs.Common.{◌≡◌, ℕ, zero, suc, ◌+◌, ◌<◌, List, [], ◌∷◌, ◌++◌, sym, refl, ap, ◌∙◌, subst, arith, Some}
-use Rattle.pair_rule.proofs.Words.{Among, Appends, Arrives, BackupLoses, BackupWins, Byte, ChangesReach, Completes, Copying, Event, First, Happens, HasPort, HasRun, Holds, IsByteOf, IsCovered, Knowledge, Leads, Logged, Machine, Nothing, Operation, PrimaryLoses, PrimaryWins, Puts, Reached, ReachedGrows, ReachedIsFaithful, Release, Releases, Reply, RowIsChanges, Runnable, Sees, Shows, Stands, StepsAreEvents, StepsAreFaithful, Takes, WhereSome, World, covers, entries, hand_of, id_of, note_of, notes_from, recorded-runs, steps, with_released}
+use Rattle.pair_rule.proofs.Words.{Among, Appends, Arrives, BackupLoses, BackupWins, Byte, ChangesReach, Copying, Event, First, Happens, HasPort, HasRun, Holds, IsByteOf, IsCovered, Knowledge, Leads, Logged, Machine, Nothing, Operation, PrimaryLoses, PrimaryWins, Puts, Reached, ReachedGrows, ReachedIsFaithful, Release, Releases, Reply, RowIsChanges, Runnable, Sees, Shows, Stands, StepsAreEvents, StepsAreFaithful, Takes, WhereSome, World, covers, entries, hand_of, id_of, note_of, notes_from, recorded-runs, steps, with_released}
 use Rattle.pair_rule.proofs.AppendSteps.{append_leads}
 use Rattle.pair_rule.proofs.SameRecord.{port_there}
 use Rattle.pair_rule.proofs.Covered.{is_acknowledged}
 use Rattle.pair_rule.proofs.LongerRuns.{run_goes_on}
 use Rattle.pair_rule.proofs.Growth.{step_grows}
 use Rattle.pair_rule.proofs.QuietSteps.{notes_more, quiet_finds, silent_notes}
-use Rattle.pair_rule.proofs.Acknowledged.{complete_leads, hold_leads, see_leads, take_leads}
+use Rattle.pair_rule.proofs.Acknowledged.{hold_leads, see_leads, take_leads}
 use Rattle.pair_rule.proofs.Asked.{primary_wins, primary_loses, backup_wins, backup_loses}
 use Rattle.pair_rule.proofs.Released.{release_leads, arrive_leads, put_leads}
 
@@ -45,9 +45,7 @@ steps_lead M C may typed0 typed1 k new w z st (Appends e run free told) =
     append_leads M C may typed0 typed1 k w z st free e run told
 steps_lead M C may typed0 typed1 k new w z st (Holds waits) = hold_leads M C typed0 typed1 k w z waits
 steps_lead M C may typed0 typed1 k new w z st (Sees serves) = see_leads M C typed0 typed1 k w z st serves
-steps_lead M C may typed0 typed1 k new w z st (Takes p e waits whole at) = take_leads M C typed0 typed1 k w z p e waits whole at
-steps_lead M C may typed0 typed1 k new w z st (Completes r e waits done found) =
-    complete_leads M C typed0 typed1 k w z st r e waits done found
+steps_lead M C may typed0 typed1 k new w z st (Takes p waits is) = take_leads M C typed0 typed1 k w z p waits is
 steps_lead M C may typed0 typed1 k new w z st (PrimaryWins serves waits) = primary_wins M C typed0 typed1 k w z serves waits
 steps_lead M C may typed0 typed1 k new w z st (PrimaryLoses serves other) = primary_loses M C typed0 typed1 k w z serves other
 steps_lead M C may typed0 typed1 k new w z st (BackupWins serves waits) = backup_wins M C typed0 typed1 k w z serves waits

@@ -3,7 +3,7 @@ use Rattle.std.proofs.Common.{◌≡◌, ℕ, zero, suc, ◌+◌, ◌≤◌, eqb
 use mathlib.Core.Option.{some, some-injective, some-ne-none}
 use lib.ListN.{get_elem?}
 use prog.Atomic.{either}
-use Rattle.pair_rule.proofs.Words.{AllAre, Among, Arrived, Byte, Carried, Carries, Decided, DiskAnswer, Entry, IsByteOf, IsNext, Named, NamedSector, Operation, Rising, StartsWith, WhereSome, Whole, Write, accepted_after, arrives, last_or, longer_by, named_by, wanted_then, winner_of, with_carried}
+use Rattle.pair_rule.proofs.Words.{AllAre, Among, Arrived, Byte, Decided, Entry, IsByteOf, Operation, Packet, Rising, StartsWith, WhereSome, Write, accepted_after, arrives, last_or, winner_of}
 use Rattle.pair_rule.proofs.Filled.{all_more}
 
 pub longer_prefix : (list copy : List Entry) (e : Entry) → StartsWith list copy → StartsWith (list ++ e ∷ []) copy
@@ -21,51 +21,19 @@ pub one_more : (list copy : List Entry) (e : Entry) → StartsWith list copy →
 one_more list copy e s at = let n = next_is copy s.0 e (ap (λ z. get_elem? z (length copy)) (sym s.1) ∙ at) in
     (n.0, s.1 ∙ ap (λ z. copy ++ z) n.1 ∙ sym (append_assoc copy (e ∷ []) n.0))
 
--- the copy after a packet of the list, and what is wanted then
-pub grown_prefix : (list copy : List Entry) (given : List DiskAnswer) (index : ℕ) (c : Carried) (e : Entry) (b : Bool)
-    → eqb index (length copy) ≡ b → StartsWith list copy → get_elem? list index ≡ some e → Carries given c e
-    → StartsWith list (cond b (with_carried copy c) copy)
-grown_prefix list copy given index (Whole x) e true is s at same = let next : index ≡ length copy =
-    grind (arith) in one_more list copy x s (ap (get_elem? list) (sym next) ∙ at ∙ ap some same)
-grown_prefix list copy given index (Named t) e true is s at same = s
-grown_prefix list copy given index (Whole x) e false is s at same = s
-grown_prefix list copy given index (Named t) e false is s at same = s
-
-pub grown_wanted : (list copy : List Entry) (given : List DiskAnswer) (next : Option NamedSector) (index : ℕ) (c : Carried)
-    (e : Entry) (b : Bool) → eqb index (length copy) ≡ b → get_elem? list index ≡ some e → Carries given c e
-    → WhereSome next (IsNext list given copy)
-    → WhereSome (cond b (named_by c) next) (IsNext list given (cond b (with_carried copy c) copy))
-grown_wanted list copy given next index (Whole x) e true is at same wants = tt
-grown_wanted list copy given next index (Named t) e true is at same wants = let here : index ≡ length copy =
-    grind (arith) in (e, ap (get_elem? list) (sym here) ∙ at, same)
-grown_wanted list copy given next index (Whole x) e false is at same wants = wants
-grown_wanted list copy given next index (Named t) e false is at same wants = wants
-
--- the copy after the sector that completes it, and what is wanted then
-pub longer_by_prefix : (list copy : List Entry) (x : Option Entry)
-    → ((e : Entry) → x ≡ Some e → get_elem? list (length copy) ≡ some e) → StartsWith list copy
-    → StartsWith list (longer_by copy x)
-longer_by_prefix list copy None at s = s
-longer_by_prefix list copy (Some e) at s = one_more list copy e s (at e refl)
-
-pub longer_by_wanted : (list copy : List Entry) (given : List DiskAnswer) (next : Option NamedSector) (x : Option Entry)
-    → WhereSome next (IsNext list given copy) → WhereSome (wanted_then next x) (IsNext list given (longer_by copy x))
-longer_by_wanted list copy given next None wants = wants
-longer_by_wanted list copy given next (Some e) wants = tt
-
-pub longer_by_length : (copy : List Entry) (x : Option Entry) → length copy ≤ length (longer_by copy x)
-longer_by_length copy None = le_refl (length copy)
-longer_by_length copy (Some e) = omega (arith, length-append copy (e ∷ []))
+pub grown_prefix : (list copy : List Entry) (q : Packet) (b : Bool) → eqb q.index (length copy) ≡ b → StartsWith list copy
+    → get_elem? list q.index ≡ some q.entry → StartsWith list (cond b (copy ++ q.entry ∷ []) copy)
+grown_prefix list copy q true is s at = let e : q.index ≡ length copy =
+    grind (arith) in one_more list copy q.entry s (ap (get_elem? list) (sym e) ∙ at)
+grown_prefix list copy q false is s at = s
 
 pub rising_higher : (low high high' : ℕ) (xs : List ℕ) → high ≤ high' → Rising low high xs → Rising low high' xs
 rising_higher low high high' [] le r = omega arith
 rising_higher low high high' (x ∷ xs) le r = (r.0, rising_higher x high high' xs le r.1)
 
-pub grown_length : (copy : List Entry) (c : Carried) (b : Bool) → length copy ≤ length (cond b (with_carried copy c) copy)
-grown_length copy (Whole e) true = omega (arith, length-append copy (e ∷ []))
-grown_length copy (Named t) true = le_refl (length copy)
-grown_length copy (Whole e) false = le_refl (length copy)
-grown_length copy (Named t) false = le_refl (length copy)
+pub grown_length : (copy : List Entry) (q : Packet) (b : Bool) → length copy ≤ length (cond b (copy ++ q.entry ∷ []) copy)
+grown_length copy q true = omega (arith, length-append copy (q.entry ∷ []))
+grown_length copy q false = le_refl (length copy)
 
 pub last_below : (low high : ℕ) (xs : List ℕ) → Rising low high xs → last_or low xs ≤ high
 last_below low high [] r = r

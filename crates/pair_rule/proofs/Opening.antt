@@ -10,13 +10,13 @@ use Rattle.pair_rule.proofs.SplitSeats.{nobody_has}
 use Rattle.pair_rule.proofs.FirstSlots.{first_slot_allowed}
 
 -- the slot of a seat at the start
-home : (s : Who) (k : Knowledge) → get_elem? (core_of k).hands (seat_index s) ≡ some (8 + seat_index s)
+home : (s : Who) (k : Knowledge) → get_elem? (core_of k).hands (seat_index s) ≡ some (6 + seat_index s)
 home Primary k = refl
 home _ k = refl
 
 -- it takes that slot, and then it has what a seat holds
 module _ (s : Who) (k : Knowledge) (table id : TableId) (me : Mine) (new : IsNew s k table id me) (h : ℕ)
-    (at : h ≡ 8 + seat_index s) where
+    (at : h ≡ 6 + seat_index s) where
   hand : get_elem? me.0.core.hands (seat_index s) ≡ some h
   hand = ap (λ (c : Core). get_elem? c.hands (seat_index s)) new.core ∙ home s k ∙ ap (λ n. some n) (sym at)
 

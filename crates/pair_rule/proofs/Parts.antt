@@ -5,7 +5,7 @@ use mathlib.Core.Option.{some, some-injective}
 use mathlib.Core.Logic.{dite}
 use native.Mathlib.Decide.{ℕ_discrete}
 use lib.ListN.{get_elem?}
-use Rattle.pair_rule.proofs.Words.{Answers, Backup, Bytes0, Bytes1, Core, Disk, Has, Inbox, Knowledge, Link, Lookups, Mailbox, Outbox, Part, Payload, Primary, Requests, Same, SamePart, SeatView, Sectors, Side, Sized, Terminal, Who, after_empty, after_fill, at_set, box_index, emptied, emptier, filled, filler, filler_met, found_empty, has, is_full, new_side, number_of, part, seat_index, set_else, side, slot_of, with_known, with_slot}
+use Rattle.pair_rule.proofs.Words.{Answers, Backup, Bytes0, Bytes1, Core, Disk, Has, Inbox, Knowledge, Link, Mailbox, Outbox, Part, Payload, Primary, Requests, Same, SamePart, SeatView, Side, Sized, Terminal, Who, after_empty, after_fill, at_set, box_index, emptied, emptier, filled, filler, filler_met, found_empty, has, is_full, new_side, number_of, part, seat_index, set_else, side, slot_of, with_known, with_slot}
 use Rattle.pair_rule.proofs.Slots.{set_both, or_both}
 
 -- numbers name one seat and one box
@@ -30,9 +30,7 @@ box_at (suc zero) = Inbox
 box_at (suc (suc zero)) = Bytes0
 box_at (suc (suc (suc zero))) = Bytes1
 box_at (suc (suc (suc (suc zero)))) = Requests
-box_at (suc (suc (suc (suc (suc zero))))) = Answers
-box_at (suc (suc (suc (suc (suc (suc zero)))))) = Lookups
-box_at (suc (suc (suc (suc (suc (suc (suc n))))))) = Sectors
+box_at (suc (suc (suc (suc (suc n))))) = Answers
 
 box_of : (b : Mailbox) → box_at (box_index b) ≡ b
 unfolding box_at
@@ -42,12 +40,12 @@ box_of _ = refl
 pub one_box : (a b : Mailbox) → box_index a ≡ box_index b → a ≡ b
 one_box a b e = sym (box_of a) ∙ ap box_at e ∙ box_of b
 
-pub index_at : (k : ℕ) → k < 8 → (b : Mailbox) × (box_index b ≡ k)
+pub index_at : (k : ℕ) → k < 6 → (b : Mailbox) × (box_index b ≡ k)
 unfolding box_at
-index_at (suc (suc (suc (suc (suc (suc (suc (suc k)))))))) few = absurd (omega arith)
+index_at (suc (suc (suc (suc (suc (suc k)))))) few = absurd (omega arith)
 index_at k few = (box_at k, refl)
 
-pub few_boxes : (b : Mailbox) → box_index b < 8
+pub few_boxes : (b : Mailbox) → box_index b < 6
 few_boxes Outbox = omega arith
 few_boxes _ = omega arith
 

@@ -1,6 +1,6 @@
 -- What the disk's seat replies is what the rule of the table asks.
 use Rattle.std.proofs.Common.{inl, inr, ap, sym, subst, ◌∙◌}
-use Rattle.pair_rule.proofs.Words.{Answer, Answers, AsBefore, DiskAnswer, DiskView, Finds, FirstsAgree, FirstsAgreeOf, IsReplied, Knowledge, LatestIs, MayPut, OfPut, Sector, SectorRead, SectorRecord, Sectors, latest, latest_is, put_by}
+use Rattle.pair_rule.proofs.Words.{AsBefore, DiskAnswer, DiskView, IsReplied, LatestIs, OfPut, SectorRecord, latest, latest_is, put_by}
 use Rattle.pair_rule.specs.declared.payload.DiskAnswer.TheVariants as answer
 use Rattle.pair_rule.specs.Seats.{Replies}
 use Rattle.pair_rule.proofs.Filled.{among_last}
@@ -23,10 +23,3 @@ can_reply d (answer.Read r) (a, taken, at, last) =
       ap
           (λ (z : SectorRecord). z.bytes) (sym e ∙ last),
     )
-
--- so it may put it into its box, and likewise what it finds for a lookup
-pub may_reply : (k : Knowledge) (a : DiskAnswer) → Replies k.disk a → FirstsAgreeOf k.disk a → MayPut Answers k (Answer a)
-may_reply k a says firsts = record { asks_not = tt; reply = (says, firsts) }
-
-pub may_find : (k : Knowledge) (r : SectorRead) → Finds k.disk r → FirstsAgree k.disk r → MayPut Sectors k (Sector r)
-may_find k r finds firsts = record { asks_not = tt; reply = (finds, firsts) }

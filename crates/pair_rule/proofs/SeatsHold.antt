@@ -2,7 +2,7 @@
 use Rattle.std.proofs.Common.{◌≡◌, ◌≢◌, ◌↔◌, ℕ, zero, suc, ◌+◌, ◌<◌, ◌^◌, ◌&&◌, nat_lt, Bool, true, false, List, [], ◌∷◌, length, get_or, set, Some, None, sym, refl, ap, ◌∙◌, subst, arith, Option}
 use mathlib.Core.Option.{some}
 use lib.ListN.{get_elem?}
-use Rattle.pair_rule.proofs.Words.{Answers, Bytes0, Bytes1, Core, Empties, Fills, HasSwapsLeft, Inbox, Knowledge, LeavesRoom, Lookups, Mailbox, Mine, Outbox, Payload, Requests, SeatView, Sectors, Side, Sized, Swapped, WasIn, Who, all_below, and_parts, box_index, emptied, emptier, filled, filler, found_empty, most_swaps, new_side, nobody, number_of, numbers, rest, seat_index, set_else, set_here, side, side_at, slot_of, with_core, with_known}
+use Rattle.pair_rule.proofs.Words.{Answers, Bytes0, Bytes1, Core, Empties, Fills, HasSwapsLeft, Inbox, Knowledge, LeavesRoom, Mailbox, Mine, Outbox, Payload, Requests, SeatView, Side, Sized, Swapped, WasIn, Who, all_below, and_parts, box_index, emptied, emptier, filled, filler, found_empty, most_swaps, new_side, nobody, number_of, numbers, rest, seat_index, set_else, set_here, side, side_at, slot_of, with_core, with_known}
 use Rattle.pair_rule.specs.Seats.{Holds, Keeps}
 use Rattle.pair_rule.proofs.Slots.{or_of}
 use Rattle.pair_rule.proofs.SplitSeats.{nobody_has}
@@ -61,21 +61,21 @@ knows_keeps s me me' slot fills empties turn k same e = record {
 }
 
 -- the number kept for a box is the side's
-pub number_at : (sides : List Side) (ns : List ℕ) (b : Mailbox) → length sides ≡ 8 → ns ≡ numbers sides
+pub number_at : (sides : List Side) (ns : List ℕ) (b : Mailbox) → length sides ≡ 6 → ns ≡ numbers sides
     → get_or ns (box_index b) 0 ≡ (side_at sides (box_index b)).number
-number_at sides ns b eight are = let few =
+number_at sides ns b six are = let few =
     few_boxes b in ap (λ (l : List ℕ). get_or l (box_index b) 0) are ∙ get_or-map (λ (z : Side). z.number) sides
     (box_index b) new_side 0 (omega arith)
 
 -- the same at the place that the program has for the box
-pub number_there : (sides : List Side) (ns : List ℕ) (b : Mailbox) (index : ℕ) → index ≡ box_index b → length sides ≡ 8
+pub number_there : (sides : List Side) (ns : List ℕ) (b : Mailbox) (index : ℕ) → index ≡ box_index b → length sides ≡ 6
     → ns ≡ numbers sides → get_or ns index 0 ≡ (side_at sides (box_index b)).number
-number_there sides ns b index at eight are = ap (λ (n : ℕ). get_or ns n 0) at ∙ number_at sides ns b eight are
+number_there sides ns b index at six are = ap (λ (n : ℕ). get_or ns n 0) at ∙ number_at sides ns b six are
 
 -- it leaves room for one more
-pub few_there : (sides : List Side) (ns : List ℕ) (b : Mailbox) (index : ℕ) → index ≡ box_index b → length sides ≡ 8
+pub few_there : (sides : List Side) (ns : List ℕ) (b : Mailbox) (index : ℕ) → index ≡ box_index b → length sides ≡ 6
     → ns ≡ numbers sides → (side_at sides (box_index b)).number < 2 ^ 40 → get_or ns index 0 < 2 ^ 40
-few_there sides ns b index at eight are few = subst (λ (n : ℕ). n < 2 ^ 40) (sym (number_there sides ns b index at eight are)) few
+few_there sides ns b index at six are few = subst (λ (n : ℕ). n < 2 ^ 40) (sym (number_there sides ns b index at six are)) few
 
 -- a side's number rises
 raised : (sides : List Side) (ns : List ℕ) (b : Mailbox) (met n : ℕ) (last : Option Payload) → ns ≡ numbers sides
@@ -143,20 +143,20 @@ below_each [] each = refl
 below_each (n ∷ ns) each = and_from (nat_lt n most_swaps) (all_below ns) (let l = each 0 (omega arith) in grind arith)
     (below_each ns (λ k few. each (suc k) (omega arith)))
 
-module _ (sides : List Side) (ns : List ℕ) (eight : length sides ≡ 8) (are : ns ≡ numbers sides) where
-  long : length ns ≡ 8
-  long = ap length are ∙ length-map sides (λ (z : Side). z.number) ∙ eight
+module _ (sides : List Side) (ns : List ℕ) (six : length sides ≡ 6) (are : ns ≡ numbers sides) where
+  long : length ns ≡ 6
+  long = ap length are ∙ length-map sides (λ (z : Side). z.number) ∙ six
 
   side_below : all_below ns ≡ true → (b : Mailbox) → (side_at sides (box_index b)).number < 2 ^ 40
-  side_below all b = subst (λ n. n < 2 ^ 40) (number_at sides ns b eight are)
+  side_below all b = subst (λ n. n < 2 ^ 40) (number_at sides ns b six are)
       (let few = few_boxes b in let l = long in each_below ns all (box_index b) (omega (arith, few, l)))
 
   below_side : ((b : Mailbox) → (side_at sides (box_index b)).number < 2 ^ 40) → all_below ns ≡ true
   below_side each = below_each ns (λ k few. let l = long in let i =
       index_at k (omega (arith, few, l)) in subst (λ j. get_or ns j 0 < 2 ^ 40) i.1
-      (subst (λ n. n < 2 ^ 40) (sym (number_at sides ns i.0 eight are)) (each i.0)))
+      (subst (λ n. n < 2 ^ 40) (sym (number_at sides ns i.0 six are)) (each i.0)))
 
--- a list of eight sides, box by box
+-- a list of six sides, box by box
 room_at : (sides : List Side) → LeavesRoom sides → (b : Mailbox) → (side_at sides (box_index b)).number < 2 ^ 40
 room_at sides h Outbox = h.0
 room_at sides h Inbox = h.1
@@ -164,11 +164,9 @@ room_at sides h Bytes0 = h.2
 room_at sides h Bytes1 = h.3
 room_at sides h Requests = h.4
 room_at sides h Answers = h.5
-room_at sides h Lookups = h.6
-room_at sides h Sectors = h.7
 
 room_all : (sides : List Side) → ((b : Mailbox) → (side_at sides (box_index b)).number < 2 ^ 40) → LeavesRoom sides
-room_all sides each = (each Outbox, each Inbox, each Bytes0, each Bytes1, each Requests, each Answers, each Lookups, each Sectors)
+room_all sides each = (each Outbox, each Inbox, each Bytes0, each Bytes1, each Requests, each Answers)
 
 pub swaps_left : (s : Who) (me : Mine) (slot : ℕ) (fills empties : List ℕ) (left : Bool) → Keeps s me slot fills empties
     → left ≡ (all_below fills && all_below empties) → (left ≡ true) ↔ HasSwapsLeft me.0.core
@@ -184,24 +182,24 @@ swaps_left s me slot fills empties left k is = (
 
 -- ---- what a swap tells
 
-side_set : (sides : List Side) (b : Mailbox) (z : Side) → length sides ≡ 8 → side_at (set sides (box_index b) z) (box_index b) ≡ z
-side_set sides b z eight = let few = few_boxes b in or_of (set sides (box_index b) z) (box_index b) new_side z
-    (set_here sides (box_index b) z (omega (arith, few, eight)))
+side_set : (sides : List Side) (b : Mailbox) (z : Side) → length sides ≡ 6 → side_at (set sides (box_index b) z) (box_index b) ≡ z
+side_set sides b z six = let few = few_boxes b in or_of (set sides (box_index b) z) (box_index b) new_side z
+    (set_here sides (box_index b) z (omega (arith, few, six)))
 
-pub says_filled : (b : Mailbox) (q : Payload) (r : ℕ) (old new : Core) → length old.fills ≡ 8 → new ≡ filled b q r old
+pub says_filled : (b : Mailbox) (q : Payload) (r : ℕ) (old new : Core) → length old.fills ≡ 6 → new ≡ filled b q r old
     → Fills b q old new
-says_filled b q r old new eight is =
+says_filled b q r old new six is =
     let s : side_at new.fills (box_index b) ≡ side_at (filled b q r old).fills (box_index b) =
     ap (λ (c : Core). side_at c.fills (box_index b)) is in
-    let e = s ∙ side_set old.fills b _ eight in
+    let e = s ∙ side_set old.fills b _ six in
     ((r, is), ap (λ (z : Side). z.number) e, ap (λ (z : Side). z.last) e)
 
-pub says_emptied : (b : Mailbox) (q : Payload) (r : ℕ) (old new : Core) → length old.empties ≡ 8 → new ≡ emptied b q r old
+pub says_emptied : (b : Mailbox) (q : Payload) (r : ℕ) (old new : Core) → length old.empties ≡ 6 → new ≡ emptied b q r old
     → (side_at old.empties (box_index b)).met < number_of r → WasIn b old.known q → Empties b (Some q) old new
-says_emptied b q r old new eight is met was =
+says_emptied b q r old new six is met was =
     let s : side_at new.empties (box_index b) ≡ side_at (emptied b q r old).empties (box_index b) =
     ap (λ (c : Core). side_at c.empties (box_index b)) is in
-    let e = s ∙ side_set old.empties b _ eight in (
+    let e = s ∙ side_set old.empties b _ six in (
       was,
       (r, is),
       ap (λ (z : Side). z.number) e,
@@ -209,10 +207,10 @@ says_emptied b q r old new eight is met was =
           (sym e) met,
     )
 
-pub says_found : (b : Mailbox) (r : ℕ) (old new : Core) → length old.empties ≡ 8 → new ≡ found_empty b r old
+pub says_found : (b : Mailbox) (r : ℕ) (old new : Core) → length old.empties ≡ 6 → new ≡ found_empty b r old
     → Empties b None old new
-says_found b r old new eight is =
+says_found b r old new six is =
     let s : side_at new.empties (box_index b) ≡ side_at (found_empty b r old).empties (box_index b) =
     ap (λ (c : Core). side_at c.empties (box_index b)) is in
-    let e = s ∙ side_set old.empties b _ eight in
+    let e = s ∙ side_set old.empties b _ six in
     ((r, is), ap (λ (z : Side). z.number) e, ap (λ (z : Side). z.met) e)

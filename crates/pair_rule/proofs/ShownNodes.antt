@@ -1,8 +1,8 @@
 -- The nodes that a world shows, and its messages.
-use Rattle.std.proofs.Common.{append_assoc, ◌∙◌, ◌≤◌, arith, ◌≡◌, ℕ, zero, suc, ◌≤◌, true, List, [], ◌∷◌, ◌++◌, sym, ap, ◌∙◌, ⊎_elim, arith, subst, Option, Some, slice_get}
+use Rattle.std.proofs.Common.{append_assoc, ◌∙◌, ◌≤◌, arith, ◌≡◌, ℕ, zero, suc, ◌≤◌, true, List, [], ◌∷◌, ◌++◌, sym, ap, ◌∙◌, ⊎_elim, arith, subst, Some, slice_get}
 use mathlib.Core.Option.{some, some-injective, some-ne-none}
 use lib.ListN.{get_elem?}
-use Rattle.pair_rule.proofs.Words.{Acknowledgement, Among, Copying, Do, Entry, ImagePart, IsAcknowledged, IsSentBy, Knowledge, LogEntry, Machine, Message, Move, NamedSector, Node, Operation, Released, Sent, Shows, Visible, World, WriteDone, among-left, backup_node, backup_role, backup_runs, get-longer, primary_node, primary_role, primary_runs, visible}
+use Rattle.pair_rule.proofs.Words.{Acknowledgement, Among, Copying, Do, Entry, ImagePart, IsAcknowledged, IsSentBy, Knowledge, LogEntry, Machine, Message, Move, Node, Operation, Released, Sent, Shows, Visible, World, WriteDone, among-left, backup_node, backup_role, backup_runs, get-longer, primary_node, primary_role, primary_runs, visible}
 use Rattle.pair_protocol.specs.Node.{Primary, Backup}
 pub use Rattle.pair_rule.proofs.Elements.{among_either}
 
@@ -82,25 +82,3 @@ module _ {S : Type 0} (M : Machine S) (C : Copying S) (typed0 typed1 : List ℕ)
   pub second_node : k.backup.winner ≡ 0 → slice_get w.nodes 1 ≡ Some waiting
   second_node none = ap (λ l. slice_get l 1) z.nodes ∙
       (λ i. Some (record waiting { role = backup_role (none i); running = backup_runs (none i) }))
-
--- which sector the backup wants is not shown
-pub wants_shows : {S : Type 0} (M : Machine S) (typed0 typed1 : List ℕ) (k : Knowledge) (w : World S)
-    → Shows M typed0 typed1 k w → (wants : Option NamedSector)
-    → Shows M typed0 typed1 (record k { backup = record k.backup { wanted = wants } }) w
-wants_shows M typed0 typed1 k w z wants = record {
-  moves = z.moves;
-  s = z.s;
-  recorded = z.recorded;
-  entries_are = z.entries_are;
-  count = z.count;
-  nodes = z.nodes;
-  sent = record { logs = z.sent.logs; acks = z.sent.acks; operations = z.sent.operations; writes = z.sent.writes };
-  terminals = z.terminals;
-  winners = z.winners;
-  puts = z.puts;
-  issued = z.issued;
-  done = z.done;
-  first_reads = z.first_reads;
-  covered = z.covered;
-  only = z.only;
-}

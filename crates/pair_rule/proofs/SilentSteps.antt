@@ -1,8 +1,8 @@
 -- The steps that are not events leave the world as it is, and it shows what is known then.
-use Rattle.std.proofs.Common.{◌≡◌, ℕ, zero, suc, ◌==◌, cond, Bool, true, false, List, [], ◌∷◌, ◌++◌, length, ◌⊎◌, inl, inr, sym, ap, ◌∙◌, subst, Some}
-use Rattle.pair_rule.proofs.Words.{Among, AnswersRead, CountsNone, DiskAnswer, HasWrite, Misses, SectorRead, SeesCount, Shows, SilentStepsShow, Wants, arrives, longer_by, named_by, put_by, read_address, wanted_then, with_carried}
+use Rattle.std.proofs.Common.{◌≡◌, ℕ, zero, suc, List, [], ◌∷◌, ◌++◌, ◌⊎◌, inl, inr, sym, ap, ◌∙◌, subst}
+use Rattle.pair_rule.proofs.Words.{Among, AnswersRead, CountsNone, DiskAnswer, HasWrite, SectorRead, SeesCount, Shows, SilentStepsShow, arrives, put_by, read_address}
 use Rattle.pair_rule.specs.declared.payload.DiskAnswer.TheVariants as answer
-use Rattle.pair_rule.proofs.ShownNodes.{among_either, wants_shows}
+use Rattle.pair_rule.proofs.ShownNodes.{among_either}
 
 -- of the answers with one of a read more, those of writes are as before
 no_write : (n : ℕ) (r : SectorRead) (given : List DiskAnswer) → Among (answer.Written n) (given ++ answer.Read r ∷ [])
@@ -53,30 +53,4 @@ silent_shows M typed0 typed1 k new w z (CountsNone zero none) =
 silent_shows M typed0 typed1 k new w z (CountsNone (suc port) none) =
     subst (λ h. Shows M typed0 typed1 (record k { terminal = record k.terminal { arrivals1 = arrives h k.terminal.arrivals1 } })
     w) (sym none) z
-silent_shows M typed0 typed1 k new w z (Wants p t is) =
-    subst (λ c. Shows M typed0 typed1 (record k {
-      backup =
-          record k.backup {
-            list = cond next (with_carried k.backup.list c) k.backup.list;
-            wanted = cond next (named_by c) k.backup.wanted;
-          };
-    }) w) (sym is) (go next)
-  where
-    next : Bool
-    next = p.index == length k.backup.list
-
-    go : (b : Bool) → Shows M typed0 typed1 (record k {
-      backup =
-          record k.backup {
-            list = cond b k.backup.list k.backup.list;
-            wanted = cond b (Some t) k.backup.wanted;
-          };
-    }) w
-    go true = wants_shows M typed0 typed1 k w z (Some t)
-    go false = z
-silent_shows M typed0 typed1 k new w z (Misses r is) =
-    subst (λ x. Shows M typed0 typed1 (record k {
-      backup =
-          record k.backup { list = longer_by k.backup.list x; wanted = wanted_then k.backup.wanted x };
-    }) w) (sym is) z
 silent_shows M typed0 typed1 k new w z _ = z

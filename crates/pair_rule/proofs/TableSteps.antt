@@ -1,14 +1,12 @@
 -- Each kind of step of the table is events of the world, or none; and what held still holds.
 use Rattle.std.proofs.Common.{◌≡◌, ℕ, zero, suc, ◌<◌, ◌≤◌, List, [], ◌∷◌, sym, refl, ap, ◌∙◌, subst, inl, inr, ◌⊎◌, arith, Option, Some, None}
-use mathlib.Core.Option.{some}
-use lib.ListN.{get_elem?}
-use Rattle.pair_rule.proofs.Words.{Among, Answer, Answers, AnswersLookup, AnswersRead, AsksRead, BackupAsks, Byte, Bytes0, Bytes1, CanFill, Carried, Carries, CountEvents, CountsNone, EmptyEvents, Entry, Event, EventsOf, FillEvents, FindEvents, Fits, HasAnswer, HasEvents, HasNoEvents, Inbox, IsByteOf, Keeps, Knowledge, Log, Lookup, Lookups, Machine, Mailbox, Named, Operation, Out, Outbox, Packet, Payload, PrimaryAsks, Promised, Request, Requests, Sector, SectorRead, Sectors, SilentStep, Stands, Stays, Suspect, TableStepsAreSteps, TakeEvents, TakesByte0, TakesByte1, TakesLookup, TakesRequest, ThreadStep, WhereSome, Whole, Write, accepted_at, after_empty, after_fill, backup_asked, byte_arrived, completed, counted_at, emptier, filler, hand_of, primary_asked, winner_of}
+use Rattle.pair_rule.proofs.Words.{Answer, Answers, AnswersRead, AsksRead, BackupAsks, Byte, Bytes0, Bytes1, CanFill, CountEvents, CountsNone, EmptyEvents, Event, EventsOf, FillEvents, Fits, HasAnswer, HasEvents, HasNoEvents, Inbox, IsByteOf, Keeps, Knowledge, Log, Machine, Mailbox, Operation, Out, Outbox, Payload, PrimaryAsks, Promised, Request, Requests, SilentStep, Stands, Stays, Suspect, TableStepsAreSteps, TakesByte0, TakesByte1, TakesRequest, ThreadStep, WhereSome, Write, accepted_at, after_empty, after_fill, backup_asked, byte_arrived, counted_at, emptier, filler, hand_of, primary_asked, winner_of}
 use Rattle.pair_rule.specs.declared.payload.DiskAnswer.TheVariants as answer
 use Rattle.pair_rule.specs.declared.payload.DiskRequest.TheVariants as ask
 use Rattle.pair_rule.specs.Law as law
 use Rattle.pair_rule.specs.Steps.{AsksNot, Fills, Empties, Appends, Sees, Holds, Counts, SeesCount}
 use Rattle.pair_rule.proofs.Emptied.{empty_keeps}
-use Rattle.pair_rule.proofs.Filled.{AgreesBy, fill_keeps}
+use Rattle.pair_rule.proofs.Filled.{fill_keeps}
 use Rattle.pair_rule.proofs.WordChanges.{append_stays, see_stays, hold_stays, primary_asks, backup_asks, came_stays, count_stays}
 
 module _ {S : Type 0} (M : Machine S) (typed0 typed1 : List ℕ) (k : Knowledge) (st : Stands k) where
@@ -34,45 +32,21 @@ module _ {S : Type 0} (M : Machine S) (typed0 typed1 : List ℕ) (k : Knowledge)
   fills Requests (Request (ask.Write w)) asks can kept =
       events_of (law.Releases (Write w) kept.0 tt asks kept.1) (λ events is. is)
   fills Requests (Request (ask.Read a)) asks can kept = no_events (AsksRead a) refl
-  fills Answers (Answer (answer.Written n)) asks can ((w, taken, is), agrees, boots) =
+  fills Answers (Answer (answer.Written n)) asks can ((w, taken, is), boots) =
       subst (λ m. Step (after_fill Answers (Answer (answer.Written m)) k) (FillEvents Answers (Answer (answer.Written m))))
       (sym is) (events_of (law.Puts w taken) (λ events is. is))
-  fills Answers (Answer (answer.Read r)) asks can ((a, taken, at, last), agrees, boots) =
+  fills Answers (Answer (answer.Read r)) asks can ((a, taken, at, last), boots) =
       no_events (AnswersRead a r taken boots) refl
-  fills Lookups (Lookup x) asks can kept = no_events Keeps refl
-  fills Sectors (Sector x) asks can kept = no_events (AnswersLookup x) refl
   fills _ _ asks can kept = absurd can
 
-  -- a packet has a whole entry, or only names a sector
-  packet_step : (p : Packet) → k.backup.winner ≡ 0 → (c : Carried) → p.carried ≡ c → (e : Entry)
-      → get_elem? k.primary.list p.index ≡ some e → Carries k.disk.given p.carried e
-      → Step (after_empty Inbox (Log p) k) (TakeEvents c)
-  packet_step p asks (Whole x) is e at same = let whole : e ≡ x = subst (λ c. Carries k.disk.given c e) is same in
-      events_of (law.Takes p x asks is (at ∙ ap some whole)) (λ events is. is)
-  packet_step p asks (Named t) is e at same = no_events (law.Wants p t is) refl
-
-  -- a sector completes the entry that is wanted, or not
-  sector_step : (r : SectorRead) → k.backup.winner ≡ 0 → Among r k.disk.found → (x : Option Entry)
-      → completed k.backup.wanted r ≡ x → Step (after_empty Sectors (Sector r) k) (FindEvents x)
-  sector_step r asks fit None is = no_events (law.Misses r is) refl
-  sector_step r asks fit (Some e) is = events_of (law.Completes r e asks is fit) (λ events is. is)
-
-  -- what the disk reads agrees with what it read before
-  agrees_kept : (b : Mailbox) (q : Payload) → Promised M k b q → AgreesBy b k q
-  agrees_kept Answers (Answer a) kept = kept.1
-  agrees_kept Sectors (Sector x) kept = kept.1
-  agrees_kept _ _ kept = tt
-
   empties : (b : Mailbox) (q : Payload) → AsksNot (emptier b) k → Fits b k q
-      → Step (after_empty b q k) (EmptyEvents k b q)
+      → Step (after_empty b q k) (EmptyEvents b q)
   empties Outbox (Log p) asks fit = no_events (law.Carries p) refl
-  empties Inbox (Log p) asks fit = packet_step p asks p.carried refl fit.1.0 fit.1.1 fit.1.2
+  empties Inbox (Log p) asks fit = events_of (law.Takes p asks fit) (λ events is. is)
   empties Bytes0 (Out o) asks fit = no_events (TakesByte0 o) refl
   empties Bytes1 (Out o) asks fit = no_events (TakesByte1 o) refl
   empties Requests (Request r) asks fit = no_events (TakesRequest r) refl
   empties Answers (Answer a) asks fit = no_events (HasAnswer a) refl
-  empties Lookups (Lookup x) asks fit = no_events (TakesLookup x) refl
-  empties Sectors (Sector x) asks fit = sector_step x asks fit (completed k.backup.wanted x) refl
   empties _ _ asks fit = absurd fit
 
   -- a primary that asks finds no winner, or the backup; a backup finds none, or the primary
@@ -127,7 +101,7 @@ counted_before k st (suc port) = st.port1.accepted
 pub table_steps : {S : Type 0} → TableStepsAreSteps S
 table_steps M typed0 typed1 k new st Stays = record { stands = st; step = no_events M typed0 typed1 k st Keeps refl }
 table_steps M typed0 typed1 k new st (Fills b q asks can kept) = record {
-  stands = (fill_keeps k st b q can (agrees_kept M typed0 typed1 k st b q kept)).0.stands;
+  stands = (fill_keeps k st b q can).0.stands;
   step = fills M typed0 typed1 k st b q asks can kept;
 }
 table_steps M typed0 typed1 k new st (Empties b q asks fit) = record {

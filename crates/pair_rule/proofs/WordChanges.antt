@@ -3,7 +3,7 @@ use Rattle.std.proofs.Common.{◌≡◌, ℕ, zero, suc, ◌≤◌, eqb, List, [
 use prog.Atomic.{either}
 use Rattle.std.specs.Prelude.{Option}
 use Rattle.pair_rule.proofs.Words.{Among, Arrived, Entry, Fits, Inbox, Knowledge, Log, Mailbox, Operation, Outbox, Payload, PortStands, Stands, TerminalView, accepted_after, accepted_at, among-left, appended, arrives, backup_asked, byte_arrived, held, last_or, primary_asked, saw, saw_count, winner_after, winner_of}
-use Rattle.pair_rule.proofs.Filled.{if_map, entry_more, next_more}
+use Rattle.pair_rule.proofs.Filled.{if_map, entry_more}
 use Rattle.pair_rule.proofs.ListsThatGrow.{longer_prefix, last_below, rising_more, last_more, last_among, fewer_arrived, all_arrived, decide_primary, decide_backup}
 
 -- the byte in a terminal's hand arrives; the primary sees how many were accepted
@@ -27,8 +27,8 @@ module _ (k : Knowledge) (s : Stands k) where
   Stays turn = Stands (turn k) × ((b : Mailbox) (x : Payload) → Fits b k x → Fits b (turn k) x)
 
   appended_fits : (e : Entry) (b : Mailbox) (x : Payload) → Fits b k x → Fits b (appended e k) x
-  appended_fits e Outbox (Log p) f = entry_more k.generation k.primary.list k.disk.given e p f
-  appended_fits e Inbox (Log p) f = entry_more k.generation k.primary.list k.disk.given e p f
+  appended_fits e Outbox (Log p) f = entry_more k.generation k.primary.list e p f
+  appended_fits e Inbox (Log p) f = entry_more k.generation k.primary.list e p f
   appended_fits e _ _ f = f
 
   pub append_stays : (e : Entry) → Stays (appended e)
@@ -36,8 +36,7 @@ module _ (k : Knowledge) (s : Stands k) where
     record {
       log = record {
         prefix = longer_prefix k.primary.list k.backup.list e s.log.prefix;
-        wanted = if_map k.backup.wanted _ _ (next_more k.primary.list k.disk.given k.backup.list e) s.log.wanted;
-        in_link = if_map k.link _ _ (entry_more k.generation k.primary.list k.disk.given e) s.log.in_link;
+        in_link = if_map k.link _ _ (entry_more k.generation k.primary.list e) s.log.in_link;
         rising = s.log.rising;
         behind = s.log.behind;
         once = s.log.once;
@@ -55,7 +54,6 @@ module _ (k : Knowledge) (s : Stands k) where
     record {
       log = record {
         prefix = s.log.prefix;
-        wanted = s.log.wanted;
         in_link = s.log.in_link;
         rising = s.log.rising;
         behind = le_refl (last_or 0 k.backup.held_values);
@@ -81,7 +79,6 @@ module _ (k : Knowledge) (s : Stands k) where
     record {
       log = record {
         prefix = s.log.prefix;
-        wanted = s.log.wanted;
         in_link = s.log.in_link;
         rising = rising_more 0 (length k.backup.list) k.backup.held_values s.log.rising;
         behind = (let low = held_low in let b = s.log.behind in let e =

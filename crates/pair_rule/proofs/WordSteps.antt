@@ -3,7 +3,7 @@ use Rattle.std.proofs.Common.{◌≡◌, ℕ, zero, suc, ◌+◌, ◌%◌, ◌^�
 use mathlib.Core.Option.{some}
 use lib.ListN.{get_elem?}
 use prog.Atomic.{either}
-use Rattle.pair_rule.proofs.Words.{Allows, Backup, BackupView, Carried, Core, CountedBy, Entry, Facts, Fits, Homes, Knowledge, Log, Mailbox, MayAppend, Mine, Moment, Named, Packet, Payload, PlainRun, PlainStep, Primary, PrimaryView, Rule, Stands, Terminal, TerminalView, Who, Whole, accepted_after, accepted_with, appended, appends, arrives, backup_asked, byte_arrived, carried_after, contests_backup, contests_primary, counts, counts_at, has, held, holds_entries, keeps, last_or, primary_asked, saw, saw_count, sees, sees_count, sees_count_at, winner_after, winner_of, with_core, with_entry, with_known, words_of}
+use Rattle.pair_rule.proofs.Words.{Allows, Backup, BackupView, Core, CountedBy, Facts, Fits, Homes, Knowledge, Log, Mailbox, MayAppend, Mine, Moment, Packet, Payload, PlainRun, PlainStep, Primary, PrimaryView, Rule, SeatView, Stands, Terminal, TerminalView, Who, accepted_after, accepted_with, appended, appends, arrives, backup_asked, byte_arrived, carried_after, contests_backup, contests_primary, counts, counts_at, has, held, holds_entries, keeps, last_or, primary_asked, saw, saw_count, sees, sees_count, sees_count_at, winner_after, winner_of, with_core, with_entry, with_known, words_of}
 use Rattle.pair_rule.specs.Histories as plain
 use Rattle.pair_rule.proofs.Histories.{asks_same, may_append}
 use Rattle.pair_rule.proofs.Parts.{Local, on_part, owned_known, steps}
@@ -20,7 +20,7 @@ knows_facts : (g : ℕ) (boxes : List ℕ) (homes : Homes) (c : Core) (n : Who) 
 knows_facts g boxes homes c n turn l stands fits counted ran f = record {
   generation = l.generation c.known ∙ f.generation;
   sized = (owned_known n turn l).sized c f.sized;
-  eight = f.eight;
+  six = f.six;
   laid = f.laid;
   boxed = f.boxed;
   fitting = λ b z e. last_fits z.last (Fits b c.known) (Fits b (turn c.known)) (fits b) (f.fitting b z e);
@@ -66,33 +66,24 @@ module _ (g : ℕ) (s : Table) (r : Rule g s) (id : ℕ) (me : Mine) (at : get_e
     tells,
   )
 
-pub append_allowed : (g n id : ℕ) (me : Mine) (h : ℕ) (p : Packet) (e : Entry) → p.carried ≡ Whole e → has me.0 Primary
-    → me.1 ≡ (h, Some (Log p)) ∷ []
+pub append_allowed : (g n id : ℕ) (me : Mine) (h : ℕ) (p : Packet) → has me.0 Primary → me.1 ≡ (h, Some (Log p)) ∷ []
     → length me.0.core.known.primary.list < 2 ^ 62 → MayAppend me.0.core.known
     → Allows (Rule g) n id me 0 (λ x. (x + 1) % 2 ^ 64) (appends me)
-append_allowed g n id me h p e whole mine holds few may s r deep at _ =
+append_allowed g n id me h p mine holds few may s r deep at _ =
     let k : Knowledge = r.core.known in let same : me.0.core.known.primary ≡ k.primary =
-    (own g s r id me.0 at Primary mine).known in let st = append_stays k r.facts.stands e in
+    (own g s r id me.0 at Primary mine).known in let st = append_stays k r.facts.stands p.entry in
     let long : length me.0.core.known.primary.list ≡ length k.primary.list = ap (λ (z : PrimaryView). length z.list) same in
-    let count : (length k.primary.list + 1) % 2 ^ 64 ≡ length (k.primary.list ++ e ∷ []) =
-    omega (arith, length-append k.primary.list (e ∷ [])) in
-    word_goes g s r id me at Primary 0 (λ x. (x + 1) % 2 ^ 64) (appends me) (appended e) mine
-    (on_part Primary (with_entry e)) st.0 st.1 r.facts.counted (plain.Appends e (may_append me.0.core.known k same may))
+    let count : (length k.primary.list + 1) % 2 ^ 64 ≡ length (k.primary.list ++ p.entry ∷ []) =
+    omega (arith, length-append k.primary.list (p.entry ∷ [])) in
+    word_goes g s r id me at Primary 0 (λ x. (x + 1) % 2 ^ 64) (appends me) (appended p.entry) mine
+    (on_part Primary (with_entry p.entry)) st.0 st.1 r.facts.counted (plain.Appends p.entry (may_append me.0.core.known k same may))
     (λ i. count i ∷ last_or 0 k.backup.held_values ∷ winner_of k.primary.winner k.backup.winner
-    ∷ accepted_after 0 k.terminal.arrivals0 ∷ accepted_after 0 k.terminal.arrivals1 ∷ r.boxes) (
-      sym long,
-      refl,
-      λ y q d whole' has'. ap (λ x. with_core me.0 (with_known (appended x) me.0.core))
-          (ap entry_in (sym whole) ∙ ap load_in (same_load me.1 h y (Log p) (Log q) holds has') ∙ ap entry_in whole'),
-    )
+    ∷ accepted_after 0 k.terminal.arrivals0 ∷ accepted_after 0 k.terminal.arrivals1 ∷ r.boxes)
+    (sym long, refl, λ y q has'. ap (λ (z : Payload). append_as z) (same_load me.1 h y (Log p) (Log q) holds has'))
   where
-    entry_in : Carried → Entry
-    entry_in (Whole x) = x
-    entry_in (Named t) = e
-
-    load_in : Payload → Entry
-    load_in (Log q) = entry_in q.carried
-    load_in _ = e
+    append_as : Payload → SeatView
+    append_as (Log q) = with_core me.0 (with_known (appended q.entry) me.0.core)
+    append_as _ = me.0
 
 pub see_allowed : (g n id : ℕ) (me : Mine) → me.0.core.known.primary.winner ≡ 0 → has me.0 Primary → Allows (Rule g) n id me 1 (λ x. x) (sees me)
 see_allowed g n id me none mine s r deep at _ =

@@ -43,23 +43,20 @@ pub use Rattle.pair_rule.specs.Boxes.{Backup, Boxed, Boxes, Disk, Homes, Laid, L
 pub use Rattle.pair_rule.specs.Histories.{AsksNot, IsReply, MayAppend, MayPut, PlainRun, PlainStep}
 pub use Rattle.pair_rule.specs.Kinds.{Emptied, Filled, Mine, Swapped, WasIn, appends, contests_backup, contests_primary, counted_at, counts, counts_at, emptied, empties, filled, fills, found_empty, gives_last_slot, holds_entries, know_of, mixed, nobody, only, part_of, sees, sees_count, sees_count_at, side_at, spent_view, takes_first_slot, which, with_core, with_known, with_part, with_slot, without}
 pub use Rattle.shared_disk.specs.Arrivals.{read_address}
-pub use Rattle.pair_rule.specs.Knowledge.{Agrees, AgreesOf, AllAre, CanFill, Carries, Decided, Finds, FirstsAgree, FirstsAgreeOf, Fits, HasWrite, IsAsked, IsByteOf, IsEntryOf, IsNext, IsReplied, PortStands, Replies, Rising, Stands, StartsWith, WasRead, WhereSome, accepted_after, accepted_at, accepted_with, after_empty, after_fill, after_sector, appended, arrives, backup_asked, byte_arrived, completed, grown, held, is_of, last_or, longer_by, named_by, primary_asked, put_by, saw, saw_count, sector_entry, wanted_then, winner_after, winner_of, with_carried, with_entry, with_release, with_request, words_of}
-pub use Rattle.pair_rule.specs.Law.{AnswersLookup, AnswersRead, AppendEvents, Appends, Arrives, AsksRead, BackupLoses, BackupWins, Completes, CountsNone, EventsOf, HasAnswer, HasLonger, HasPort, HasRun, Holds, IsCovered, IsTold, Keeps, LeadsFaithfully, Misses, PrimaryLoses, PrimaryWins, Puts, Releases, Runnable, SeeEvents, Sees, SeesCount, SilentStep, SilentStepsShow, StartsShown, StepsAreEvents, StepsAreFaithful, Takes, TakesByte0, TakesByte1, TakesLookup, TakesRequest, ThreadStep, Wants, typed_at, with_released}
+pub use Rattle.pair_rule.specs.Knowledge.{AllAre, CanFill, Decided, Fits, HasWrite, IsAsked, IsByteOf, IsEntryOf, IsReplied, PortStands, Replies, Rising, Stands, StartsWith, WhereSome, accepted_after, accepted_at, accepted_with, after_empty, after_fill, appended, arrives, backup_asked, byte_arrived, grown, held, last_or, primary_asked, put_by, saw, saw_count, winner_after, winner_of, with_entry, with_release, with_request, words_of}
+pub use Rattle.pair_rule.specs.Law.{AnswersRead, AppendEvents, Appends, Arrives, AsksRead, BackupLoses, BackupWins, CountsNone, EventsOf, HasAnswer, HasLonger, HasPort, HasRun, Holds, IsCovered, IsTold, Keeps, LeadsFaithfully, PrimaryLoses, PrimaryWins, Puts, Releases, Runnable, SeeEvents, Sees, SeesCount, SilentStep, SilentStepsShow, StartsShown, StepsAreEvents, StepsAreFaithful, Takes, TakesByte0, TakesByte1, TakesRequest, ThreadStep, typed_at, with_released}
 pub use Rattle.pair_rule.specs.Rules.{CountedBy, Facts, Has, Moment, Part, Rule, Same, SamePart, Sized, core_of, first_core, first_known, first_view, has, new_side, part, view_of}
-pub use Rattle.pair_rule.specs.Seats.{Empties, Fills, HasSwapsLeft, LeavesRoom, Opened, all_below, entry_by, most_swaps, numbers, with_sector, zeros}
+pub use Rattle.pair_rule.specs.Seats.{Empties, Fills, HasSwapsLeft, LeavesRoom, Opened, all_below, most_swaps, numbers, zeros}
 pub use Rattle.pair_rule.specs.Shown.{First, Happens, IsAcknowledged, IsSentBy, Leads, Nothing, Sent, Shows, ShowsVisible, Visible, arrival_of, backup_node, backup_role, backup_runs, hand_of, notes_from, primary_node, primary_role, primary_runs, terminals_of, visible, winners_of}
-pub use Rattle.pair_rule.specs.Steps.{BackupAsks, CountEvents, EmptyEvents, FillEvents, FindEvents, HasEvents, HasNoEvents, IsStep, PrimaryAsks, Promised, ReadsBoot, Stays, TableEvents, TableStep, TableStepsAreFaithful, TableStepsAreSteps, TakeEvents}
+pub use Rattle.pair_rule.specs.Steps.{BackupAsks, CountEvents, EmptyEvents, FillEvents, HasEvents, HasNoEvents, IsStep, PrimaryAsks, Promised, ReadsBoot, Stays, TableEvents, TableStep, TableStepsAreFaithful, TableStepsAreSteps}
 pub use Rattle.pair_rule.specs.Threads.{AreKept, ByteIsAcknowledged, Goes, IsAnswered, IsShown, KeptStepsAreThreads, ListIsTold, Opens, PortIsTold, PrimaryIsTold, Promises, ThreadRun, ThreadsAreFaithful, bytes_accepted, knew}
 pub use Rattle.pair_rule.specs.declared.mailbox.Mailbox.{Mailbox}
-pub use Rattle.pair_rule.specs.declared.mailbox.Mailbox.TheVariants.{Answers, Bytes0, Bytes1, Inbox, Lookups, Outbox, Requests, Sectors}
-pub use Rattle.pair_rule.specs.declared.payload.Carried.{Carried}
-pub use Rattle.pair_rule.specs.declared.payload.Carried.TheVariants.{Named, Whole}
+pub use Rattle.pair_rule.specs.declared.mailbox.Mailbox.TheVariants.{Answers, Bytes0, Bytes1, Inbox, Outbox, Requests}
 pub use Rattle.pair_rule.specs.declared.payload.DiskAnswer.{DiskAnswer}
 pub use Rattle.pair_rule.specs.declared.payload.DiskRequest.{DiskRequest}
-pub use Rattle.pair_rule.specs.declared.payload.NamedSector.{NamedSector}
 pub use Rattle.pair_rule.specs.declared.payload.Packet.{Packet}
 pub use Rattle.pair_rule.specs.declared.payload.Payload.{Payload}
-pub use Rattle.pair_rule.specs.declared.payload.Payload.TheVariants.{Answer, Log, Lookup, Out, Request, Sector}
+pub use Rattle.pair_rule.specs.declared.payload.Payload.TheVariants.{Answer, Log, Out, Request}
 pub use Rattle.pair_rule.specs.declared.view.Arrived.{Arrived}
 pub use Rattle.pair_rule.specs.declared.view.BackupView.{BackupView}
 pub use Rattle.pair_rule.specs.declared.view.Core.{Core}

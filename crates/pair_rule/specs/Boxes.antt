@@ -4,7 +4,7 @@ use mathlib.Core.Option.{some}
 use mathlib.Core.Option as maybe
 use lib.ListN.{get_elem?}
 use Rattle.pair_rule.specs.declared.mailbox.Mailbox.{Mailbox}
-use Rattle.pair_rule.specs.declared.mailbox.Mailbox.TheVariants.{Outbox, Inbox, Bytes0, Bytes1, Requests, Answers, Lookups, Sectors}
+use Rattle.pair_rule.specs.declared.mailbox.Mailbox.TheVariants.{Outbox, Inbox, Bytes0, Bytes1, Requests, Answers}
 use Rattle.pair_rule.specs.declared.payload.Payload.{Payload}
 use Rattle.pair_rule.specs.declared.view.Side.{Side}
 
@@ -39,8 +39,6 @@ box_index Bytes0 = 2
 box_index Bytes1 = 3
 box_index Requests = 4
 box_index Answers = 5
-box_index Lookups = 6
-box_index Sectors = 7
 
 -- the box of a port's bytes
 abbrev pub port_box : ℕ → Mailbox
@@ -67,8 +65,6 @@ filler Bytes0 = Primary
 filler Bytes1 = Primary
 filler Requests = Primary
 filler Answers = Disk
-filler Lookups = Backup
-filler Sectors = Disk
 
 abbrev pub emptier : Mailbox → Who
 emptier Outbox = Link
@@ -77,8 +73,6 @@ emptier Bytes0 = Terminal
 emptier Bytes1 = Terminal
 emptier Requests = Disk
 emptier Answers = Primary
-emptier Lookups = Disk
-emptier Sectors = Backup
 
 -- a full word has the filler's number, which is above what the emptier has met; an empty word has the emptier's number
 module _ (word : ℕ) (homes : Homes) (fill empty : Side) where

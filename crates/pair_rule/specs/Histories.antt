@@ -4,12 +4,12 @@ use Rattle.std.specs.Prelude.{◌≡◌, ℕ, ◌+◌, ◌<◌, [], length, None
 use Rattle.log_entry.specs.declared.entry.Entry.{Entry}
 use Rattle.pair_protocol.specs.Lawful.{top}
 use Rattle.pair_rule.specs.declared.mailbox.Mailbox.{Mailbox}
-use Rattle.pair_rule.specs.declared.mailbox.Mailbox.TheVariants.{Answers, Sectors}
+use Rattle.pair_rule.specs.declared.mailbox.Mailbox.TheVariants.{Answers}
 use Rattle.pair_rule.specs.declared.payload.Payload.{Payload}
-use Rattle.pair_rule.specs.declared.payload.Payload.TheVariants.{Answer, Sector}
+use Rattle.pair_rule.specs.declared.payload.Payload.TheVariants.{Answer}
 use Rattle.pair_rule.specs.declared.view.Knowledge.{Knowledge}
 use Rattle.pair_rule.specs.Boxes.{Who, Primary, Backup, filler, emptier}
-use Rattle.pair_rule.specs.Knowledge.{CanFill, Finds, FirstsAgree, FirstsAgreeOf, Fits, Replies, accepted_at, after_empty, after_fill, appended, backup_asked, byte_arrived, held, last_or, primary_asked, saw, saw_count, winner_of}
+use Rattle.pair_rule.specs.Knowledge.{CanFill, Fits, Replies, accepted_at, after_empty, after_fill, appended, backup_asked, byte_arrived, held, last_or, primary_asked, saw, saw_count, winner_of}
 
 -- what is known at the start
 abbrev pub first_known : ℕ → Knowledge
@@ -28,9 +28,9 @@ first_known g = record {
         calls = [];
       };
   link = None;
-  backup = record { list = []; wanted = None; held_values = []; winner = 0 };
+  backup = record { list = []; held_values = []; winner = 0 };
   terminal = record { arrivals0 = []; arrivals1 = []; hand0 = None; hand1 = None };
-  disk = record { taken = None; takes = 0; puts = []; given = []; sought = None; found = [] };
+  disk = record { taken = None; takes = 0; puts = []; given = [] };
 }
 
 -- a seat that has asked the arbiter makes no further step
@@ -45,11 +45,9 @@ pub record MayAppend (k : Knowledge) : Type 0 where
   pub few : length k.primary.list < top
   pub room : length k.primary.list < k.primary.seen + 256
 
--- a seat fills a box only before it has asked, and the disk only with an answer to the request or the lookup that it took
--- last; a sector that no write has changed has the same bytes each time
+-- a seat fills a box only before it has asked, and the disk only with an answer to the request that it took last
 abbrev pub IsReply : Mailbox → Knowledge → Payload → Type 0
-IsReply Answers k (Answer a) = Replies k.disk a × FirstsAgreeOf k.disk a
-IsReply Sectors k (Sector r) = Finds k.disk r × FirstsAgree k.disk r
+IsReply Answers k (Answer a) = Replies k.disk a
 IsReply _ k _ = Unit {0}
 
 pub record MayPut (b : Mailbox) (k : Knowledge) (q : Payload) : Type 0 where

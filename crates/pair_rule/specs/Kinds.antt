@@ -4,7 +4,7 @@ use mathlib.Core.Option.{some}
 use lib.ListN.{get_elem?}
 use Rattle.atomic_table.specs.Table.{Me, rest}
 use Rattle.pair_rule.specs.declared.mailbox.Mailbox.{Mailbox}
-use Rattle.pair_rule.specs.declared.mailbox.Mailbox.TheVariants.{Outbox, Inbox, Bytes0, Bytes1, Requests, Answers, Lookups, Sectors}
+use Rattle.pair_rule.specs.declared.mailbox.Mailbox.TheVariants.{Outbox, Inbox, Bytes0, Bytes1, Requests, Answers}
 use Rattle.pair_rule.specs.declared.payload.Payload.{Payload}
 use Rattle.pair_rule.specs.declared.view.Side.{Side}
 use Rattle.pair_rule.specs.declared.view.Knowledge.{Knowledge}
@@ -12,8 +12,6 @@ use Rattle.pair_rule.specs.declared.view.Core.{Core}
 use Rattle.pair_rule.specs.declared.view.SeatView.{SeatView}
 use Rattle.pair_rule.specs.Boxes.{box_index, Who, Primary, Link, Backup, Terminal, Disk, seat_index, slot_of, is_full, number_of, filler, emptier, filler_met, side}
 use Rattle.pair_rule.specs.declared.payload.Packet.{Packet}
-use Rattle.pair_rule.specs.declared.payload.Carried.TheVariants.{Whole}
-use Rattle.log_entry.specs.declared.entry.Entry.{Entry}
 use Rattle.pair_rule.specs.declared.payload.Payload.TheVariants.{Log}
 use Rattle.pair_rule.specs.Knowledge.{Fits, accepted_at, last_or, winner_of, after_fill, after_empty, appended, saw, held, primary_asked, backup_asked, byte_arrived, saw_count}
 pub use Rattle.pair_rule.specs.Knowledge.{counted_at}
@@ -61,7 +59,7 @@ with_core v c = record v { core = c }
 
 -- after a swap with a word the seat has the slot that the word named
 abbrev pub Swapped : ℕ → Mine → Type 0
-Swapped r n = (x : Option Payload) × (n.1 ≡ (slot_of r, x) ∷ []) × (slot_of r < 13)
+Swapped r n = (x : Option Payload) × (n.1 ≡ (slot_of r, x) ∷ []) × (slot_of r < 11)
 
 -- the payload is the one in the seat's slot
 abbrev pub Filled : Mailbox → Mine → ℕ → Mine → Type 0
@@ -92,8 +90,7 @@ empties word m r n = (b : Mailbox) → word ≡ 5 + box_index b → Swapped r n 
 abbrev pub appends : Mine → ℕ → Mine → Type 0
 appends m r n =
     (r ≡ length m.0.core.known.primary.list) × (n.1 ≡ m.1)
-    × ((h : ℕ) (p : Packet) (e : Entry) → p.carried ≡ Whole e → m.1 ≡ (h, Some (Log p)) ∷ [] →
-    n.0 ≡ with_core m.0 (with_known (appended e) m.0.core))
+    × ((h : ℕ) (p : Packet) → m.1 ≡ (h, Some (Log p)) ∷ [] → n.0 ≡ with_core m.0 (with_known (appended p.entry) m.0.core))
 
 -- at the moment of the step the number was the last one acknowledged
 abbrev pub WasHeld : Knowledge → ℕ → Type 0
@@ -174,12 +171,11 @@ which false a b = b
 abbrev pub pick : (Mailbox → Who) → Who → List Side → List Side → Mailbox → Side
 pick who s own rest b = which (seat_index (who b) == seat_index s) (side_at own (box_index b)) (side_at rest (box_index b))
 
--- all eight sides
+-- all six sides
 abbrev pub mixed : (Mailbox → Who) → Who → List Side → List Side → List Side
 mixed who s own rest =
     pick who s own rest Outbox ∷ pick who s own rest Inbox ∷ pick who s own rest Bytes0 ∷ pick who s own rest Bytes1
-    ∷ pick who s own rest Requests ∷ pick who s own rest Answers ∷ pick who s own rest Lookups
-    ∷ pick who s own rest Sectors ∷ []
+    ∷ pick who s own rest Requests ∷ pick who s own rest Answers ∷ []
 
 -- what is known, with one seat's part from another
 abbrev pub know_of : Who → Knowledge → Knowledge → Knowledge

@@ -1,29 +1,24 @@
 -- What the seats know together, what holds of it, and how each step changes it.
-use Rattle.std.specs.Prelude.{◌≡◌, ◌≢◌, ◌⊎◌, ℕ, zero, suc, ◌+◌, ◌<◌, ◌≤◌, ◌==◌, ◌&&◌, cond, Bool, List, [], ◌∷◌, ◌++◌, length, Option, Some, None}
+use Rattle.std.specs.Prelude.{◌≡◌, ◌≢◌, ◌⊎◌, ℕ, zero, suc, ◌+◌, ◌<◌, ◌≤◌, ◌==◌, cond, List, [], ◌∷◌, ◌++◌, length, Option, Some, None}
 use mathlib.Core.Option.{some}
 use lib.ListN.{get_elem?}
 use Rattle.disk_dcdd.specs.declared.sector.SectorWrite.{SectorWrite}
 use Rattle.event_callbacks.specs.declared.operations.Operation.{Operation}
 use Rattle.event_callbacks.specs.declared.operations.Operation.TheVariants.{Byte, Write}
 use Rattle.log_entry.specs.declared.entry.Entry.{Entry}
-use Rattle.log_entry.specs.declared.entry.Entry.TheVariants as entry
 use Rattle.pair_protocol.specs.Lawful.{Among}
 use Rattle.pair_rule.specs.declared.mailbox.Mailbox.{Mailbox}
-use Rattle.pair_rule.specs.declared.mailbox.Mailbox.TheVariants.{Outbox, Inbox, Bytes0, Bytes1, Requests, Answers, Lookups, Sectors}
-use Rattle.pair_rule.specs.declared.payload.Carried.{Carried}
-use Rattle.pair_rule.specs.declared.payload.Carried.TheVariants.{Whole, Named}
-use Rattle.pair_rule.specs.declared.payload.NamedSector.{NamedSector}
+use Rattle.pair_rule.specs.declared.mailbox.Mailbox.TheVariants.{Outbox, Inbox, Bytes0, Bytes1, Requests, Answers}
 use Rattle.pair_rule.specs.declared.payload.Packet.{Packet}
 use Rattle.pair_rule.specs.declared.payload.Payload.{Payload}
-use Rattle.pair_rule.specs.declared.payload.Payload.TheVariants.{Log, Out, Request, Answer, Lookup, Sector}
+use Rattle.pair_rule.specs.declared.payload.Payload.TheVariants.{Log, Out, Request, Answer}
 use Rattle.pair_rule.specs.declared.payload.DiskRequest.{DiskRequest}
 use Rattle.pair_rule.specs.declared.payload.DiskRequest.TheVariants as ask
 use Rattle.pair_rule.specs.declared.payload.DiskAnswer.{DiskAnswer}
 use Rattle.pair_rule.specs.declared.payload.DiskAnswer.TheVariants as answer
-use Rattle.disk_dcdd.specs.Address.{address_of, same_address}
+use Rattle.disk_dcdd.specs.Address.{address_of}
 use Rattle.disk_dcdd.specs.declared.address.SectorAddress.{SectorAddress}
 use Rattle.shared_disk.specs.Arrivals.{read_address}
-use Rattle.shared_disk.specs.declared.disk.SectorRead.{SectorRead}
 use Rattle.pair_rule.specs.declared.view.Arrived.{Arrived}
 use Rattle.pair_rule.specs.declared.view.BackupView.{BackupView}
 use Rattle.pair_rule.specs.declared.view.DiskView.{DiskView}
@@ -68,29 +63,9 @@ words_of k =
 
 -- ---- what holds
 
--- the entry of a sector that was taken at this count
-abbrev pub sector_entry : ℕ → SectorRead → Entry
-sector_entry count r = entry.Sector count r.drive r.sector r.number r.bytes
-
--- whether the sector is the one that was named
-abbrev pub is_of : SectorRead → NamedSector → Bool
-is_of r t = same_address (read_address r) t.address && r.number == t.number
-
--- what a packet carries is this entry: all of it, or the name of a sector that the disk answered
-abbrev pub Carries : List DiskAnswer → Carried → Entry → Type 0
-Carries given (Whole x) e = e ≡ x
-Carries given (Named t) e =
-    (r : SectorRead) × Among (answer.Read r) given × (read_address r ≡ t.address) × (r.number ≡ t.number)
-    × (e ≡ sector_entry t.count r)
-
 -- the packet is that entry of the primary's list
-abbrev pub IsEntryOf : ℕ → List Entry → List DiskAnswer → Packet → Type 0
-IsEntryOf g list given p =
-    (p.generation ≡ g) × ((e : Entry) × (get_elem? list p.index ≡ some e) × Carries given p.carried e)
-
--- the sector is the entry of the primary's list that comes next after the copy
-abbrev pub IsNext : List Entry → List DiskAnswer → List Entry → NamedSector → Type 0
-IsNext list given copy t = (e : Entry) × (get_elem? list (length copy) ≡ some e) × Carries given (Named t) e
+abbrev pub IsEntryOf : ℕ → List Entry → Packet → Type 0
+IsEntryOf g list p = (p.generation ≡ g) × (get_elem? list p.index ≡ some p.entry)
 
 -- the list begins with the copy
 abbrev pub StartsWith : List Entry → List Entry → Type 0
@@ -111,20 +86,18 @@ abbrev pub IsAsked : List Operation → DiskRequest → Type 0
 IsAsked released (ask.Write w) = Among (Write w) released
 IsAsked released (ask.Read a) = Unit {0}
 
--- what may lie in a box, by the primary's list, what it released, and what the disk answered and found
-abbrev pub MayLie : Mailbox → ℕ → List Entry → List Operation → List DiskAnswer → List SectorRead → Payload → Type 0
-MayLie Outbox g list released given found (Log p) = IsEntryOf g list given p
-MayLie Inbox g list released given found (Log p) = IsEntryOf g list given p
-MayLie Bytes0 g list released given found (Out o) = IsByteOf 0 released o
-MayLie Bytes1 g list released given found (Out o) = IsByteOf 1 released o
-MayLie Requests g list released given found (Request r) = IsAsked released r
-MayLie Answers g list released given found (Answer a) = Among a given
-MayLie Lookups g list released given found (Lookup a) = Unit {0}
-MayLie Sectors g list released given found (Sector r) = Among r found
-MayLie _ g list released given found _ = ⊥
+-- what may lie in a box, by the primary's list, what it released, and what the disk answered
+abbrev pub MayLie : Mailbox → ℕ → List Entry → List Operation → List DiskAnswer → Payload → Type 0
+MayLie Outbox g list released given (Log p) = IsEntryOf g list p
+MayLie Inbox g list released given (Log p) = IsEntryOf g list p
+MayLie Bytes0 g list released given (Out o) = IsByteOf 0 released o
+MayLie Bytes1 g list released given (Out o) = IsByteOf 1 released o
+MayLie Requests g list released given (Request r) = IsAsked released r
+MayLie Answers g list released given (Answer a) = Among a given
+MayLie _ g list released given _ = ⊥
 
 abbrev pub Fits : Mailbox → Knowledge → Payload → Type 0
-Fits b k x = MayLie b k.generation k.primary.list k.primary.released k.disk.given k.disk.found x
+Fits b k x = MayLie b k.generation k.primary.list k.primary.released k.disk.given x
 
 -- it holds of the value, if there is one
 abbrev pub WhereSome : {A : Type 0} → Option A → (A → Type 0) → Type 0
@@ -154,34 +127,11 @@ IsReplied puts (answer.Written n) = HasWrite puts n
 IsReplied puts (answer.Read r) = (r.number ≡ 0) ⊎
     ((w : SectorWrite) × Among w puts × (address_of w ≡ read_address r) × (w.number ≡ r.number) × (w.bytes ≡ r.bytes))
 
--- the disk read this sector: for the primary, or for the backup
-abbrev pub WasRead : DiskView → SectorRead → Type 0
-WasRead d r = Among (answer.Read r) d.given ⊎ Among r d.found
-
--- each time that the disk read this write of this sector it had these bytes
-abbrev pub Agrees : DiskView → SectorRead → Type 0
-Agrees d r = (s : SectorRead) → WasRead d s → read_address s ≡ read_address r → s.number ≡ r.number → s.bytes ≡ r.bytes
-
-abbrev pub AgreesOf : DiskView → DiskAnswer → Type 0
-AgreesOf d (answer.Written n) = Unit {0}
-AgreesOf d (answer.Read r) = Agrees d r
-
--- the same for a sector that no write has changed
-abbrev pub FirstsAgree : DiskView → SectorRead → Type 0
-FirstsAgree d r =
-    (s : SectorRead) → WasRead d s → read_address s ≡ read_address r → s.number ≡ 0 → r.number ≡ 0 → s.bytes ≡ r.bytes
-
-abbrev pub FirstsAgreeOf : DiskView → DiskAnswer → Type 0
-FirstsAgreeOf d (answer.Written n) = Unit {0}
-FirstsAgreeOf d (answer.Read r) = FirstsAgree d r
-
--- the primary's list: the backup's copy, the sector that it wants next, the packet in the link, what is acknowledged, and
--- what the primary saw of it
-pub record ListStands (generation : ℕ) (list : List Entry) (given : List DiskAnswer) (link : Option Packet)
-    (copy : List Entry) (next : Option NamedSector) (held_values : List ℕ) (seen : ℕ) : Type 0 where
+-- the primary's list: the backup's copy, the packet in the link, what is acknowledged, and what the primary saw of it
+pub record ListStands (generation : ℕ) (list : List Entry) (link : Option Packet) (copy : List Entry)
+    (held_values : List ℕ) (seen : ℕ) : Type 0 where
   pub prefix : StartsWith list copy
-  pub wanted : WhereSome next (IsNext list given copy)
-  pub in_link : WhereSome link (IsEntryOf generation list given)
+  pub in_link : WhereSome link (IsEntryOf generation list)
   pub rising : Rising 0 (length copy) held_values
   pub behind : seen ≤ last_or 0 held_values
   pub once : (seen ≡ 0) ⊎ Among seen held_values
@@ -193,19 +143,16 @@ pub record PortStands (port : ℕ) (released : List Operation) (counted : ℕ) (
   pub in_hand : WhereSome hand (IsByteOf port released)
   pub arrived : AllAre arrivals (λ a. Among (Byte port a.number a.byte) released)
 
--- the disk: what it took and put was released, each answer that the primary has is one of its answers, and what it read of
--- one write of one sector is always the same
+-- the disk: what it took and put was released, and each answer that the primary has is one of its answers
 pub record DiskStands (released : List Operation) (had : List DiskAnswer) (disk : DiskView) : Type 0 where
   pub taken : WhereSome disk.taken (IsAsked released)
   pub puts : AllAre disk.puts (λ w. Among (Write w) released)
   pub answers : AllAre had (λ a. Among a disk.given)
   pub replies : AllAre disk.given (IsReplied disk.puts)
-  pub agree : (r : SectorRead) → WasRead disk r → Agrees disk r
 
 -- what holds of all that the seats know
 pub record Stands (k : Knowledge) : Type 0 where
-  pub log : ListStands k.generation k.primary.list k.disk.given k.link k.backup.list k.backup.wanted k.backup.held_values
-      k.primary.seen
+  pub log : ListStands k.generation k.primary.list k.link k.backup.list k.backup.held_values k.primary.seen
   pub decided : Decided k.primary.winner k.backup.winner
   pub port0 : PortStands 0 k.primary.released k.primary.counted0 k.terminal.hand0 k.terminal.arrivals0
   pub port1 : PortStands 1 k.primary.released k.primary.counted1 k.terminal.hand1 k.terminal.arrivals1
@@ -213,42 +160,9 @@ pub record Stands (k : Knowledge) : Type 0 where
 
 -- ---- how each step changes what is known
 
--- a list after what the next packet carries: longer by an entry; a sector that is only named is wanted then
-abbrev pub with_carried : List Entry → Carried → List Entry
-with_carried list (Whole e) = list ++ e ∷ []
-with_carried list (Named t) = list
-
-abbrev pub named_by : Carried → Option NamedSector
-named_by (Whole e) = None
-named_by (Named t) = Some t
-
--- the backup after a packet: only the next one changes anything
+-- the backup after a packet: its list is longer if the packet is the next one
 abbrev pub grown : BackupView → Packet → BackupView
-grown b p = record b {
-  list = cond (p.index == length b.list) (with_carried b.list p.carried) b.list;
-  wanted = cond (p.index == length b.list) (named_by p.carried) b.wanted;
-}
-
--- the entry that a sector completes, if it is the one that is wanted
-abbrev pub completed : Option NamedSector → SectorRead → Option Entry
-completed None r = None
-completed (Some t) r = cond (is_of r t) (Some (sector_entry t.count r)) None
-
--- a list with one entry more, or none; what is wanted then
-abbrev pub longer_by : List Entry → Option Entry → List Entry
-longer_by list None = list
-longer_by list (Some e) = list ++ e ∷ []
-
-abbrev pub wanted_then : Option NamedSector → Option Entry → Option NamedSector
-wanted_then wanted None = wanted
-wanted_then wanted (Some e) = None
-
--- the backup after a sector that it looked up
-abbrev pub after_sector : BackupView → SectorRead → BackupView
-after_sector b r = record b {
-  list = longer_by b.list (completed b.wanted r);
-  wanted = wanted_then b.wanted (completed b.wanted r);
-}
+grown b p = record b { list = cond (p.index == length b.list) (b.list ++ p.entry ∷ []) b.list }
 
 -- a write that is answered was put there
 abbrev pub put_by : Option DiskRequest → List SectorWrite → List SectorWrite
@@ -298,7 +212,6 @@ after_fill Answers (Answer a) k = record k {
     given = k.disk.given ++ a ∷ [];
   };
 }
-after_fill Sectors (Sector r) k = record k { disk = record k.disk { found = k.disk.found ++ r ∷ [] } }
 after_fill _ _ k = k
 
 -- what the seat that empties a box knows then
@@ -309,8 +222,6 @@ after_empty Bytes0 (Out o) k = record k { terminal = record k.terminal { hand0 =
 after_empty Bytes1 (Out o) k = record k { terminal = record k.terminal { hand1 = Some o } }
 after_empty Requests (Request r) k = record k { disk = record k.disk { taken = Some r; takes = k.disk.takes + 1 } }
 after_empty Answers (Answer a) k = record k { primary = record k.primary { answers = k.primary.answers ++ a ∷ [] } }
-after_empty Lookups (Lookup a) k = record k { disk = record k.disk { sought = Some a } }
-after_empty Sectors (Sector r) k = record k { backup = after_sector k.backup r }
 after_empty _ _ k = k
 
 -- the list, what was seen, and what is acknowledged grow
@@ -353,14 +264,12 @@ saw_count (suc port) n k = record k { primary = record k.primary { counted1 = n 
 
 -- what may be put into a box
 abbrev pub CanFill : Mailbox → Knowledge → Payload → Type 0
-CanFill Outbox k (Log p) = IsEntryOf k.generation k.primary.list k.primary.answers p
+CanFill Outbox k (Log p) = IsEntryOf k.generation k.primary.list p
 CanFill Inbox k (Log p) = k.link ≡ Some p
 CanFill Bytes0 k (Out (Byte to number byte)) = to ≡ 0
 CanFill Bytes1 k (Out (Byte to number byte)) = to ≡ 1
 CanFill Requests k (Request r) = Unit {0}
 CanFill Answers k (Answer a) = IsReplied (put_by k.disk.taken k.disk.puts) a
-CanFill Lookups k (Lookup a) = Unit {0}
-CanFill Sectors k (Sector r) = Unit {0}
 CanFill _ k _ = ⊥
 
 -- it is the answer to the request that was taken last: for a read what the greatest answered write there left, or the
@@ -371,12 +280,6 @@ Replies d (answer.Read r) =
     (a : SectorAddress) × (d.taken ≡ Some (ask.Read a))
     × (a ≡ record { drive = r.drive; track = r.track; sector = r.sector })
     × (latest (record { number = 0; bytes = r.bytes }) d.puts a ≡ record { number = r.number; bytes = r.bytes })
-
--- it is what the disk has of the sector that was looked up last
-abbrev pub Finds : DiskView → SectorRead → Type 0
-Finds d r =
-    (d.sought ≡ Some (read_address r))
-    × (latest (record { number = 0; bytes = r.bytes }) d.puts (read_address r) ≡ record { number = r.number; bytes = r.bytes })
 
 -- the number that the terminal writes is the number accepted with the byte in hand
 abbrev pub accepted_with : ℕ → Knowledge → ℕ

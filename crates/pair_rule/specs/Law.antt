@@ -1,6 +1,4 @@
 -- The law: each step of the threads is events of the world that the core shows, or none.
-use mathlib.Core.Option.{some}
-use lib.ListN.{get_elem?}
 use Rattle.std.specs.Prelude.{◌≡◌, ℕ, zero, suc, ◌<◌, ◌≤◌, true, Some, None, List, [], ◌∷◌, ◌++◌, length}
 use Rattle.disk_dcdd.specs.declared.address.SectorAddress.{SectorAddress}
 use Rattle.disk_dcdd.specs.declared.sector.SectorWrite.{SectorWrite}
@@ -27,19 +25,16 @@ use Rattle.pair_protocol.specs.Grows.{Grows}
 use Rattle.pair_protocol.specs.Lawful.{Among, Lawful}
 use Rattle.pair_protocol.specs.Node.{note_of, covers}
 use Rattle.pair_protocol.specs.World.{World, opening}
-use Rattle.pair_rule.specs.declared.mailbox.Mailbox.TheVariants.{Outbox, Inbox, Bytes0, Bytes1, Requests, Answers, Lookups, Sectors}
+use Rattle.pair_rule.specs.declared.mailbox.Mailbox.TheVariants.{Outbox, Inbox, Bytes0, Bytes1, Requests, Answers}
 use Rattle.pair_rule.specs.declared.payload.DiskAnswer.{DiskAnswer}
 use Rattle.pair_rule.specs.declared.payload.DiskAnswer.TheVariants as answer
 use Rattle.pair_rule.specs.declared.payload.DiskRequest.{DiskRequest}
 use Rattle.pair_rule.specs.declared.payload.DiskRequest.TheVariants as ask
-use Rattle.pair_rule.specs.declared.payload.Carried.TheVariants.{Whole, Named}
-use Rattle.pair_rule.specs.declared.payload.NamedSector.{NamedSector}
 use Rattle.pair_rule.specs.declared.payload.Packet.{Packet}
-use Rattle.pair_rule.specs.declared.payload.Payload.TheVariants as payload
-use Rattle.pair_rule.specs.declared.payload.Payload.TheVariants.{Log, Out, Request, Answer, Lookup}
+use Rattle.pair_rule.specs.declared.payload.Payload.TheVariants.{Log, Out, Request, Answer}
 use Rattle.pair_rule.specs.declared.view.Knowledge.{Knowledge}
 use Rattle.shared_disk.specs.Arrivals.{read_address}
-use Rattle.pair_rule.specs.Knowledge.{completed, counted_at, last_or, Stands, held, saw, saw_count, primary_asked, backup_asked, byte_arrived, appended, after_empty, after_fill, with_release}
+use Rattle.pair_rule.specs.Knowledge.{IsEntryOf, counted_at, last_or, Stands, held, saw, saw_count, primary_asked, backup_asked, byte_arrived, appended, after_empty, after_fill, with_release}
 use Rattle.pair_rule.specs.Histories.{first_known}
 pub use Rattle.pair_rule.specs.Histories.{MayAppend}
 use Rattle.pair_rule.specs.Shown.{notes_from, hand_of, Shows, Leads, Happens}
@@ -107,11 +102,8 @@ pub data ThreadStep {S : Type 0} (M : Machine S) (typed0 typed1 : List ℕ) (k :
       IsTold M typed0 typed1 k run.before e → ThreadStep M typed0 typed1 k (appended e k)
   Holds : k.backup.winner ≡ 0 → ThreadStep M typed0 typed1 k (held k)
   Sees : k.primary.winner ≡ 0 → ThreadStep M typed0 typed1 k (saw (last_or 0 k.backup.held_values) k)
-  -- a packet that carries a whole entry of the list, and the sector that completes a named one
-  Takes : (p : Packet) (e : Entry) → k.backup.winner ≡ 0 → p.carried ≡ Whole e → get_elem? k.primary.list p.index ≡ some e →
+  Takes : (p : Packet) → k.backup.winner ≡ 0 → IsEntryOf k.generation k.primary.list p →
       ThreadStep M typed0 typed1 k (after_empty Inbox (Log p) k)
-  Completes : (r : SectorRead) (e : Entry) → k.backup.winner ≡ 0 → completed k.backup.wanted r ≡ Some e →
-      Among r k.disk.found → ThreadStep M typed0 typed1 k (after_empty Sectors (payload.Sector r) k)
   PrimaryWins : k.primary.winner ≡ 0 → k.backup.winner ≡ 0 → ThreadStep M typed0 typed1 k (primary_asked 0 k)
   PrimaryLoses : k.primary.winner ≡ 0 → k.backup.winner ≡ 2 → ThreadStep M typed0 typed1 k (primary_asked 2 k)
   BackupWins : k.primary.winner ≡ 0 → k.backup.winner ≡ 0 → ThreadStep M typed0 typed1 k (backup_asked 0 k)
@@ -145,8 +137,7 @@ abbrev pub EventsOf : {S : Type 0} {M : Machine S} {typed0 typed1 : List ℕ} {k
 EventsOf {k = k} (Appends e run may told) events = AppendEvents (length k.primary.list) e events
 EventsOf (Holds waits) events = events ≡ Acknowledge 1 ∷ []
 EventsOf {k = k} (Sees serves) events = SeeEvents (last_or 0 k.backup.held_values) events
-EventsOf (Takes p e waits whole is) events = (m : ℕ) × (events ≡ DeliverLog m 1 ∷ [])
-EventsOf (Completes r e waits done found) events = (m : ℕ) × (events ≡ DeliverLog m 1 ∷ [])
+EventsOf (Takes p waits is) events = (m : ℕ) × (events ≡ DeliverLog m 1 ∷ [])
 EventsOf (PrimaryWins serves waits) events = events ≡ Suspect 0 ∷ []
 EventsOf (PrimaryLoses serves other) events = events ≡ Suspect 0 ∷ []
 EventsOf (BackupWins serves waits) events = events ≡ Suspect 1 ∷ []
@@ -169,12 +160,6 @@ pub data SilentStep {S : Type 0} (M : Machine S) (k : Knowledge) : Knowledge →
   AnswersRead : (a : SectorAddress) (r : SectorRead) → k.disk.taken ≡ Some (ask.Read a) →
       (r.number ≡ 0 → r.bytes ≡ M.boot_sector (read_address r)) →
       SilentStep M k (after_fill Answers (Answer (answer.Read r)) k)
-  -- a packet that only names its sector, a lookup, what was found, and a sector that is not the wanted one
-  Wants : (p : Packet) (t : NamedSector) → p.carried ≡ Named t → SilentStep M k (after_empty Inbox (Log p) k)
-  TakesLookup : (a : SectorAddress) → SilentStep M k (after_empty Lookups (Lookup a) k)
-  AnswersLookup : (r : SectorRead) → SilentStep M k (after_fill Sectors (payload.Sector r) k)
-  Misses : (r : SectorRead) → completed k.backup.wanted r ≡ None →
-      SilentStep M k (after_empty Sectors (payload.Sector r) k)
 
 -- ---- the laws
 

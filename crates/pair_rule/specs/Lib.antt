@@ -7,7 +7,6 @@ pub mod Shown
 pub mod Law
 pub mod Steps
 pub mod Threads
-pub mod ReadsKept
 -- For who calls the seats: what holds of the table between any two atomic steps, what each step tells, what a seat holds.
 pub mod Rules
 pub mod Kinds

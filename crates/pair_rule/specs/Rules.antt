@@ -46,12 +46,12 @@ pub record Moment (s : Who) (own all : Knowledge) : Type 0 where
   pub generation : own.generation ≡ all.generation
   pub same : SamePart s own all
 
--- five seats and eight boxes
+-- five seats and six boxes
 pub record Sized (c : Core) : Type 0 where
   pub hands : length c.hands ≡ 5
   pub has_slot : length c.has_slot ≡ 5
-  pub fills : length c.fills ≡ 8
-  pub empties : length c.empties ≡ 8
+  pub fills : length c.fills ≡ 6
+  pub empties : length c.empties ≡ 6
 
 -- both have the same of a seat
 pub record Same (s : Who) (c d : Core) : Type 0 where
@@ -80,15 +80,13 @@ new_side = side 0 0 None
 abbrev pub side_at : List Side → ℕ → Side
 side_at sides b = slice_index_or sides b new_side
 
--- since the table began the primary has swapped once for each request, and the disk once for each answer; who takes them
--- has met no fewer swaps than it has taken since then
+-- the primary has swapped once for each request, and the disk once for each answer; who takes them has met no fewer swaps than it
+-- has taken
 pub record Counted (fills empties : List Side) (asked takes given answers : ℕ) : Type 0 where
-  pub asked_before : ℕ
-  pub given_before : ℕ
-  pub asked_is : asked_before + (side_at fills (box_index Requests)).number ≡ asked
-  pub taken : takes ≤ asked_before + (side_at empties (box_index Requests)).met
-  pub given_is : given_before + (side_at fills (box_index Answers)).number ≡ given
-  pub came : answers ≤ given_before + (side_at empties (box_index Answers)).met
+  pub asked_is : (side_at fills (box_index Requests)).number ≡ asked
+  pub taken : takes ≤ (side_at empties (box_index Requests)).met
+  pub given_is : (side_at fills (box_index Answers)).number ≡ given
+  pub came : answers ≤ (side_at empties (box_index Answers)).met
 
 -- so it is by what is known
 abbrev pub CountedBy : List Side → List Side → Knowledge → Type 0
@@ -99,7 +97,7 @@ CountedBy fills empties k =
 pub record Facts (g : ℕ) (boxes : List ℕ) (homes : Homes) (c : Core) : Type 0 where
   pub generation : c.known.generation ≡ g
   pub sized : Sized c
-  pub eight : length boxes ≡ 8
+  pub six : length boxes ≡ 6
   pub laid : Laid boxes c.hands c.has_slot homes
   pub boxed : Boxes boxes homes c.fills c.empties
   pub fitting : (b : Mailbox) (f : Side) → get_elem? c.fills (box_index b) ≡ some f → WhereSome f.last (Fits b c.known)
@@ -119,10 +117,10 @@ pub record Rule (g : ℕ) (s : State (Option Payload) SeatView) : Type 0 where
 -- the core of a new table if this is known, and the view that has all of it
 abbrev pub core_of : Knowledge → Core
 core_of k = record {
-  hands = 8 ∷ 9 ∷ 10 ∷ 11 ∷ 12 ∷ [];
+  hands = 6 ∷ 7 ∷ 8 ∷ 9 ∷ 10 ∷ [];
   has_slot = false ∷ false ∷ false ∷ false ∷ false ∷ [];
-  fills = new_side ∷ new_side ∷ new_side ∷ new_side ∷ new_side ∷ new_side ∷ new_side ∷ new_side ∷ [];
-  empties = new_side ∷ new_side ∷ new_side ∷ new_side ∷ new_side ∷ new_side ∷ new_side ∷ new_side ∷ [];
+  fills = new_side ∷ new_side ∷ new_side ∷ new_side ∷ new_side ∷ new_side ∷ [];
+  empties = new_side ∷ new_side ∷ new_side ∷ new_side ∷ new_side ∷ new_side ∷ [];
   known = k;
 }
 

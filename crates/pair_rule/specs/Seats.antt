@@ -4,15 +4,12 @@ use mathlib.Core.Option.{some}
 use lib.ListN.{get_elem?}
 use Rattle.event_callbacks.specs.declared.operations.Operation.{Operation}
 use Rattle.event_callbacks.specs.declared.operations.Operation.TheVariants.{Byte}
-use Rattle.log_entry.specs.declared.entry.Entry.{Entry}
-use Rattle.shared_disk.specs.declared.disk.SectorRead.{SectorRead}
 use Rattle.i8080_words.specs.declared.refusal.Fault.{Fault}
 use Rattle.i8080_words.specs.declared.refusal.Fault.TheVariants.{LogFull, Spent}
 use Rattle.pair_protocol.specs.Lawful.{top}
 use Rattle.std.specs.List.{list_all}
 use Rattle.pair_rule.specs.declared.mailbox.Mailbox.{Mailbox}
-use Rattle.pair_rule.specs.declared.mailbox.Mailbox.TheVariants.{Inbox, Sectors}
-use Rattle.pair_rule.specs.declared.payload.NamedSector.{NamedSector}
+use Rattle.pair_rule.specs.declared.mailbox.Mailbox.TheVariants.{Inbox}
 use Rattle.pair_rule.specs.declared.payload.Packet.{Packet}
 use Rattle.pair_rule.specs.declared.payload.Payload.{Payload}
 use Rattle.pair_rule.specs.declared.payload.Payload.TheVariants.{Out}
@@ -27,7 +24,7 @@ use Rattle.pair_rule.specs.declared.view.Core.{Core}
 use Rattle.pair_rule.specs.Boxes.{Who, Primary, Link, Backup, Terminal, seat_index, box_index}
 use Rattle.pair_rule.specs.Histories.{PlainRun}
 pub use Rattle.pair_rule.specs.Knowledge.{Replies}
-use Rattle.pair_rule.specs.Knowledge.{grown, after_sector, completed, accepted_after, last_or, winner_of, Stands}
+use Rattle.pair_rule.specs.Knowledge.{grown, accepted_after, last_or, winner_of, Stands}
 use Rattle.atomic_table.specs.Seated.{TableId}
 use Rattle.pair_rule.specs.Rules.{has, Sized, core_of}
 use Rattle.pair_rule.specs.Kinds.{Mine, WasIn, with_slot, nobody, side_at, filled, emptied, found_empty}
@@ -38,7 +35,7 @@ pub record Holds (s : Who) (me : Mine) (slot : ℕ) : Type 0 where
   pub hand : get_elem? me.0.core.hands (seat_index s) ≡ some slot
   pub has_slot : get_elem? me.0.core.has_slot (seat_index s) ≡ some true
   pub one : (x : Option Payload) × (me.1 ≡ (slot, x) ∷ [])
-  pub small : slot < 13
+  pub small : slot < 11
   pub sized : Sized me.0.core
 
 -- the numbers of swaps of sides
@@ -54,7 +51,7 @@ pub record Keeps (s : Who) (me : Mine) (slot : ℕ) (fills empties : List ℕ) :
 
 -- no swaps yet
 abbrev pub zeros : List ℕ
-zeros = 0 ∷ 0 ∷ 0 ∷ 0 ∷ 0 ∷ 0 ∷ 0 ∷ 0 ∷ []
+zeros = 0 ∷ 0 ∷ 0 ∷ 0 ∷ 0 ∷ 0 ∷ []
 
 -- a seat of a new table: it knows what is known when the table begins, and has no slot yet
 pub record IsNew (s : Who) (k : Knowledge) (table id : TableId) (me : Mine) : Type 0 where
@@ -77,12 +74,11 @@ most_swaps = 2 ^ 40
 abbrev pub all_below : List ℕ → Bool
 all_below ns = list_all (λ n. nat_lt n most_swaps) ns
 
--- a seat may swap once more at each of the eight boxes
+-- a seat may swap once more at each of the six boxes
 abbrev pub LeavesRoom : List Side → Type 0
 LeavesRoom sides =
     ((side_at sides 0).number < 2 ^ 40) × ((side_at sides 1).number < 2 ^ 40) × ((side_at sides 2).number < 2 ^ 40)
     × ((side_at sides 3).number < 2 ^ 40) × ((side_at sides 4).number < 2 ^ 40) × ((side_at sides 5).number < 2 ^ 40)
-    × ((side_at sides 6).number < 2 ^ 40) × ((side_at sides 7).number < 2 ^ 40)
 
 -- at every box that it fills or empties
 abbrev pub HasSwapsLeft : Core → Type 0
@@ -114,18 +110,12 @@ pub record IsLink (me : Mine) (slot : ℕ) (fills empties : List ℕ) (hand : Op
   pub keeps : Keeps Link me slot fills empties
   pub hand_is : (p : Packet) → hand ≡ Some p → me.0.core.known.link ≡ Some p
 
--- the numbers that a backup keeps itself are those of its view; since the table began each taking of a packet or a sector
--- has added one entry to the list at most
-pub record IsBackup (me : Mine) (slot : ℕ) (fills empties : List ℕ) (count : ℕ) (next : Option NamedSector) :
-    Type 0 where
+-- the number that a backup keeps itself is that of its view; each taking of a packet has added one entry to the list at most
+pub record IsBackup (me : Mine) (slot : ℕ) (fills empties : List ℕ) (count : ℕ) : Type 0 where
   pub keeps : Keeps Backup me slot fills empties
   pub count_is : count ≡ length me.0.core.known.backup.list
-  pub count_low :
-      count ≤ (side_at me.0.core.empties (box_index Inbox)).number
-      + (side_at me.0.core.empties (box_index Sectors)).number
+  pub count_low : count ≤ (side_at me.0.core.empties (box_index Inbox)).number
   pub few_packets : (side_at me.0.core.empties (box_index Inbox)).number ≤ 2 ^ 40
-  pub few_sectors : (side_at me.0.core.empties (box_index Sectors)).number ≤ 2 ^ 40
-  pub wanted_is : next ≡ me.0.core.known.backup.wanted
 
 -- what the terminals keep themselves is what their view says
 pub record IsTerminal (me : Mine) (slot : ℕ) (fills empties : List ℕ) (hand0 : Option Operation) (accepted0 : ℕ)
@@ -160,19 +150,10 @@ last_at sides b = (side_at sides (box_index b)).last
 abbrev pub byte_of : ℕ → PortByte → Payload
 byte_of port b = Out (Byte port b.number b.byte)
 
--- the backup after a packet arrived, or none; after a sector that it looked up, or none
+-- the backup after a packet arrived, or none
 abbrev pub with_packet : BackupView → Option Packet → BackupView
 with_packet b None = b
 with_packet b (Some p) = grown b p
-
-abbrev pub with_sector : BackupView → Option SectorRead → BackupView
-with_sector b None = b
-with_sector b (Some r) = after_sector b r
-
--- the entry by which the list grows then
-abbrev pub entry_by : Option NamedSector → Option SectorRead → Option Entry
-entry_by wanted None = None
-entry_by wanted (Some r) = completed wanted r
 
 -- it filled a box: it swapped once more there, and this is what it put in last
 abbrev pub Fills : Mailbox → Payload → Core → Core → Type 0

@@ -12,18 +12,16 @@ use Rattle.pair_protocol.specs.Change.{Reached}
 use Rattle.pair_protocol.specs.Copying.{Copying, IsCopying}
 use Rattle.pair_protocol.specs.World.{World}
 use Rattle.pair_rule.specs.declared.mailbox.Mailbox.{Mailbox}
-use Rattle.pair_rule.specs.declared.mailbox.Mailbox.TheVariants.{Inbox, Bytes0, Bytes1, Requests, Answers, Sectors}
-use Rattle.pair_rule.specs.declared.payload.Carried.{Carried}
-use Rattle.pair_rule.specs.declared.payload.Carried.TheVariants.{Whole, Named}
+use Rattle.pair_rule.specs.declared.mailbox.Mailbox.TheVariants.{Inbox, Bytes0, Bytes1, Requests, Answers}
 use Rattle.pair_rule.specs.declared.payload.DiskAnswer.{DiskAnswer}
 use Rattle.pair_rule.specs.declared.payload.DiskAnswer.TheVariants as answer
 use Rattle.pair_rule.specs.declared.payload.DiskRequest.TheVariants as ask
 use Rattle.pair_rule.specs.declared.payload.Payload.{Payload}
-use Rattle.pair_rule.specs.declared.payload.Payload.TheVariants.{Log, Out, Request, Answer, Sector}
+use Rattle.pair_rule.specs.declared.payload.Payload.TheVariants.{Log, Out, Request, Answer}
 use Rattle.pair_rule.specs.declared.view.Knowledge.{Knowledge}
 use Rattle.pair_rule.specs.Boxes.{Primary, Backup, filler, emptier}
 use Rattle.shared_disk.specs.Arrivals.{read_address}
-use Rattle.pair_rule.specs.Knowledge.{Agrees, AgreesOf, CanFill, Finds, Fits, Replies, Stands, accepted_at, after_empty, after_fill, appended, backup_asked, byte_arrived, completed, held, last_or, primary_asked, saw, saw_count, winner_of}
+use Rattle.pair_rule.specs.Knowledge.{CanFill, Fits, Replies, Stands, accepted_at, after_empty, after_fill, appended, backup_asked, byte_arrived, held, last_or, primary_asked, saw, saw_count, winner_of}
 use Rattle.pair_rule.specs.Law.{AppendEvents, EventsOf, HasLonger, HasRun, IsCovered, IsTold, LeadsFaithfully, MayAppend, Runnable, SeeEvents, SilentStep, ThreadStep}
 use Rattle.pair_rule.specs.Shown.{Shows, hand_of}
 pub use Rattle.pair_rule.specs.Histories.{AsksNot}
@@ -42,8 +40,7 @@ abbrev pub Promised : {S : Type 0} (M : Machine S) → Knowledge → Mailbox →
 Promised M k Bytes0 (Out o) = MayRelease M k o
 Promised M k Bytes1 (Out o) = MayRelease M k o
 Promised M k Requests (Request (ask.Write w)) = MayRelease M k (Write w)
-Promised M k Answers (Answer a) = Replies k.disk a × AgreesOf k.disk a × ReadsBoot M a
-Promised M k Sectors (Sector r) = Finds k.disk r × Agrees k.disk r × ReadsBoot M (answer.Read r)
+Promised M k Answers (Answer a) = Replies k.disk a × ReadsBoot M a
 Promised M k _ _ = Unit {0}
 
 -- a step of the table, from what all seats know to what they know then
@@ -76,21 +73,10 @@ FillEvents Requests (Request (ask.Write w)) events = events ≡ Release 0 (id_of
 FillEvents Answers (Answer (answer.Written n)) events = (m : ℕ) × (events ≡ Put m ∷ [])
 FillEvents _ _ events = events ≡ []
 
--- a packet that carries a whole entry is delivered; one that names a sector is not
-abbrev pub TakeEvents : Carried → List Event → Type 0
-TakeEvents (Whole e) events = (m : ℕ) × (events ≡ DeliverLog m 1 ∷ [])
-TakeEvents (Named t) events = events ≡ []
-
--- an entry that a sector completes is delivered
-abbrev pub FindEvents : Option Entry → List Event → Type 0
-FindEvents (Some e) events = (m : ℕ) × (events ≡ DeliverLog m 1 ∷ [])
-FindEvents None events = events ≡ []
-
--- what is taken out of a box
-abbrev pub EmptyEvents : Knowledge → Mailbox → Payload → List Event → Type 0
-EmptyEvents k Inbox (Log p) events = TakeEvents p.carried events
-EmptyEvents k Sectors (Sector r) events = FindEvents (completed k.backup.wanted r) events
-EmptyEvents k _ _ events = events ≡ []
+-- what is taken out of a box: a packet is delivered
+abbrev pub EmptyEvents : Mailbox → Payload → List Event → Type 0
+EmptyEvents Inbox (Log p) events = (m : ℕ) × (events ≡ DeliverLog m 1 ∷ [])
+EmptyEvents _ _ events = events ≡ []
 
 -- a byte in hand arrives
 abbrev pub CountEvents : Option Operation → List Event → Type 0
@@ -102,7 +88,7 @@ abbrev pub TableEvents : {S : Type 0} {M : Machine S} {typed0 typed1 : List ℕ}
     TableStep M typed0 typed1 k new → List Event → Type 0
 TableEvents Stays events = events ≡ []
 TableEvents (Fills b q waits can kept) events = FillEvents b q events
-TableEvents {k = k} (Empties b q waits fits) events = EmptyEvents k b q events
+TableEvents (Empties b q waits fits) events = EmptyEvents b q events
 TableEvents {k = k} (Appends e run may told) events = AppendEvents (length k.primary.list) e events
 TableEvents {k = k} (Sees waits) events = SeeEvents (last_or 0 k.backup.held_values) events
 TableEvents (Holds waits) events = events ≡ Acknowledge 1 ∷ []

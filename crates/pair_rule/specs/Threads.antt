@@ -61,18 +61,17 @@ CallKept M typed0 typed1 (Appended list counted0 counted1 answers e) =
     (run : HasLonger M list e) × IsTold M typed0 typed1 (knew list 0 counted0 counted1 answers) run.before e
 CallKept M typed0 typed1 (Released list seen o) = MayRelease M (knew list seen 0 0 []) o
 
--- all calls of a primary, all answers of a disk, and all that it found for the backup
+-- all calls of a primary, and all answers of a disk
 pub record AreKept {S : Type 0} (M : Machine S) (typed0 typed1 : List ℕ) (calls : List PrimaryCall)
-    (given : List DiskAnswer) (found : List SectorRead) : Type 0 where
+    (given : List DiskAnswer) : Type 0 where
   pub calls_kept : AllAre calls (CallKept M typed0 typed1)
   pub reads_kept : AllAre given (ReadsBoot M)
-  pub found_kept : AllAre found (λ r. ReadsBoot M (answer.Read r))
 
 -- steps of the table that keep all promises are steps of the threads
 abbrev pub KeptStepsAreThreads : Type 0 → Type 0
 KeptStepsAreThreads S =
     (M : Machine S) (typed0 typed1 : List ℕ) (k : Knowledge) → PlainRun k →
-    AreKept M typed0 typed1 k.primary.calls k.disk.given k.disk.found → ThreadRun M typed0 typed1 k
+    AreKept M typed0 typed1 k.primary.calls k.disk.given → ThreadRun M typed0 typed1 k
 
 -- the bytes of a port that its terminal has accepted
 abbrev pub arrivals_at : ℕ → Knowledge → List Arrived

@@ -33,7 +33,7 @@ pub struct Closed {
 // A seat ends, and the primary's takes over its part.
 fn join<S: Seated>(table: &SharedTable, lead: &mut TableSeat, state: SeatState)
     requires table { (lead.old.table_id ≡ table.now.table_id) × (state.seat.table_id ≡ table.now.table_id)
-        × (table.now.table_id.words ≡ 13) }
+        × (table.now.table_id.words ≡ 11) }
     requires lead { has lead.old.me.0 Primary × (get_elem? lead.old.me.0.mine (seat_index S.who) ≡ some false) }
     requires seat { Keeps S.who state.seat.me state.slot state.fills state.empties }
     ensures table { lead.new.table_id ≡ lead.old.table_id }
@@ -62,7 +62,7 @@ fn drop_slots(mut closed: atomic_table::Closed<Option<Payload>, Global>)
 
 // The words at the end, for a seat that has the parts of all that are joined.
 fn settle(table: PairTable, seat: TableSeat) -> Closed
-    requires table { (seat.table_id ≡ table.shared.table_id) × (table.shared.table_id.words ≡ 13) }
+    requires table { (seat.table_id ≡ table.shared.table_id) × (table.shared.table_id.words ≡ 11) }
     requires parts { has seat.me.0 Primary × has seat.me.0 Backup × has seat.me.0 Terminal × has seat.me.0 Disk }
     ensures { Settled seat.me.0.core.known.primary seat.me.0.core.known.backup seat.me.0.core.known.terminal seat.me.0.core.known.disk result.tail result.held result.winner }
 {

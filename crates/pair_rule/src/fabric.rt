@@ -40,5 +40,5 @@ impl Model for Fabric {
 
     ghost view = { λ f. f.table.shared.table_id };
 
-    ghost invariant = { λ f. (f.table.shared.table_id.words ≡ 13) × (f.table.shared.table_id.slots ≡ 13) };
+    ghost invariant = { λ f. (f.table.shared.table_id.words ≡ 11) × (f.table.shared.table_id.slots ≡ 11) };
 }

@@ -1,10 +1,9 @@
 //! What the threads of a generation are: a pair, one event after another. Nothing here runs.
 ghost use Rattle.pair_rule.specs.Law.{SilentStepsShow, StartsShown, StepsAreEvents, StepsAreFaithful};
-ghost use Rattle.pair_rule.specs.ReadsKept.{SectorsAreKept};
 ghost use Rattle.pair_rule.specs.Steps.{TableStepsAreFaithful, TableStepsAreSteps};
 ghost use Rattle.pair_rule.specs.Threads.{KeptStepsAreThreads, ThreadsAreFaithful};
 
-use pair_protocol::{actions_are_faithful, events_are_actions, events_grow, pairs_without_copies};
+use pair_protocol::{actions_are_faithful, events_are_actions, events_grow};
 
 /// Each kind of step of the table keeps what holds of all that the seats know, and is a step of the laws below: the events
 /// of a pair that the table of kinds has for it, or none.
@@ -64,13 +63,4 @@ pub fn threads_are_faithful<S>()
     events_are_actions::<S>();
     actions_are_faithful::<S>();
     events_grow::<S>();
-}
-
-/// Whatever steps they make: no sector that the primary took is overwritten on the disk before the primary has seen its
-/// entry acknowledged, nor before the backup has it. So a backup that reads the disk itself still finds the bytes.
-pub fn sectors_are_kept<S>()
-    ensures kept { SectorsAreKept S }
-{
-    threads_are_faithful::<S>();
-    pairs_without_copies::<S>();
 }

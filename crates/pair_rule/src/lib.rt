@@ -22,13 +22,12 @@ pub use close::Closed;
 pub use disk::DiskSeat;
 pub use fabric::Fabric;
 pub use laws::{
-    kept_steps_are_threads, sectors_are_kept, silent_steps_are_shown, starts_are_shown,
-    steps_are_events, steps_are_faithful, table_steps_are_faithful, table_steps_are_steps,
-    threads_are_faithful,
+    kept_steps_are_threads, silent_steps_are_shown, starts_are_shown, steps_are_events,
+    steps_are_faithful, table_steps_are_faithful, table_steps_are_steps, threads_are_faithful,
 };
 pub use link::LinkSeat;
 pub use open::FiveSeats;
-pub use payload::{Carried, DiskAnswer, DiskRequest, NamedSector, Packet, Payload, PortByte};
+pub use payload::{DiskAnswer, DiskRequest, Packet, Payload, PortByte};
 pub use primary::PrimarySeat;
 pub use seat::MOST_SWAPS;
 pub use terminal::TerminalSeat;

@@ -16,14 +16,11 @@ pub enum Mailbox {
     /// Requests of the primary to the disk, and what the disk answers.
     Requests,
     Answers,
-    /// Sectors that the backup looks up on the disk, and what the disk finds there.
-    Lookups,
-    Sectors,
 }
 
-// The place of a box among the eight; its word is five further.
+// The place of a box among the six; its word is five further.
 pub(crate) fn index_of(mailbox: Mailbox) -> usize
-    ensures within { result < 8 }
+    ensures within { result < 6 }
     ensures exact { result ≡ box_index mailbox }
 {
     match mailbox {
@@ -33,7 +30,5 @@ pub(crate) fn index_of(mailbox: Mailbox) -> usize
         Mailbox::Bytes1 => 3,
         Mailbox::Requests => 4,
         Mailbox::Answers => 5,
-        Mailbox::Lookups => 6,
-        Mailbox::Sectors => 7,
     }
 }

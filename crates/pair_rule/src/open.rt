@@ -36,9 +36,9 @@ fn first_state<S: Seated>(
     mut seat: TableSeat,
     slot: usize,
 ) -> SeatState
-    requires table { table.now.table_id.words ≡ 13 }
+    requires table { table.now.table_id.words ≡ 11 }
     requires seat { IsNew S.who (first_known generation) table.now.table_id seat.table_id seat.me }
-    requires slot { slot ≡ 8 + seat_index S.who }
+    requires slot { slot ≡ 6 + seat_index S.who }
     ensures { Opened S.who (first_known generation) table.now.table_id result.seat.table_id result.seat.me result.slot result.fills result.empties }
 {
     let _ = generation;
@@ -46,8 +46,8 @@ fn first_state<S: Seated>(
     SeatState {
         seat,
         slot,
-        fills: [0; 8],
-        empties: [0; 8],
+        fills: [0; 6],
+        empties: [0; 6],
     }
 }
 
@@ -58,9 +58,9 @@ fn split_off<S: Seated>(
     lead: &mut TableSeat,
     slot: usize,
 ) -> SeatState
-    requires table { (lead.old.table_id ≡ table.now.table_id) × (table.now.table_id.words ≡ 13) }
+    requires table { (lead.old.table_id ≡ table.now.table_id) × (table.now.table_id.words ≡ 11) }
     requires lead { has lead.old.me.0 S.who × (lead.old.me.0.core ≡ first_core generation) }
-    requires slot { slot ≡ 8 + seat_index S.who }
+    requires slot { slot ≡ 6 + seat_index S.who }
     ensures table { lead.new.table_id ≡ lead.old.table_id }
     ensures lead { lead.new.me ≡ (without S.who lead.old.me.0, lead.old.me.1) }
     ensures seat { Opened S.who (first_known generation) table.now.table_id result.seat.table_id result.seat.me result.slot result.fills result.empties }
@@ -79,16 +79,16 @@ pub(crate) fn open(alloc: Global, generation: u64) -> Result<(Fabric, SeatStates
 {
     let made: (PairTable, TableSeat) = Table::vacant(
         alloc,
-        &[0, 0, 0, 0, 0, 0, 1, 2, 3, 4, 5, 6, 7],
-        13,
+        &[0, 0, 0, 0, 0, 0, 1, 2, 3, 4, 5],
+        11,
         &generation,
     )?;
     let (table, mut lead) = made;
-    let link = split_off::<LinkSeat>(&table.shared, generation, &mut lead, 9);
-    let backup = split_off::<BackupSeat>(&table.shared, generation, &mut lead, 10);
-    let terminal = split_off::<TerminalSeat>(&table.shared, generation, &mut lead, 11);
-    let disk = split_off::<DiskSeat>(&table.shared, generation, &mut lead, 12);
-    let primary = first_state::<PrimarySeat>(&table.shared, generation, lead, 8);
+    let link = split_off::<LinkSeat>(&table.shared, generation, &mut lead, 7);
+    let backup = split_off::<BackupSeat>(&table.shared, generation, &mut lead, 8);
+    let terminal = split_off::<TerminalSeat>(&table.shared, generation, &mut lead, 9);
+    let disk = split_off::<DiskSeat>(&table.shared, generation, &mut lead, 10);
+    let primary = first_state::<PrimarySeat>(&table.shared, generation, lead, 6);
     let states = SeatStates {
         primary,
         link,
@@ -142,7 +142,6 @@ impl Fabric {
             backup: BackupSeat {
                 state: backup,
                 length: 0,
-                wanted: None,
             },
             terminal: TerminalSeat {
                 state: terminal,

@@ -5,27 +5,12 @@ use event_callbacks::Operation;
 use log_entry::Entry;
 use shared_disk::SectorRead;
 
-/// Which sector a guest took, at what count, and which write it has the bytes of.
-#[derive(Clone, Copy, PartialEq, Eq)]
-pub struct NamedSector {
-    pub count: u64,
-    pub address: SectorAddress,
-    pub number: u64,
-}
-
-/// What a packet has of its entry: all of it, or of a sector only its name, whose bytes the disk has.
-#[derive(Clone, Copy, PartialEq, Eq)]
-pub enum Carried {
-    Whole(Entry),
-    Named(NamedSector),
-}
-
 /// A log packet: the entry of the primary's list at that index.
 #[derive(Clone, Copy, PartialEq, Eq)]
 pub struct Packet {
     pub generation: u64,
     pub index: u64,
-    pub carried: Carried,
+    pub entry: Entry,
 }
 
 /// A byte of a port, with its number there.
@@ -49,14 +34,11 @@ pub enum DiskAnswer {
     Read(SectorRead),
 }
 
-/// What a box hands over: a log packet, a byte for a terminal, a request to the disk or its answer, a sector that the backup
-/// looks up, or what the disk found there.
+/// What a box hands over: a log packet, a byte for a terminal, a request to the disk or its answer.
 #[derive(Clone, Copy)]
 pub enum Payload {
     Log(Packet),
     Out(Operation),
     Request(DiskRequest),
     Answer(DiskAnswer),
-    Lookup(SectorAddress),
-    Sector(SectorRead),
 }

@@ -4,19 +4,17 @@ ghost use mathlib.Core.Option.{some};
 ghost use lib.ListN.{get_elem?};
 ghost use Rattle.pair_protocol.specs.Lawful.{top};
 ghost use Rattle.pair_rule.specs.Boxes.{Primary, port_box};
-ghost use Rattle.pair_rule.specs.Knowledge.{Carries, appended, saw, saw_count, primary_asked};
+ghost use Rattle.pair_rule.specs.Knowledge.{appended, saw, saw_count, primary_asked};
 ghost use Rattle.pair_rule.specs.Seats.{HasSwapsLeft, Fills, Empties, append_refusal, swaps_at};
 ghost use Rattle.pair_rule.specs.Kinds.{WasHeld, WasWinner, WasAccepted, with_known, counted_at};
 ghost use Rattle.i8080_words.specs.declared.refusal.Fault.TheVariants.{Lost};
 ghost use Rattle.pair_rule.specs.declared.mailbox.Mailbox.TheVariants.{Outbox, Requests, Answers};
-ghost use Rattle.pair_rule.specs.declared.payload.Carried.TheVariants.{Whole, Named};
 ghost use Rattle.pair_rule.specs.declared.payload.Payload.TheVariants.{Log, Out, Request, Answer};
-ghost use Rattle.log_entry.specs.declared.entry.Entry as entries;
 ghost use Rattle.event_callbacks.specs.declared.operations.Operation.TheVariants as operation;
 
 use crate::fabric::Fabric;
 use crate::mailbox::Mailbox;
-use crate::payload::{Carried, DiskAnswer, DiskRequest, NamedSector, Packet, Payload};
+use crate::payload::{DiskAnswer, DiskRequest, Packet, Payload};
 use crate::seat::SeatState;
 use event_callbacks::Operation;
 use i8080_words::{Fault, GREATEST_NUMBER};
@@ -71,9 +69,12 @@ impl PrimarySeat {
         if self.length >= GREATEST_NUMBER {
             return Err(Fault::Spent);
         }
-        let index = self
-            .state
-            .append(fabric, self.generation, self.length, entry);
+        let packet = Packet {
+            generation: self.generation,
+            index: self.length,
+            entry,
+        };
+        let index = self.state.append(fabric, packet);
         self.length += 1;
         Ok(index)
     }
@@ -85,38 +86,15 @@ impl PrimarySeat {
         requires stands { get_elem? self.old.core.known.primary.list index ≡ some entry.now }
         requires few { swaps_at self.old.core.fills Outbox < 2 ^ 40 }
         ensures same { self.new.table ≡ self.old.table }
-        ensures posted { Fills Outbox (Log (record { generation = self.old.core.known.generation; index = index; carried = Whole entry.now })) self.old.core self.new.core }
+        ensures posted { Fills Outbox (Log (record { generation = self.old.core.known.generation; index = index; entry = entry.now })) self.old.core self.new.core }
     {
-        let carried = Carried::Whole(*entry);
         let packet = Packet {
             generation: self.generation,
             index,
-            carried,
+            entry: *entry,
         };
         self.state
             .fill(fabric, Mailbox::Outbox, Payload::Log(packet));
-    }
-
-    /// Puts the packet of a sector into the outbox that only names it. The disk has answered it to the primary before. A
-    /// packet still there is lost.
-    pub fn post_named(&mut self, fabric: &Fabric, index: u64, sector: NamedSector)
-        requires table { self.old.table ≡ fabric.now }
-        requires before { self.old.core.known.primary.winner ≡ 0 }
-        requires stands { (e : entries.Entry) × (get_elem? self.old.core.known.primary.list index ≡ some e)
-            × Carries self.old.core.known.primary.answers (Named sector) e }
-        requires few { swaps_at self.old.core.fills Outbox < 2 ^ 40 }
-        ensures same { self.new.table ≡ self.old.table }
-        ensures posted { Fills Outbox (Log (record { generation = self.old.core.known.generation; index = index; carried = Named sector })) self.old.core self.new.core }
-    {
-        let generation = self.generation;
-        let carried = Carried::Named(sector);
-        let packet = Packet {
-            generation,
-            index,
-            carried,
-        };
-        let payload = Payload::Log(packet);
-        self.state.fill(fabric, Mailbox::Outbox, payload);
     }
 
     /// How many entries the backup has acknowledged.

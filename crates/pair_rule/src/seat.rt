@@ -11,8 +11,7 @@ use crate::kinds::{
     Append, ContestBackup, ContestPrimary, Count, Empty, Fill, Hold, See, SeeCount,
 };
 use crate::mailbox::{Mailbox, index_of};
-use crate::payload::{Carried, Packet, Payload};
-use log_entry::Entry;
+use crate::payload::{Packet, Payload};
 
 /// How often a seat may swap at one box.
 pub const MOST_SWAPS: u64 = 1 << 40;
@@ -22,8 +21,8 @@ pub const MOST_SWAPS: u64 = 1 << 40;
 pub(crate) struct SeatState {
     pub(crate) seat: TableSeat,
     pub(crate) slot: usize,
-    pub(crate) fills: [u64; 8],
-    pub(crate) empties: [u64; 8],
+    pub(crate) fills: [u64; 6],
+    pub(crate) empties: [u64; 6],
 }
 
 impl SeatState {
@@ -80,13 +79,7 @@ impl SeatState {
     }
 
     // Adds an entry to the primary's list: one step, and its number is the entry's index.
-    pub(crate) fn append(
-        &mut self,
-        fabric: &Fabric,
-        generation: u64,
-        index: u64,
-        entry: Entry,
-    ) -> u64
+    pub(crate) fn append(&mut self, fabric: &Fabric, packet: Packet) -> u64
         requires table { self.old.seat.table_id ≡ fabric.now }
         requires seat { Keeps Primary self.old.seat.me self.old.slot self.old.fills self.old.empties }
         requires room { length self.old.seat.me.0.core.known.primary.list < 2 ^ 62 }
@@ -94,14 +87,9 @@ impl SeatState {
         ensures table { self.new.seat.table_id ≡ self.old.seat.table_id }
         ensures seat { Keeps Primary self.new.seat.me self.new.slot self.new.fills self.new.empties }
         ensures index { result ≡ length self.old.seat.me.0.core.known.primary.list }
-        ensures view { self.new.seat.me.0 ≡ with_core self.old.seat.me.0 (with_known (appended entry) self.old.seat.me.0.core) }
+        ensures view { self.new.seat.me.0 ≡ with_core self.old.seat.me.0 (with_known (appended packet.entry) self.old.seat.me.0.core) }
     {
         let table = &fabric.table.shared;
-        let packet = Packet {
-            generation,
-            index,
-            carried: Carried::Whole(entry),
-        };
         table.exchange(&mut self.seat, self.slot, Some(Payload::Log(packet)));
         table.fetch_add::<Append>(&mut self.seat, 0, 1)
     }
@@ -207,15 +195,15 @@ impl SeatState {
 }
 
 // Whether each number of swaps leaves room for one more.
-fn are_below(numbers: &[u64; 8]) -> bool
+fn are_below(numbers: &[u64; 6]) -> bool
     ensures { result ≡ all_below numbers.now }
 {
     numbers.iter().all(|number| *number < MOST_SWAPS)
 }
 
 // The number of the next swap at a box, from the numbers of those that a seat has made.
-fn next_number(numbers: &[u64; 8], index: usize) -> u64
-    requires within { index < 8 }
+fn next_number(numbers: &[u64; 6], index: usize) -> u64
+    requires within { index < 6 }
     requires few { slice_index_or numbers.now index 0 < 2 ^ 40 }
     ensures { result ≡ slice_index_or numbers.now index 0 + 1 }
 {
@@ -225,7 +213,7 @@ fn next_number(numbers: &[u64; 8], index: usize) -> u64
 // The word of a full box: the number of the swap that filled it, and the slot at home in it.
 fn full_word(number: u64, slot: usize) -> u64
     requires number { number ≤ 2 ^ 40 }
-    requires slot { slot < 13 }
+    requires slot { slot < 11 }
     ensures { result ≡ full_word number slot }
 {
     number * 32 + 16 + slot as u64
@@ -234,7 +222,7 @@ fn full_word(number: u64, slot: usize) -> u64
 // The word of an empty box, likewise.
 fn empty_word(number: u64, slot: usize) -> u64
     requires number { number ≤ 2 ^ 40 }
-    requires slot { slot < 13 }
+    requires slot { slot < 11 }
     ensures { result ≡ empty_word number slot }
 {
     number * 32 + slot as u64

@@ -1,9 +1,8 @@
 //! What the seats know. No value of a view is made.
-use crate::payload::{DiskAnswer, DiskRequest, NamedSector, Packet, Payload};
-use disk_dcdd::{SectorAddress, SectorWrite};
+use crate::payload::{DiskAnswer, DiskRequest, Packet, Payload};
+use disk_dcdd::SectorWrite;
 use event_callbacks::Operation;
 use log_entry::Entry;
-use shared_disk::SectorRead;
 use std::collections::LinkedList;
 
 /// A seat's side of one box: the number of its swaps there, the other side's number as last found, and what it put in or
@@ -49,10 +48,9 @@ pub struct PrimaryView {
     pub calls: LinkedList<PrimaryCall>,
 }
 
-/// What the backup knows, and the sector that it wants next, if a packet only named one.
+/// What the backup knows.
 pub struct BackupView {
     pub list: LinkedList<Entry>,
-    pub wanted: Option<NamedSector>,
     pub held_values: LinkedList<u64>,
     pub winner: u64,
 }
@@ -66,14 +64,12 @@ pub struct TerminalView {
 }
 
 /// What the disk knows: the request that was taken last, how many it has taken, the writes that it answered, and all its
-/// answers; the lookup that was taken last, and all that it found.
+/// answers.
 pub struct DiskView {
     pub taken: Option<DiskRequest>,
     pub takes: u64,
     pub puts: LinkedList<SectorWrite>,
     pub given: LinkedList<DiskAnswer>,
-    pub sought: Option<SectorAddress>,
-    pub found: LinkedList<SectorRead>,
 }
 
 /// What all seats know together: the state of the core.

@@ -5,25 +5,22 @@ use Rattle.std.proofs.Common.{◌≡◌, ◌⊎◌, inl, inr, ℕ, zero, suc, �
 use Rattle.std.specs.Prelude.{Result, Ok, Err, IsOk, OnOk}
 use Rattle.std.proofs.Math.Seq.{take-length}
 use Rattle.std.proofs.lemmas.Bool.{false≢true}
-use Rattle.pair_threads.proofs.Words.{BackupView, BackupWorker, ComesAndGoes, ComesAndGoes-booted, Counts, Counts-booted, Decided, DiskView, EndsAlone, EndsBy, EndsWell, Entry, IsAt, IsAtRest, IsStore, IsWhereItLeads, Lawful, Leads, Machine, PrimaryView, PrimaryWorker, Record, Recorded-booted, Repeats, SectorAddress, Settled, StartsWith, TerminalView, Who, WorkerLeads, accepted_after, arrival_of, booted_from, bytes_in, last_or, winner_named, winner_of, longer_by}
+use Rattle.pair_threads.proofs.Words.{BackupView, BackupWorker, ComesAndGoes, ComesAndGoes-booted, Counts, Counts-booted, Decided, DiskView, EndsAlone, EndsBy, EndsWell, Entry, IsAt, IsAtRest, IsStore, IsWhereItLeads, Lawful, Leads, Machine, PrimaryView, PrimaryWorker, Record, Recorded-booted, Repeats, SectorAddress, Settled, StartsWith, TerminalView, Who, WorkerLeads, accepted_after, arrival_of, booted_from, bytes_in, last_count, last_or, winner_named, winner_of, longer_by}
 use Rattle.pair_rule.proofs.ListsThatGrow.{last_below}
 use Rattle.pair_threads.specs.declared.gate.Who.TheVariants as who
 use Rattle.pair_threads.specs.Left.{Leaves, LeavesBy}
 use Rattle.pair_threads.proofs.Views.{leads_there}
+use Rattle.replayer.specs.Following.{Ran}
 use Rattle.pair_threads.proofs.Ends.{backup_alone, backup_leaves, backup_where, primary_alone, primary_leaves, well}
 
 -- ---- the machine that boots elsewhere
 
 module _ {S : Type 0} (N : Machine S) (start : S) (sectors : SectorAddress → List ℕ) where
-  repeats_there : (exact : Bool) (boot : S) (list : List Entry) (between : Bool) (s : S) → Repeats N exact boot list between s
-      → Repeats (booted_from N start sectors) exact boot list between s
-  repeats_there exact boot list between s repeats = record {
-    ran = record {
-      moves = repeats.ran.moves;
-      runs = Recorded-booted N start sectors boot s repeats.ran.moves repeats.ran.runs;
-      entries_are = repeats.ran.entries_are;
-    };
-    at = repeats.at;
+  ran_there : (boot : S) (list : List Entry) (s : S) → Ran N boot list s → Ran (booted_from N start sectors) boot list s
+  ran_there boot list s ran = record {
+    moves = ran.moves;
+    runs = Recorded-booted N start sectors boot s ran.moves ran.runs;
+    entries_are = ran.entries_are;
   }
 
 -- ---- the lists, and who has won
@@ -92,29 +89,31 @@ no_other (suc (suc n)) other is = inr cc
 how_long : {T : Type 0} (v : Vec T Global) → vec_len v ≡ length v.items
 how_long v = omega (arith, v.ok.0)
 
--- a guest that has repeated the whole list is at its last entry, if it keeps the list; one that is to be exact does
-all_repeated : {B S : Type 0} (state : B → S) (N : Machine S) (exact : Bool) (boot : S) (b : BackupWorker B)
-    → IsAt state N exact boot b.guest → (exact ≡ true → b.plan.keeps ≡ true) → b.guest.replayed ≡ length b.guest.list.items
-    → Repeats N exact boot b.guest.list.items false (state b.guest.board)
-all_repeated state N exact boot b at keeps all = go b.guest.between refl
+-- a guest that has repeated the whole list has made the run of it, and is at its last entry if it is to be exact
+ran_all : {B S : Type 0} (state : B → S) (N : Machine S) (boot : S) (b : BackupWorker B) → IsAt state N boot b.guest
+    → b.guest.replayed ≡ length b.guest.list.items → Ran N boot b.guest.list.items (state b.guest.board)
+ran_all state N boot b at all = subst (λ l. Ran N boot l (state b.guest.board))
+    (ap (λ n. take n b.guest.list.items) all ∙ take-length b.guest.list.items) at.ran
+
+all_repeated : {B S : Type 0} (state : B → S) (N : Machine S) (boot : S) (b : BackupWorker B)
+    → IsAt state N boot b.guest → b.plan.exact ≡ true → b.guest.replayed ≡ length b.guest.list.items
+    → Repeats N boot b.guest.list.items false (state b.guest.board)
+all_repeated state N boot b at stays all = go b.guest.between refl
   where
-    whole : Repeats N exact boot b.guest.list.items b.guest.between (state b.guest.board)
-    whole = subst (λ l. Repeats N exact boot l b.guest.between (state b.guest.board))
+    whole : Repeats N boot b.guest.list.items b.guest.between (state b.guest.board)
+    whole = subst (λ l. Repeats N boot l b.guest.between (state b.guest.board))
         (ap (λ n. take n b.guest.list.items) all ∙ take-length b.guest.list.items) at
 
-    go : (between : Bool) → b.guest.between ≡ between → Repeats N exact boot b.guest.list.items false (state b.guest.board)
-    go false is = subst (λ between. Repeats N exact boot b.guest.list.items between (state b.guest.board)) is whole
-    go true is = record {
-      ran = whole.ran;
-      at = λ stands here. absurd (let a = b.guest.towards (b.keeps ∙ keeps stands) is in omega (arith, a, all));
-    }
+    go : (between : Bool) → b.guest.between ≡ between → Repeats N boot b.guest.list.items false (state b.guest.board)
+    go false is = subst (λ between. Repeats N boot b.guest.list.items between (state b.guest.board)) is whole
+    go true is = absurd (let a = b.guest.towards (b.exact ∙ stays) is in omega (arith, a, all))
 
-module _ {B S : Type 0} (state : B → S) (N : Machine S) (counts : Counts N) (laws : ComesAndGoes N) (exact : Bool) (boot : S)
+module _ {B S : Type 0} (state : B → S) (N : Machine S) (counts : Counts N) (laws : ComesAndGoes N) (boot : S)
     (first : List Record) (lawful : Lawful (booted_from N boot (bytes_in first))) (p : PrimaryWorker B) (b : BackupWorker B)
     (terminal : TerminalView) (disk : DiskView) (tail held winner : ℕ)
     (settled : Settled p.seat.core.known.primary b.seat.core.known.backup terminal disk tail held winner)
-    (records : List Record) (leads : WorkerLeads state N boot p) (at : IsAt state N exact boot b.guest)
-    (keeps : exact ≡ true → b.plan.keeps ≡ true) (store : IsStore (bytes_in first) records disk) (contested : Bool) (rests : contested ≡ false → IsAtRest state N p)
+    (records : List Record) (leads : WorkerLeads state N boot p) (at : IsAt state N boot b.guest)
+    (store : IsStore (bytes_in first) records disk) (contested : Bool) (rests : contested ≡ false → IsAtRest state N p)
     (repeated : (contested ≡ false) ⊎ (b.seat.core.known.backup.winner ≡ 2) → b.guest.replayed ≡ length b.guest.list.items) where
   abbrev M : Machine S
   M = booted_from N boot (bytes_in first)
@@ -132,10 +131,16 @@ module _ {B S : Type 0} (state : B → S) (N : Machine S) (counts : Counts N) (l
   known = leads_there N boot (bytes_in first) boot (longer_by primary.list p.guest.waiting) p.guest.given.items primary
       (state p.guest.board) leads.0
 
-  repeats : b.guest.replayed ≡ length b.guest.list.items → Repeats M exact boot backup.list false (state b.guest.board)
-  repeats all = subst (λ l. Repeats M exact boot l false (state b.guest.board)) b.same
-      (repeats_there N boot (bytes_in first) exact boot b.guest.list.items false (state b.guest.board)
-      (all_repeated state N exact boot b at keeps all))
+  ran : b.guest.replayed ≡ length b.guest.list.items → Ran M boot backup.list (state b.guest.board)
+  ran all = subst (λ l. Ran M boot l (state b.guest.board)) b.same
+      (ran_there N boot (bytes_in first) boot b.guest.list.items (state b.guest.board) (ran_all state N boot b at all))
+
+  repeats : b.plan.exact ≡ true → b.guest.replayed ≡ length b.guest.list.items
+      → Repeats M boot backup.list false (state b.guest.board)
+  repeats stays all = record {
+    ran = ran all;
+    at = λ here. (all_repeated state N boot b at stays all).at refl ∙ ap (last_count (N.count boot)) b.same;
+  }
 
   less0 : p.port0.accepted ≤ primary.counted0
   less0 = (let a = p.accepted.0 in let b = p.saw_counted.0 in omega (arith, a, b))
@@ -160,12 +165,13 @@ module _ {B S : Type 0} (state : B → S) (N : Machine S) (counts : Counts N) (l
       p.guest.waiting p.guest.given.items (state p.guest.board) known p.port0.typed.items p.port1.typed.items
       p.port0.taken p.port1.taken p.port0.accepted p.port1.accepted leads.2 less0 less1 records store
 
-  second_there : b.guest.replayed ≡ length b.guest.list.items → IsWhereItLeads M exact backup.list (state b.guest.board)
-  second_there all = backup_where M lawful (Counts-booted N boot (bytes_in first) counts)
+  second_there : b.plan.exact ≡ true → b.guest.replayed ≡ length b.guest.list.items
+      → IsWhereItLeads M backup.list (state b.guest.board)
+  second_there stays all = backup_where M lawful (Counts-booted N boot (bytes_in first) counts)
       (ComesAndGoes-booted N boot (bytes_in first) laws) primary backup terminal disk tail held winner settled
       p.guest.waiting p.guest.given.items (state p.guest.board) known p.port0.typed.items p.port1.typed.items
       p.port0.taken p.port1.taken p.port0.accepted p.port1.accepted leads.2 less0 less1 records store
-      exact (state b.guest.board) (repeats all)
+      (state b.guest.board) (repeats stays all)
 
   first_left : Leaves M p.port0.typed.items p.port1.typed.items (longer_by primary.list p.guest.waiting) screens records
       (state p.guest.board)
@@ -180,44 +186,44 @@ module _ {B S : Type 0} (state : B → S) (N : Machine S) (counts : Counts N) (l
       (ComesAndGoes-booted N boot (bytes_in first) laws) primary backup terminal disk tail held winner settled
       p.guest.waiting p.guest.given.items (state p.guest.board) known p.port0.typed.items p.port1.typed.items
       p.port0.taken p.port1.taken p.port0.accepted p.port1.accepted leads.2 less0 less1 records store
-      (state b.guest.board) (repeats all).ran
+      (state b.guest.board) (ran all)
 
   -- nobody is
-  both_well : IsAtRest state N p → b.guest.replayed ≡ length b.guest.list.items
-      → EndsWell M exact p.port0.typed.items p.port1.typed.items primary.list screens records (state p.guest.board)
+  both_well : b.plan.exact ≡ true → IsAtRest state N p → b.guest.replayed ≡ length b.guest.list.items
+      → EndsWell M p.port0.typed.items p.port1.typed.items primary.list screens records (state p.guest.board)
       (state b.guest.board)
-  both_well rest all = well M lawful (Counts-booted N boot (bytes_in first) counts)
+  both_well stays rest all = well M lawful (Counts-booted N boot (bytes_in first) counts)
       (ComesAndGoes-booted N boot (bytes_in first) laws) primary backup terminal disk tail held winner settled
       p.guest.waiting p.guest.given.items (state p.guest.board) known p.port0.typed.items p.port1.typed.items
       p.port0.taken p.port1.taken p.port0.accepted p.port1.accepted leads.2 less0 less1 records store
       rest.none_waits rest.none (seen rest) (rest.all0 ∙ how_long p.port0.typed) (rest.all1 ∙ how_long p.port1.typed)
-      (leads.1 rest.idle) rest.no_sector exact (state b.guest.board) (repeats all)
+      (leads.1 rest.idle) rest.no_sector (state b.guest.board) (repeats stays all)
 
-  by_winner : (goes : Option Who) → goes ≡ winner_named winner → (goes ≡ None → contested ≡ false)
-      → EndsBy M exact p.port0.typed.items p.port1.typed.items goes primary.list backup.list held screens records
+  by_winner : b.plan.exact ≡ true → (goes : Option Who) → goes ≡ winner_named winner → (goes ≡ None → contested ≡ false)
+      → EndsBy M p.port0.typed.items p.port1.typed.items goes primary.list backup.list held screens records
       (state p.guest.board) (state b.guest.board)
-  by_winner None is quiet =
+  by_winner stays None is quiet =
       let rest = rests (quiet refl) in (
         one_list primary backup terminal disk tail held winner settled (seen rest),
         all_held primary backup terminal disk tail held winner settled (seen rest),
-        both_well rest (repeated (inl (quiet refl))),
+        both_well stays rest (repeated (inl (quiet refl))),
       )
-  by_winner (Some who.Primary) is quiet = first_alone
-  by_winner (Some who.Backup) is quiet = (
+  by_winner stays (Some who.Primary) is quiet = first_alone
+  by_winner stays (Some who.Backup) is quiet = (
     second_alone,
-    second_there (repeated (inr (backup_won primary backup terminal disk tail held winner settled (sym is)))),
+    second_there stays (repeated (inr (backup_won primary backup terminal disk tail held winner settled (sym is)))),
   )
-  by_winner (Some who.Link) is quiet = go (no_other winner who.Link (sym is))
+  by_winner stays (Some who.Link) is quiet = go (no_other winner who.Link (sym is))
     where
       go : (who.Link ≡ who.Primary) ⊎ (who.Link ≡ who.Backup) → ⊥
       go (inl e) = absurd cc
       go (inr e) = absurd cc
-  by_winner (Some who.Terminal) is quiet = go (no_other winner who.Terminal (sym is))
+  by_winner stays (Some who.Terminal) is quiet = go (no_other winner who.Terminal (sym is))
     where
       go : (who.Terminal ≡ who.Primary) ⊎ (who.Terminal ≡ who.Backup) → ⊥
       go (inl e) = absurd cc
       go (inr e) = absurd cc
-  by_winner (Some who.Disk) is quiet = go (no_other winner who.Disk (sym is))
+  by_winner stays (Some who.Disk) is quiet = go (no_other winner who.Disk (sym is))
     where
       go : (who.Disk ≡ who.Primary) ⊎ (who.Disk ≡ who.Backup) → ⊥
       go (inl e) = absurd cc
@@ -236,19 +242,31 @@ module _ {B S : Type 0} (state : B → S) (N : Machine S) (counts : Counts N) (l
   left_by (Some who.Primary) is quiet = first_left
   left_by (Some who.Backup) is quiet =
       second_left (repeated (inr (backup_won primary backup terminal disk tail held winner settled (sym is))))
-  left_by (Some who.Link) is quiet = by_winner (Some who.Link) is quiet
-  left_by (Some who.Terminal) is quiet = by_winner (Some who.Terminal) is quiet
-  left_by (Some who.Disk) is quiet = by_winner (Some who.Disk) is quiet
+  left_by (Some who.Link) is quiet = nobody (no_other winner who.Link (sym is))
+    where
+      nobody : (who.Link ≡ who.Primary) ⊎ (who.Link ≡ who.Backup) → ⊥
+      nobody (inl e) = absurd cc
+      nobody (inr e) = absurd cc
+  left_by (Some who.Terminal) is quiet = nobody (no_other winner who.Terminal (sym is))
+    where
+      nobody : (who.Terminal ≡ who.Primary) ⊎ (who.Terminal ≡ who.Backup) → ⊥
+      nobody (inl e) = absurd cc
+      nobody (inr e) = absurd cc
+  left_by (Some who.Disk) is quiet = nobody (no_other winner who.Disk (sym is))
+    where
+      nobody : (who.Disk ≡ who.Primary) ⊎ (who.Disk ≡ who.Backup) → ⊥
+      nobody (inl e) = absurd cc
+      nobody (inr e) = absurd cc
 
   -- so with the lists that the workers keep
-  pub ends : (goes : Option Who) → goes ≡ winner_named winner → (goes ≡ None → contested ≡ false)
-      → EndsBy M exact p.port0.typed.items p.port1.typed.items goes p.list.items b.guest.list.items held screens records
+  pub ends : b.plan.exact ≡ true → (goes : Option Who) → goes ≡ winner_named winner → (goes ≡ None → contested ≡ false)
+      → EndsBy M p.port0.typed.items p.port1.typed.items goes p.list.items b.guest.list.items held screens records
       (state p.guest.board) (state b.guest.board)
-  ends goes is quiet =
-      subst (λ l. EndsBy M exact p.port0.typed.items p.port1.typed.items goes l b.guest.list.items held screens records
+  ends stays goes is quiet =
+      subst (λ l. EndsBy M p.port0.typed.items p.port1.typed.items goes l b.guest.list.items held screens records
       (state p.guest.board) (state b.guest.board)) (sym p.same)
-      (subst (λ l. EndsBy M exact p.port0.typed.items p.port1.typed.items goes primary.list l held screens records
-      (state p.guest.board) (state b.guest.board)) (sym b.same) (by_winner goes is quiet))
+      (subst (λ l. EndsBy M p.port0.typed.items p.port1.typed.items goes primary.list l held screens records
+      (state p.guest.board) (state b.guest.board)) (sym b.same) (by_winner stays goes is quiet))
 
   pub left : (goes : Option Who) → goes ≡ winner_named winner → (goes ≡ None → contested ≡ false) → (waiting : Option Entry)
       → waiting ≡ p.guest.waiting
@@ -283,21 +301,21 @@ settled_so p q b c t u d e tail held winner first second third fourth settled =
     subst (λ x. Settled x c u e tail held winner) first (subst (λ x. Settled p x u e tail held winner) second
     (subst (λ x. Settled p b x e tail held winner) third (subst (λ x. Settled p b t x tail held winner) fourth settled)))
 
-pub ends_so : {S : Type 0} (M : Machine S) (exact : Bool) (typed0 typed1 known0 known1 : List ℕ) (goes : Option Who) (held : ℕ)
+pub ends_so : {S : Type 0} (M : Machine S) (typed0 typed1 known0 known1 : List ℕ) (goes : Option Who) (held : ℕ)
     (list all copy held_copy : List Entry) (screens shown : List (List ℕ)) (records kept : List Record) (s s' t t' : S)
     → known0 ≡ typed0 → known1 ≡ typed1 → all ≡ list → held_copy ≡ copy → shown ≡ screens → kept ≡ records → s' ≡ s → t' ≡ t
-    → EndsBy M exact known0 known1 goes list copy held screens records s t
-    → EndsBy M exact typed0 typed1 goes all held_copy held shown kept s' t'
-ends_so M exact typed0 typed1 known0 known1 goes held list all copy held_copy screens shown records kept s s' t t' k0 k1 l c n k is
+    → EndsBy M known0 known1 goes list copy held screens records s t
+    → EndsBy M typed0 typed1 goes all held_copy held shown kept s' t'
+ends_so M typed0 typed1 known0 known1 goes held list all copy held_copy screens shown records kept s s' t t' k0 k1 l c n k is
     there ends =
-    subst (λ x. EndsBy M exact x typed1 goes all held_copy held shown kept s' t') k0
-    (subst (λ x. EndsBy M exact known0 x goes all held_copy held shown kept s' t') k1
-    (subst (λ x. EndsBy M exact known0 known1 goes x held_copy held shown kept s' t') (sym l)
-    (subst (λ x. EndsBy M exact known0 known1 goes list x held shown kept s' t') (sym c)
-    (subst (λ x. EndsBy M exact known0 known1 goes list copy held x kept s' t') (sym n)
-    (subst (λ x. EndsBy M exact known0 known1 goes list copy held screens x s' t') (sym k)
-    (subst (λ x. EndsBy M exact known0 known1 goes list copy held screens records x t') (sym is)
-    (subst (λ x. EndsBy M exact known0 known1 goes list copy held screens records s x) (sym there) ends)))))))
+    subst (λ x. EndsBy M x typed1 goes all held_copy held shown kept s' t') k0
+    (subst (λ x. EndsBy M known0 x goes all held_copy held shown kept s' t') k1
+    (subst (λ x. EndsBy M known0 known1 goes x held_copy held shown kept s' t') (sym l)
+    (subst (λ x. EndsBy M known0 known1 goes list x held shown kept s' t') (sym c)
+    (subst (λ x. EndsBy M known0 known1 goes list copy held x kept s' t') (sym n)
+    (subst (λ x. EndsBy M known0 known1 goes list copy held screens x s' t') (sym k)
+    (subst (λ x. EndsBy M known0 known1 goes list copy held screens records x t') (sym is)
+    (subst (λ x. EndsBy M known0 known1 goes list copy held screens records s x) (sym there) ends)))))))
 
 -- ---- results
 

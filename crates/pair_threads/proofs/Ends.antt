@@ -1,7 +1,7 @@
 -- How a generation ends. The primary's guest has made a run of its list, in which each sector carried what the machine's
 -- own disk had. What terminals and disk have was given in the moves up to any list that has all entries seen: the
 -- primary's, or the backup's. If nothing is outstanding, and all is seen, they have what the whole run gave.
-use Rattle.std.proofs.Common.{◌≡◌, ℕ, zero, suc, ◌+◌, ◌<◌, ◌≤◌, ◌⊎◌, inl, inr, Bool, true, false, List, [], ◌∷◌, ◌++◌, length, map, take, drop, Option, Some, None, refl, sym, ap, subst, ◌∙◌, arith, length-append, append-nil, append_assoc}
+use Rattle.std.proofs.Common.{◌≡◌, ℕ, zero, suc, ◌+◌, ◌<◌, ◌≤◌, ◌⊎◌, inl, inr, false, List, [], ◌∷◌, ◌++◌, length, map, take, drop, Option, Some, None, refl, sym, ap, subst, ◌∙◌, arith, length-append, append-nil, append_assoc}
 use Rattle.std.proofs.Math.Seq.{take-length}
 use Rattle.std.proofs.lemmas.List.{take-append-drop}
 use Rattle.std.specs.Prelude.{Contains}
@@ -335,15 +335,9 @@ module _ {S : Type 0} (M : Machine S) (lawful : Lawful M) (counts : Counts M) (l
           (operations-prefix trace r.moves (goes.rest, sym goes.all))
           (given_first (length backup.list) primary.seen leads.moves o stands.seen (leads.covered o at))
 
-  -- where it is: at the last entry, or at its own count
-  pub backup_where : (exact : Bool) (t : S) → Repeats M exact M.boot backup.list false t → IsWhereItLeads M exact backup.list t
-  backup_where true t r = repeated M lawful leads.moves s runs owned backup.list starts.0 (are ∙ starts.1) counts t r
-  backup_where false t r =
-      let left = backup_leaves t r.ran in
-      let made = recorded-runs M M.boot t left.moves left.recorded in (
-        left.moves,
-        all_of_it M lawful left.moves t made left.owns backup.list left.entries_are,
-      )
+  -- where it is: at the last entry
+  pub backup_where : (t : S) → Repeats M M.boot backup.list false t → IsWhereItLeads M backup.list t
+  backup_where t r = repeated M lawful leads.moves s runs owned backup.list starts.0 (are ∙ starts.1) counts t r
 
   -- ---- at rest
 
@@ -362,9 +356,9 @@ module _ {S : Type 0} (M : Machine S) (lawful : Lawful M) (counts : Counts M) (l
         (ap (acceptances port) (sym (inputs_of-entries Logged 0 leads.moves) ∙ ap inputs_of are) ∙ said) less le
 
   pub well : waiting ≡ None → names ≡ [] → primary.seen ≡ length primary.list → n0 ≡ length typed0 → n1 ≡ length typed1
-      → step_refusal M s ≡ Some Idle → NoSectorIsDue M s → (exact : Bool) (t : S)
-      → Repeats M exact M.boot backup.list false t → EndsWell M exact typed0 typed1 primary.list screens records s t
-  well none_waits none seen is0 is1 idle no_sector exact t repeats = record {
+      → step_refusal M s ≡ Some Idle → NoSectorIsDue M s → (t : S)
+      → Repeats M M.boot backup.list false t → EndsWell M typed0 typed1 primary.list screens records s t
+  well none_waits none seen is0 is1 idle no_sector t repeats = record {
     trace = leads.moves;
     is = all_of_it M lawful leads.moves s runs owned primary.list (are ∙ whole none_waits none);
     idle = idle;
@@ -393,5 +387,5 @@ module _ {S : Type 0} (M : Machine S) (lawful : Lawful M) (counts : Counts M) (l
       same = no_more primary.list backup.list stands.prefix
           (all_seen (length primary.list) (length backup.list) primary.seen stands.seen seen)
 
-      there : IsWhereItLeads M exact primary.list t
-      there = subst (λ l. IsWhereItLeads M exact l t) same (backup_where exact t repeats)
+      there : IsWhereItLeads M primary.list t
+      there = subst (λ l. IsWhereItLeads M l t) same (backup_where t repeats)

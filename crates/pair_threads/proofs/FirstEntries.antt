@@ -1,6 +1,6 @@
 -- The trace of the first entries of a recorded run, whose sectors are those of the machine's own disk; a second run of
 -- these entries, up to the count of the last, is that trace; and what is acknowledged by them was given in it.
-use Rattle.std.proofs.Common.{◌≡◌, ℕ, zero, suc, ◌<◌, ◌≤◌, inl, inr, true, false, List, [], ◌∷◌, ◌++◌, length, take, Some, None, refl, sym, ap, subst, ◌∙◌, arith, length-append}
+use Rattle.std.proofs.Common.{◌≡◌, ℕ, zero, suc, ◌<◌, ◌≤◌, inl, inr, false, List, [], ◌∷◌, ◌++◌, length, take, Some, None, refl, sym, ap, subst, ◌∙◌, arith, length-append}
 use Rattle.std.proofs.Math.Seq.{take-append_seam}
 use Rattle.pair_threads.proofs.Words.{Among, Counts, Do, Entry, IsAcknowledged, IsTraceOf, IsWhereItLeads, Lawful, Logged, Machine, Move, Operation, Owns, Reach, Repeats, Runs, Take, among-right, entries, front, inputs, inputs_of, inputs_of-entries, last_count, operations, operations-append, owns-prefix, steps}
 use Rattle.pair_protocol.specs.Traces.{cut}
@@ -69,14 +69,14 @@ module _ {S : Type 0} (M : Machine S) (lawful : Lawful M) (moves : List Move) (s
         subst (λ l. Reach M (inputs_of l) (last_count 0 l) (cut (length list) moves)) e f.1 in
         (r.last, record { reach = r; ends = refl; entries_are = f.0 ∙ e })
 
-    -- a run that repeats the first entries exactly
-    pub repeated : Counts M → (t : S) → Repeats M true M.boot list false t → IsWhereItLeads M true list t
+    -- a run that repeats the first entries, and ends at the last
+    pub repeated : Counts M → (t : S) → Repeats M M.boot list false t → IsWhereItLeads M list t
     repeated counts t r =
         let boot : M.count M.boot ≡ 0 = lawful.counts [] M.boot refl in
         let made = recorded-runs M M.boot t r.ran.moves r.ran.runs in
         let is : entries Logged 0 r.ran.moves ≡ list =
         ap (λ c. entries Logged c r.ran.moves) (sym boot) ∙ r.ran.entries_are in
-        let at : M.count t ≡ last_count 0 list = r.at refl refl ∙ ap (λ c. last_count c list) boot in
+        let at : M.count t ≡ last_count 0 list = r.at refl ∙ ap (λ c. last_count c list) boot in
         let p = front M counts M.boot t s 0 r.ran.moves moves more boot made (at ∙ ap (last_count 0) (sym is)) runs
         (are ∙ ap (λ l. l ++ more) (sym is)) in (
           r.ran.moves,

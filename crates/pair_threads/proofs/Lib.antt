@@ -1,16 +1,11 @@
 pub mod Words
-pub mod Asking
-pub mod Typing
 pub mod Serving
 pub mod Carrying
 pub mod Screens
-pub mod Showing
 pub mod Repeating
-pub mod Looking
 pub mod Leading
 pub mod Telling
 pub mod Offering
-pub mod Naming
 pub mod Views
 pub mod KeptCalls
 pub mod Ports

@@ -1,12 +1,12 @@
 -- The guest of a backup's worker: entries that arrive leave what it has repeated as it was; steps towards an entry keep it,
 -- and the entry's own move adds the entry.
 use Rattle.std.proofs.Common.{◌≡◌, ◌⊎◌, inl, inr, ℕ, suc, ◌+◌, ◌≤◌, Bool, true, false, Option, Some, None, Ok, Err, List, [], ◌∷◌, ◌++◌, length, take, refl, sym, ap, subst, ◌∙◌, arith}
-use Rattle.std.specs.Prelude.{is_some, nat_lt, slice_get}
-use Rattle.std.proofs.lemmas.Bool.{false≢true, true≢false}
+use Rattle.std.specs.Prelude.{IsSome, is_some, nat_lt, slice_get}
+use Rattle.std.proofs.lemmas.Bool.{true≢false}
 use Rattle.std.proofs.Math.Seq.{take-suc}
 use Rattle.std.proofs.lemmas.List.{take-append-le}
 use Rattle.std.proofs.lemmas.Option.{get_or_from_slice_get, slice_get_within}
-use Rattle.pair_threads.proofs.Words.{AsksIn, BackupWorker, Counts, Entry, FollowsFor, GoesOn, HasAsked, IsAt, IsStuck, Machine, MayAsk, OutOfMemory, Repeats, Seat, StepsUnless, last_count-append, ran_ahead, step_refusal}
+use Rattle.pair_threads.proofs.Words.{BackupWorker, Counts, Entry, FollowsFor, GoesOn, HasAsked, IsAt, IsStuck, Machine, OutOfMemory, Repeats, Seat, StepsUnless, last_count-append, ran_ahead, step_refusal}
 use Rattle.guest_lockstep.specs.Running.{AllTurns, Gives, IsRefused, Quiet, RunsOn}
 use Rattle.guest_lockstep.specs.declared.running.Stopped.{Stopped}
 use Rattle.guest_lockstep.proofs.QuietSteps.{quiet_count}
@@ -15,17 +15,11 @@ use Rattle.replayer.specs.Following.{Follows, Reaches}
 use Rattle.replayer.specs.declared.following.Followed.{Followed}
 use Rattle.replayer.specs.declared.following.Followed.TheVariants.{Differs, Stepped}
 use Rattle.replayer.proofs.FollowedEntries.{following_is_recording}
-use Rattle.pair_threads.proofs.Asking.{asks_so}
 use Rattle.pair_threads.specs.declared.plan.Plan.{Plan}
 use Rattle.pair_threads.specs.declared.repeater.Repeater.{Repeater}
 
-pub at_first : {S : Type 0} (M : Machine S) (exact : Bool) (boot : S) → Repeats M exact boot [] false boot
-at_first M exact boot = record { ran = record { moves = []; runs = refl; entries_are = refl }; at = λ stands here. refl }
-
--- whoever repeats a list exactly repeats it
-pub loosely : {S : Type 0} (M : Machine S) (exact : Bool) (boot s : S) (list : List Entry) (between : Bool)
-    → Repeats M exact boot list between s → Repeats M false boot list between s
-loosely M exact boot s list between r = record { ran = r.ran; at = λ stands here. absurd (false≢true stands) }
+pub at_first : {S : Type 0} (M : Machine S) (boot : S) → Repeats M boot [] false boot
+at_first M boot = record { ran = record { moves = []; runs = refl; entries_are = refl }; at = λ here. refl }
 
 -- a guest that runs past its last entry and gives no operation there makes quiet steps
 pub ran_quietly : {S : Type 0} (M : Machine S) (s t : S) (most : ℕ) (stopped : Stopped) (ran : Bool)
@@ -42,34 +36,34 @@ pub risen : {S : Type 0} (M : Machine S) → Counts M → (s t : S) (n : ℕ) �
     → nat_lt 0 n ≡ nat_lt (M.count s) (M.count t)
 risen M counts s t n quiet = more_by n (M.count s) (M.count t) (quiet_count M s t n counts quiet)
 
-module _ {S : Type 0} (M : Machine S) (exact : Bool) (boot s : S) (list : List Entry) (between : Bool) where
+module _ {S : Type 0} (M : Machine S) (boot s : S) (list : List Entry) (between : Bool) where
   -- one more entry comes
-  pub kept : (replayed : ℕ) (e : Entry) → replayed ≤ length list → Repeats M exact boot (take replayed list) between s
-      → Repeats M exact boot (take replayed (list ++ e ∷ [])) between s
+  pub kept : (replayed : ℕ) (e : Entry) → replayed ≤ length list → Repeats M boot (take replayed list) between s
+      → Repeats M boot (take replayed (list ++ e ∷ [])) between s
   kept replayed e within r =
-      subst (λ l. Repeats M exact boot l between s) (sym (take-append-le replayed list (e ∷ []) within)) r
+      subst (λ l. Repeats M boot l between s) (sym (take-append-le replayed list (e ∷ []) within)) r
 
   module _ (counts : Counts M) where
-    pub steps_on : (n turns : ℕ) (e : Entry) (t : S) → Repeats M exact boot list between s
-        → Follows M s e turns (Ok (Stepped n)) t → Repeats M exact boot list true t
+    pub steps_on : (n turns : ℕ) (e : Entry) (t : S) → Repeats M boot list between s
+        → Follows M s e turns (Ok (Stepped n)) t → Repeats M boot list true t
     steps_on n turns e t r follows =
         record {
           ran = (following_is_recording M counts boot s list r.ran).quietly n t follows.3;
-          at = λ stands not_between. absurd cc;
+          at = λ not_between. absurd cc;
         }
 
     -- it makes steps past its last entry
-    pub runs_on : (n : ℕ) (t : S) → Repeats M exact boot list between s → Quiet M s n t → Repeats M exact boot list true t
+    pub runs_on : (n : ℕ) (t : S) → Repeats M boot list between s → Quiet M s n t → Repeats M boot list true t
     runs_on n t r quiet = record {
       ran = (following_is_recording M counts boot s list r.ran).quietly n t quiet;
-      at = λ stands not_between. absurd (true≢false not_between);
+      at = λ not_between. absurd (true≢false not_between);
     }
 
-    pub reaches : (e : Entry) (t : S) → Repeats M exact boot list between s → Reaches M s e t
-        → Repeats M exact boot (list ++ e ∷ []) false t
+    pub reaches : (e : Entry) (t : S) → Repeats M boot list between s → Reaches M s e t
+        → Repeats M boot (list ++ e ∷ []) false t
     reaches e t r there =
         let made = (following_is_recording M counts boot s list r.ran).reaches e t there in
-        record { ran = made.0; at = λ stands here. made.1 ∙ sym (last_count-append (M.count boot) list e) }
+        record { ran = made.0; at = λ here. made.1 ∙ sym (last_count-append (M.count boot) list e) }
 
 -- the entries repeated after one more
 pub one_more : (list : List Entry) (replayed : ℕ) (e : Entry) → slice_get list replayed ≡ Some e
@@ -105,25 +99,24 @@ refused_there state M r e turns fault t follows = go (step_refusal M (state r.bo
 
 -- it has come from the first worker by way of another
 module _ {B S : Type 0} (state : B → S) (M : Machine S) (first old new : BackupWorker B) (same : new.plan ≡ old.plan)
-    (came : (old.plan ≡ first.plan) × HasAsked old.plan.asking old.seat.core.known.backup.winner
+    (came : (old.plan ≡ first.plan) × HasAsked old.plan.contests_at old.seat.core.known.backup.winner
     × GoesOn state M first.guest old.guest) where
-  pub comes_on : HasAsked new.plan.asking new.seat.core.known.backup.winner → GoesOn state M old.guest new.guest
-      → (new.plan ≡ first.plan) × HasAsked new.plan.asking new.seat.core.known.backup.winner
+  pub comes_on : HasAsked new.plan.contests_at new.seat.core.known.backup.winner → GoesOn state M old.guest new.guest
+      → (new.plan ≡ first.plan) × HasAsked new.plan.contests_at new.seat.core.known.backup.winner
       × GoesOn state M first.guest new.guest
-  comes_on asked goes = (same ∙ came.0, asked, λ exact boot at. goes exact boot (came.2 exact boot at))
+  comes_on asked goes = (same ∙ came.0, asked, λ boot at. goes boot (came.2 boot at))
 
   -- its seat is as it was
-  pub still_asked : new.seat ≡ old.seat → HasAsked new.plan.asking new.seat.core.known.backup.winner
+  pub still_asked : new.seat ≡ old.seat → HasAsked new.plan.contests_at new.seat.core.known.backup.winner
   still_asked seat =
-      subst (λ (p : Plan). HasAsked p.asking new.seat.core.known.backup.winner) (sym same)
-      (subst (λ (s : Seat). HasAsked old.plan.asking s.core.known.backup.winner) (sym seat) came.1)
+      subst (λ (p : Plan). HasAsked p.contests_at new.seat.core.known.backup.winner) (sym same)
+      (subst (λ (s : Seat). HasAsked old.plan.contests_at s.core.known.backup.winner) (sym seat) came.1)
 
-  -- it asks in its turn
-  pub asks_now : (number : ℕ) (told : Bool) → AsksIn old.plan.asking number told
-      → HasAsked new.plan.asking new.seat.core.known.backup.winner
-  asks_now number told asks =
-      inr (subst (λ (p : Plan). MayAsk p.asking) (sym same) (asks_so old.plan.asking number told asks))
+  -- it asks at its turn
+  pub asks_now : (number : ℕ) → old.plan.contests_at ≡ Some number
+      → HasAsked new.plan.contests_at new.seat.core.known.backup.winner
+  asks_now number at = inr (subst IsSome (sym (ap (λ (p : Plan). p.contests_at) same ∙ at)) refl)
 
 -- a guest that is as it was goes on
 pub goes_same : {B S : Type 0} (state : B → S) (M : Machine S) (old new : Repeater B) → new ≡ old → GoesOn state M old new
-goes_same state M old new same exact boot at = subst (λ r. IsAt state M exact boot r) (sym same) at
+goes_same state M old new same boot at = subst (λ r. IsAt state M boot r) (sym same) at

@@ -1,10 +1,8 @@
 -- The terminals' worker: a byte that is counted arrives, and is accepted if it is the next one.
-use Rattle.std.proofs.Common.{◌≡◌, ℕ, Bool, true, false, List, [], ◌∷◌, ◌++◌, if◌then◌else◌, length, map, Option, Some, refl, sym, ap, subst, ◌∙◌}
-use Rattle.std.specs.Prelude.{◌≢◌, not}
-use Rattle.std.proofs.lemmas.Bool.{eq-eqb, ne_eqb}
+use Rattle.std.proofs.Common.{◌≡◌, ℕ, Bool, true, false, List, ◌++◌, length, map, Option, Some, sym, ap, ◌∙◌}
+use Rattle.std.specs.Prelude.{not}
 use Rattle.std.proofs.lemmas.List.{map_push}
-use Rattle.pair_threads.proofs.Words.{Arrived, Byte, Core, HasShown, Knowledge, Operation, accepted_after, arrival_of, arrives, byte_arrived, bytes_accepted, with_byte, with_known}
-use Rattle.pair_lines.specs.declared.screen.Screen.{Screen}
+use Rattle.pair_threads.proofs.Words.{Arrived, Byte, Core, Knowledge, Operation, accepted_after, arrival_of, arrives, byte_arrived, bytes_accepted, with_known}
 use Rattle.pair_protocol.proofs.Promises.OneMore.{accepted-one}
 use Rattle.pair_rule.specs.declared.payload.PortByte.{PortByte}
 use Rattle.pair_threads.specs.Screens.{HasInHand, next_byte, port_of}
@@ -40,17 +38,3 @@ pub other_screen : (second : Bool) (old new : Core) (items : List ℕ)
     → items ≡ bytes_accepted (port_of (not second)) new.known
 other_screen false old new items is counts = is ∙ ap (λ (c : Core). bytes_accepted 1 c.known) (sym counts)
 other_screen true old new items is counts = is ∙ ap (λ (c : Core). bytes_accepted 0 c.known) (sym counts)
-
--- ---- what is shown
-
--- a byte that is shown is one more of its port
-pub shown_on : (s : Screen) (port byte : ℕ) (bytes : List ℕ) → HasShown s port (with_byte port port byte bytes) →
-    HasShown s port (bytes ++ byte ∷ [])
-shown_on s port byte bytes shown =
-    subst (λ (b : Bool). HasShown s port (if b then bytes ++ byte ∷ [] else bytes)) (eq-eqb port port refl) shown
-
--- and leaves what was shown of the other port
-pub shown_beside : (s : Screen) (at port byte : ℕ) (bytes : List ℕ) → at ≢ port → HasShown s at (with_byte at port byte bytes) →
-    HasShown s at bytes
-shown_beside s at port byte bytes other shown =
-    subst (λ (b : Bool). HasShown s at (if b then bytes ++ byte ∷ [] else bytes)) (ne_eqb port at (λ same. other (sym same))) shown

@@ -4,7 +4,7 @@ use Rattle.std.proofs.Common.{◌≡◌, ℕ, ◌<◌, ◌⊎◌, Bool, true, fa
 use Rattle.std.proofs.lemmas.Bool.{ltb-true}
 use Rattle.std.specs.Prelude.{nat_lt}
 use Rattle.std.specs.Option.{option_map, option_map_or}
-use Rattle.pair_threads.proofs.Words.{AllAre, Core, DiskAnswer, DiskView, Empties, Fills, FirstsAgree, FirstsAgreeOf, Has, IsDiskOf, IsFirst, IsStore, LooksAt, Record, SectorAddress, SectorRead, SectorRecord, SectorWrite, Serves, WasRead, address_of, all_more, at_boot, bytes_in, latest, put_by, record_after, same_address, same_some}
+use Rattle.pair_threads.proofs.Words.{AllAre, Core, DiskAnswer, DiskView, Empties, Fills, Has, IsDiskOf, IsFirst, IsStore, Record, SectorAddress, SectorRead, SectorRecord, SectorWrite, Serves, address_of, all_more, at_boot, bytes_in, latest, put_by, record_after, same_address, same_some}
 use Rattle.shared_disk.specs.Arrivals.{after_put, read_address, read_at, read_of}
 use Rattle.shared_disk.specs.Records.{IsThere, IsUnwritten, record_at}
 use Rattle.pair_threads.specs.Ending.{KeepsSectors}
@@ -13,13 +13,11 @@ use Rattle.pair_threads.specs.declared.worker.Turn.{Turn}
 use Rattle.pair_threads.specs.declared.worker.Turn.TheVariants.{Moved, Looks, Waits, Ends}
 use Rattle.shared_disk.proofs.Arriving.{known_put, record_at-put}
 use Rattle.pair_protocol.proofs.Promises.OneMore.{latest-one}
-use Rattle.pair_rule.proofs.Elements.{all_in}
-use Rattle.pair_rule.specs.declared.mailbox.Mailbox.TheVariants.{Answers, Lookups, Requests, Sectors}
+use Rattle.pair_rule.specs.declared.mailbox.Mailbox.TheVariants.{Answers, Requests}
 use Rattle.pair_rule.specs.declared.payload.DiskAnswer.TheVariants as answer
 use Rattle.pair_rule.specs.declared.payload.DiskRequest.{DiskRequest}
 use Rattle.pair_rule.specs.declared.payload.DiskRequest.TheVariants as ask
-use Rattle.pair_rule.specs.declared.payload.Payload.TheVariants.{Answer, Lookup, Request, Sector}
-use Rattle.pair_rule.specs.Knowledge as knowledge
+use Rattle.pair_rule.specs.declared.payload.Payload.TheVariants.{Answer, Request}
 
 -- ---- a write arrives
 
@@ -176,32 +174,6 @@ read old new address r is same boots view taken disk =
           (subst (λ rs. IsDiskOf boots rs view.puts) (sym same) disk),
     )
 
-pub looked : (old new : List Record) (address : SectorAddress) (r : SectorRead) → read_at old address ≡ Some r → new ≡ old
-    → LooksAt old address r new
-looked old new address r is same boots view sought disk =
-    let so = found_so boots old view.puts address r disk is in (
-      (
-        sought ∙ ap Some so.0,
-        subst (λ a. latest (at_boot r.bytes) view.puts a ≡ record { number = r.number; bytes = r.bytes }) so.0 so.1,
-      ),
-      so.2,
-      subst (λ rs. IsDiskOf boots rs view.puts) (sym same) disk,
-    )
-
--- ---- what was read before any write agrees
-
-module _ (boots : SectorAddress → List ℕ) (records : List Record) (view : DiskView) (store : IsStore boots records view) where
-  pub firsts_agree : (r : SectorRead) → IsFirst boots (answer.Read r) → FirstsAgree view r
-  firsts_agree r first s was same none there = go was ∙ ap boots same ∙ sym (first there)
-    where
-      go : WasRead view s → s.bytes ≡ boots (read_address s)
-      go (inl at) = all_in (IsFirst boots) view.given (answer.Read s) store.firsts at none
-      go (inr at) = all_in (λ r. IsFirst boots (answer.Read r)) view.found s store.finds at none
-
-  pub firsts_agree_of : (a : DiskAnswer) → IsFirst boots a → FirstsAgreeOf view a
-  firsts_agree_of (answer.Written number) first = tt
-  firsts_agree_of (answer.Read r) first = firsts_agree r first
-
 -- ---- the worker's turn
 
 -- a worker that is ready and may end has left what it should, whatever its turn was
@@ -220,19 +192,6 @@ replied boots old new request a core after serves taken fills store =
     subst (λ (c : Core). IsStore boots new c.known.disk) (sym fills.0.1) record {
       kept = served.2;
       firsts = all_more core.known.disk.given a (IsFirst boots) store.firsts served.1;
-      finds = store.finds;
-    }
-
--- a sector that is looked up is found
-pub looked_up : (boots : SectorAddress → List ℕ) (old new : List Record) (address : SectorAddress) (r : SectorRead)
-    (core after : Core) → LooksAt old address r new → core.known.disk.sought ≡ Some address
-    → Fills Sectors (Sector r) core after → IsStore boots old core.known.disk → IsStore boots new after.known.disk
-looked_up boots old new address r core after looks sought fills store =
-    let seen = looks boots core.known.disk sought store.kept in
-    subst (λ (c : Core). IsStore boots new c.known.disk) (sym fills.0.1) record {
-      kept = seen.2;
-      firsts = store.firsts;
-      finds = all_more core.known.disk.found r (λ x. IsFirst boots (answer.Read x)) store.finds seen.1;
     }
 
 -- a request is taken, or none is there
@@ -241,21 +200,10 @@ pub took : (boots : SectorAddress → List ℕ) (records : List Record) (found :
     → IsStore boots records after.known.disk
 took boots records None core after empties store =
     subst (λ (c : Core). IsStore boots records c.known.disk) (sym empties.0.1)
-    (record { kept = store.kept; firsts = store.firsts; finds = store.finds })
+    (record { kept = store.kept; firsts = store.firsts })
 took boots records (Some request) core after empties store =
     subst (λ (c : Core). IsStore boots records c.known.disk) (sym empties.1.1)
-    (record { kept = store.kept; firsts = store.firsts; finds = store.finds })
-
--- a lookup is taken, or none is there
-pub took_lookup : (boots : SectorAddress → List ℕ) (records : List Record) (found : Option SectorAddress) (core after : Core)
-    → Empties Lookups (option_map Lookup found) core after → IsStore boots records core.known.disk
-    → IsStore boots records after.known.disk
-took_lookup boots records None core after empties store =
-    subst (λ (c : Core). IsStore boots records c.known.disk) (sym empties.0.1)
-    (record { kept = store.kept; firsts = store.firsts; finds = store.finds })
-took_lookup boots records (Some address) core after empties store =
-    subst (λ (c : Core). IsStore boots records c.known.disk) (sym empties.1.1)
-    (record { kept = store.kept; firsts = store.firsts; finds = store.finds })
+    (record { kept = store.kept; firsts = store.firsts })
 
 -- the disk fails a request
 pub failed : (boots : SectorAddress → List ℕ) (old new : List Record) (view : DiskView) → new ≡ old
@@ -268,10 +216,9 @@ first_sectors : (records : List Record) → IsUnwritten records → IsDiskOf (by
 first_sectors records unwritten a r at =
     (unwritten a r at, ap (λ found. option_map_or (λ (x : Record). x.bytes) found []) (sym at))
 
-pub first_disk : (records : List Record) (view : DiskView) → view.puts ≡ [] → view.given ≡ [] → view.found ≡ []
-    → IsUnwritten records → IsStore (bytes_in records) records view
-first_disk records view no_puts none_given none_found unwritten = record {
+pub first_disk : (records : List Record) (view : DiskView) → view.puts ≡ [] → view.given ≡ [] → IsUnwritten records
+    → IsStore (bytes_in records) records view
+first_disk records view no_puts none_given unwritten = record {
   kept = subst (λ puts. IsDiskOf (bytes_in records) records puts) (sym no_puts) (first_sectors records unwritten);
   firsts = subst (λ given. AllAre given (IsFirst (bytes_in records))) (sym none_given) tt;
-  finds = subst (λ found. AllAre found (λ r. IsFirst (bytes_in records) (answer.Read r))) (sym none_found) tt;
 }

@@ -1,6 +1,6 @@
 -- What the workers end with is what steps of the threads led to: the table has its steps, and each worker kept what its calls
 -- promise.
-use Rattle.std.proofs.Common.{◌≡◌, ◌≤◌, ℕ, Bool, List, [], ◌∷◌, length, map, Option, None, refl, sym, ap, subst, ◌∙◌, arith}
+use Rattle.std.proofs.Common.{◌≡◌, ◌≤◌, ℕ, List, [], ◌∷◌, length, map, Option, None, refl, sym, ap, subst, ◌∙◌, arith}
 use Rattle.pair_threads.proofs.Words.{AllAre, BackupView, BackupWorker, CallKept, DiskAnswer, DiskView, Entry, IsAt, IsFirst, IsStore, Lawful, Logged, Machine, NoneUnderWay, PrimaryView, PrimaryWorker, Record, Recorded-booted, Settled, TerminalView, ThreadRun, Who, WorkerKeeps, WorkerLeads, accepted_after, all_map, arrival_of, booted_from, bytes_in, entries, last_or, winner_named, winner_of, longer_by}
 use Rattle.pair_protocol.proofs.Promises.Growth.{row_grows}
 use Rattle.pair_protocol.proofs.RowActions.{row_changes}
@@ -11,12 +11,12 @@ use Rattle.pair_rule.proofs.KeptSteps.{kept_steps}
 use Rattle.pair_rule.proofs.Threads.{runs_shown}
 use Rattle.pair_threads.specs.Shown.{IsOfRun}
 
-module _ {B S : Type 0} (state : B → S) (N : Machine S) (exact : Bool) (boot : S)
+module _ {B S : Type 0} (state : B → S) (N : Machine S) (boot : S)
     (first : List Record) (lawful : Lawful (booted_from N boot (bytes_in first))) (p : PrimaryWorker B) (b : BackupWorker B)
     (terminal : TerminalView) (disk : DiskView) (tail held winner : ℕ)
     (settled : Settled p.seat.core.known.primary b.seat.core.known.backup terminal disk tail held winner)
     (records : List Record) (leads : WorkerLeads state N boot p) (kept : WorkerKeeps N boot p)
-    (at : IsAt state N exact boot b.guest) (store : IsStore (bytes_in first) records disk) where
+    (at : IsAt state N boot b.guest) (store : IsStore (bytes_in first) records disk) where
   abbrev M : Machine S
   M = booted_from N boot (bytes_in first)
 
@@ -41,7 +41,6 @@ module _ {B S : Type 0} (state : B → S) (N : Machine S) (exact : Bool) (boot :
     reads_kept =
         subst (λ (d : DiskView). AllAre d.given (ReadsBoot M)) (sym settled.disk_is)
         (all_map disk.given (IsFirst (bytes_in first)) (ReadsBoot M) read_first store.firsts);
-    found_kept = subst (λ (d : DiskView). AllAre d.found (λ r. ReadsBoot M (answer.Read r))) (sym settled.disk_is) store.finds;
   }
 
   there : IsStore (bytes_in first) records settled.known.disk

@@ -1,7 +1,7 @@
 -- What each call of its seat leaves of a primary's view, and that its guest still leads under it.
-use Rattle.std.proofs.Common.{◌≡◌, ℕ, zero, suc, ◌+◌, ◌≤◌, inl, inr, List, [], ◌∷◌, ◌++◌, length, Some, None, refl, sym, ap, subst, ◌∙◌, arith, length-append, take, Vec, Global, vec_len}
-use Rattle.std.specs.Prelude.{◌-◌, slice_get}
-use Rattle.pair_threads.proofs.Words.{Among, AreAnswers, CallsKept, ComesAndGoes, Core, Counts, Counts-booted, DiskAnswer, Do, Empties, Entry, Fills, HasAsked, IdlesIf, IsAcknowledged, IsLeading, Leads, Machine, Move, OpId, Operation, PortInputs, PrimaryView, PrimaryWorker, Recorded-booted, Recording, Says, Seat, SectorAddress, SectorWrite, Take, WorkerKeeps, WorkerLeads, Works, Write, appended, booted_from, by_port, id_of, keys_by, keys_taken, told_by, with_known, longer_by}
+use Rattle.std.proofs.Common.{◌≡◌, ℕ, zero, suc, ◌+◌, ◌≤◌, inl, inr, List, [], ◌∷◌, ◌++◌, length, length-append, Option, Some, None, refl, sym, ap, subst, ◌∙◌, arith}
+use Rattle.std.specs.Prelude.{◌-◌, IsSome, slice_get}
+use Rattle.pair_threads.proofs.Words.{Among, AreAnswers, CallsKept, ComesAndGoes, Core, Counts, Counts-booted, DiskAnswer, Do, Empties, Entry, Fills, HasAsked, IdlesIf, IsAcknowledged, IsLeading, Leads, Machine, Move, OpId, Operation, PrimaryView, PrimaryWorker, Recorded-booted, Recording, Says, Seat, SectorAddress, SectorWrite, Take, WorkerKeeps, WorkerLeads, Works, Write, appended, booted_from, id_of, keys_by, told_by, with_known, longer_by}
 use Rattle.event_callbacks.specs.declared.operations.OpId.TheVariants as id
 use Rattle.pair_rule.specs.declared.mailbox.Mailbox.TheVariants.{Requests, Answers}
 use Rattle.pair_rule.specs.declared.payload.DiskRequest.{DiskRequest}
@@ -10,9 +10,6 @@ use Rattle.pair_rule.specs.declared.payload.Payload.TheVariants.{Out, Request, A
 use Rattle.pair_rule.specs.Boxes.{port_box}
 use Rattle.pair_rule.specs.Knowledge as knowledge
 use Rattle.pair_threads.specs.Primary.{MayAsk}
-use Rattle.pair_threads.specs.Typing.{HasHeard, HasListened, IsTyped, Notes, typed_with}
-use Rattle.pair_threads.proofs.Typing.{calls_more, typed_on}
-use Rattle.std.proofs.lemmas.List.{take-append-le}
 use Rattle.pair_threads.specs.declared.plan.Plan.{Plan}
 use Rattle.pair_threads.proofs.KeptCalls.{append_kept, release_kept}
 use Rattle.pair_threads.proofs.Leading as moving
@@ -149,7 +146,7 @@ module _ {B S : Type 0} (state : B → S) (M : Machine S) (boot : S) (view : Pri
 abbrev pub WorksAt : {B S : Type 0} → (B → S) → Machine S → PrimaryWorker B → Seat → Type 0
 WorksAt {B} {S} state M old seat =
     (seat.table ≡ old.seat.table) × (seat.core.known.primary.winner ≡ old.seat.core.known.primary.winner)
-    × (old.plan ≡ old.plan) × (typed_with old.port0 ≡ typed_with old.port0) × (typed_with old.port1 ≡ typed_with old.port1)
+    × (old.plan ≡ old.plan) × (old.port0.typed ≡ old.port0.typed) × (old.port1.typed ≡ old.port1.typed)
     × ((boot : S) → WorkerLeads state M boot old → IsLeading state M boot seat.core.known.primary
     (keys_by old) (told_by old) old.guest)
     × ((boot : S) → WorkerLeads state M boot old → WorkerKeeps M boot old → CallsKept M boot old.port0.typed.items old.port1.typed.items seat.core.known.primary.calls)
@@ -226,7 +223,7 @@ module _ {B S : Type 0} (state : B → S) (M : Machine S) (counts : Counts M) (o
   after = record old.guest { waiting = None }
 
   pub appends : (seat.table ≡ old.seat.table) × (seat.core.known.primary.winner ≡ old.seat.core.known.primary.winner)
-      × (old.plan ≡ old.plan) × (typed_with old.port0 ≡ typed_with old.port0) × (typed_with old.port1 ≡ typed_with old.port1)
+      × (old.plan ≡ old.plan) × (old.port0.typed ≡ old.port0.typed) × (old.port1.typed ≡ old.port1.typed)
       × ((boot : S) → WorkerLeads state M boot old → IsLeading state M boot seat.core.known.primary
       (keys_by old) (told_by old) after)
       × ((boot : S) → WorkerLeads state M boot old → WorkerKeeps M boot old
@@ -295,8 +292,8 @@ module _ {B S : Type 0} (state : B → S) (M : Machine S) (counts : Counts M) (l
 
 abbrev pub Came : {B S : Type 0} → (B → S) → Machine S → PrimaryWorker B → PrimaryWorker B → Type 0
 Came {B} {S} state M first w =
-    (w.plan ≡ first.plan) × HasHeard first.port0 w.port0 × HasHeard first.port1 w.port1
-    × HasAsked w.plan.asking w.seat.core.known.primary.winner
+    (w.plan ≡ first.plan) × (w.port0.typed ≡ first.port0.typed) × (w.port1.typed ≡ first.port1.typed)
+    × HasAsked w.plan.contests_at w.seat.core.known.primary.winner
     × ((boot : S) → WorkerLeads state M boot first → WorkerLeads state M boot w)
     × ((boot : S) → WorkerLeads state M boot first → WorkerKeeps M boot first → WorkerKeeps M boot w)
 
@@ -304,64 +301,17 @@ pub came_on : {B S : Type 0} (state : B → S) (M : Machine S) (first old new : 
     → Works state M old new → Came state M first new
 came_on state M first old new came works = (
   works.2 ∙ came.0,
-  subst (IsTyped (typed_with first.port0)) (sym works.3) came.1,
-  subst (IsTyped (typed_with first.port1)) (sym works.4) came.2,
-  subst (λ (p : Plan). HasAsked p.asking new.seat.core.known.primary.winner) (sym works.2)
-      (subst (HasAsked old.plan.asking) (sym works.1) came.3),
+  works.3 ∙ came.1,
+  works.4 ∙ came.2,
+  subst (λ (p : Plan). HasAsked p.contests_at new.seat.core.known.primary.winner) (sym works.2)
+      (subst (HasAsked old.plan.contests_at) (sym works.1) came.3),
   λ boot leads. works.5 boot (came.4 boot leads),
   λ boot leads kept. works.6 boot (came.4 boot leads) (came.5 boot leads kept),
 )
 
-typed_long : (v : Vec ℕ Global) → vec_len v ≡ length v.items
-typed_long v = omega (arith, v.ok.0)
-
--- a worker that has noted keys still came so
-module _ {B S : Type 0} (state : B → S) (M : Machine S) (old new : PrimaryWorker B) (listened : HasListened old new) where
-  same_keys : (p q : PortInputs) → Notes p q → keys_taken q ≡ keys_taken p
-  same_keys p q notes =
-      ap (λ n. take n q.typed.items) notes.taken ∙ ap (λ l. take p.taken l) notes.heard.typed
-      ∙ take-append-le p.taken p.typed.items notes.heard.more
-      (subst (λ n. p.taken ≤ n) (typed_long p.typed) p.within)
-
-  abbrev Says_at : S → Seat → Recording B → List ℕ → List ℕ → ℕ → ℕ → Type 0
-  Says_at boot s r k0 k1 n0 n1 = IsLeading state M boot s.core.known.primary (by_port k0 k1 []) (by_port n0 n1 0) r
-
-  pub leads_heard : (boot : S) → WorkerLeads state M boot old → WorkerLeads state M boot new
-  leads_heard boot leads =
-      subst (λ s. Says_at boot s new.guest (keys_taken new.port0) (keys_taken new.port1) new.port0.accepted new.port1.accepted)
-      (sym listened.work.0)
-      (subst (λ r. Says_at boot old.seat r (keys_taken new.port0) (keys_taken new.port1) new.port0.accepted new.port1.accepted)
-      (sym listened.work.2)
-      (subst (λ k. Says_at boot old.seat old.guest k (keys_taken new.port1) new.port0.accepted new.port1.accepted)
-      (sym (same_keys old.port0 new.port0 listened.port0))
-      (subst (λ k. Says_at boot old.seat old.guest (keys_taken old.port0) k new.port0.accepted new.port1.accepted)
-      (sym (same_keys old.port1 new.port1 listened.port1))
-      (subst (λ n. Says_at boot old.seat old.guest (keys_taken old.port0) (keys_taken old.port1) n new.port1.accepted)
-      (sym listened.port0.accepted)
-      (subst (λ n. Says_at boot old.seat old.guest (keys_taken old.port0) (keys_taken old.port1) old.port0.accepted n)
-      (sym listened.port1.accepted) leads)))))
-
-  pub keeps_heard : (boot : S) → WorkerKeeps M boot old → WorkerKeeps M boot new
-  keeps_heard boot kept =
-      let calls = old.seat.core.known.primary.calls in
-      subst (λ (s : Seat). CallsKept M boot new.port0.typed.items new.port1.typed.items s.core.known.primary.calls)
-      (sym listened.work.0)
-      (subst (λ l. CallsKept M boot l new.port1.typed.items calls) (sym listened.port0.heard.typed)
-      (subst (λ l. CallsKept M boot (old.port0.typed.items ++ listened.port0.heard.more) l calls)
-      (sym listened.port1.heard.typed)
-      (calls_more old.port0.typed.items old.port1.typed.items listened.port0.heard.more listened.port1.heard.more M boot
-      calls kept)))
-
-  pub came_heard : (first : PrimaryWorker B) → Came state M first old → Came state M first new
-  came_heard first came = (
-    listened.work.3 ∙ came.0,
-    typed_on (typed_with first.port0) (typed_with old.port0) (typed_with new.port0) came.1 listened.port0.heard,
-    typed_on (typed_with first.port1) (typed_with old.port1) (typed_with new.port1) came.2 listened.port1.heard,
-    subst (λ (p : Plan). HasAsked p.asking new.seat.core.known.primary.winner) (sym listened.work.3)
-        (subst (λ (s : Seat). HasAsked old.plan.asking s.core.known.primary.winner) (sym listened.work.0) came.3),
-    λ boot leads. leads_heard boot (came.4 boot leads),
-    λ boot leads kept. keeps_heard boot (came.5 boot leads kept),
-  )
+pub some_at : (o : Option ℕ) (n : ℕ) → o ≡ Some n → IsSome o
+some_at None n is = absurd cc
+some_at (Some m) n is = refl
 
 -- a worker that asks who goes on alone
 module _ {B S : Type 0} (state : B → S) (M : Machine S) (counts : Counts M) (laws : ComesAndGoes M)

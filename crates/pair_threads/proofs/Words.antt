@@ -19,7 +19,6 @@ pub use Rattle.i8080_words.specs.declared.refusal.Fault.TheVariants.{Idle, OutOf
 pub use Rattle.log_entry.specs.Entries.{count_of, entries, entry_of, inputs_of, is_read, last_count}
 pub use Rattle.log_entry.specs.declared.entry.Entry.{Entry}
 pub use Rattle.log_entry.specs.declared.entry.Entry.TheVariants.{Mark, Read, Rx, Sector, Sent, Written}
-pub use Rattle.pair_lines.specs.Lines.{HasShown, Hears, IsSameStart, found, heard, with_byte}
 pub use Rattle.pair_protocol.proofs.Traces.Lists.{among-left, among-prefix, among-right, bool_cases, same_some}
 pub use Rattle.pair_protocol.proofs.Traces.Moves.{acceptances-append, acceptances_of-append, count_entry, inputs_of-append, inputs_of-entries, keys-append, last_count-append, operations-append, operations-prefix, output-append, owns-append, owns-prefix, runs-append}
 pub use Rattle.pair_protocol.specs.Faithful.{IsAllBut, IsImage, IsOutstanding, IsPrefix, MayHave}
@@ -30,7 +29,7 @@ pub use Rattle.pair_rule.proofs.Filled.{all_map, all_more, among_last}
 pub use Rattle.pair_rule.proofs.LongerRuns.{front, run_goes_on}
 pub use Rattle.pair_rule.specs.Kinds.{counted_at, with_known, with_slot}
 pub use Rattle.shared_disk.specs.Arrivals.{read_address}
-pub use Rattle.pair_rule.specs.Knowledge.{AllAre, Carries, Decided, FirstsAgree, FirstsAgreeOf, HasWrite, IsReplied, Stands, StartsWith, WasRead, appended, arrives, byte_arrived, last_or, put_by, sector_entry, winner_of, with_release, longer_by}
+pub use Rattle.pair_rule.specs.Knowledge.{AllAre, Decided, HasWrite, IsReplied, Stands, StartsWith, appended, arrives, byte_arrived, last_or, put_by, winner_of, with_release}
 pub use Rattle.pair_rule.specs.Law.{IsTold, typed_at}
 pub use Rattle.pair_rule.specs.Seats.{Carrier, Empties, Fills, Seat, Settled}
 pub use Rattle.pair_rule.specs.Shown.{IsAcknowledged, arrival_of, notes_from}
@@ -45,13 +44,13 @@ pub use Rattle.pair_rule.specs.declared.view.PrimaryView.{PrimaryView}
 pub use Rattle.pair_rule.specs.declared.view.TerminalView.{TerminalView}
 pub use Rattle.shared_disk.specs.declared.disk.SectorRead.{SectorRead}
 pub use Rattle.shared_disk.specs.declared.store.Record.{Record}
-pub use Rattle.pair_threads.specs.Asking.{AsksIn, HasAsked, IsUnplanned, MayAsk, WonOver, asking_of}
+pub use Rattle.pair_threads.specs.Asking.{HasAsked}
 pub use Rattle.pair_threads.specs.Ending.{EachScreen, EndsAlone, EndsBy, EndsWell, IsTraceOf, IsWhereItLeads, NoSectorIsDue, NoneUnderWay, WonBy, winner_named}
-pub use Rattle.pair_threads.specs.Leading.{AreAnswers, HeardOn, IdlesIf, IsAnswer, IsGiven, IsLeading, Leads, LeadsOn, Says, TakesOn, by_port}
+pub use Rattle.pair_threads.specs.Leading.{AreAnswers, HeardOn, IdlesIf, IsAnswer, IsGiven, IsLeading, Leads, LeadsOn, Says, TakesOn, by_port, longer_by}
 pub use Rattle.pair_threads.specs.Primary.{CallsKept, IsAtRest, WorkerKeeps, WorkerLeads, Works, keys_by, keys_taken, told_by}
 pub use Rattle.pair_threads.specs.Repeating.{FollowsFor, GoesOn, IsAt, IsStuck, Repeats, ran_ahead}
 pub use Rattle.shared_disk.specs.Records.{bytes_in}
-pub use Rattle.pair_threads.specs.Stores.{Has, IsDiskOf, IsFirst, IsStore, LooksAt, Serves, at_boot}
+pub use Rattle.pair_threads.specs.Stores.{Has, IsDiskOf, IsFirst, IsStore, Serves, at_boot}
 pub use Rattle.pair_threads.specs.declared.backup.BackupWorker.{BackupWorker}
 pub use Rattle.pair_threads.specs.declared.gate.Who.{Who}
 pub use Rattle.pair_threads.specs.declared.port_inputs.PortInputs.{PortInputs}

@@ -11,6 +11,7 @@ use Rattle.guest_lockstep.specs.Machine.{Machine, sector_refusal}
 use Rattle.i8080_words.specs.declared.refusal.Fault.{Fault}
 use Rattle.i8080_words.specs.declared.refusal.Fault.TheVariants.{OutOfMemory, SectorBusy, StaleRead, Stalled}
 use Rattle.log_entry.specs.declared.entry.Entry.{Entry}
+use Rattle.log_entry.specs.declared.entry.Entry.TheVariants.{Sector}
 use Rattle.pair_threads.specs.declared.chore.Chore.{Chore}
 use Rattle.pair_threads.specs.declared.chore.Chore.TheVariants.{See, Emit, Count, Accept, Key, Ask, Answer, Complete, Post, Run}
 use Rattle.pair_threads.specs.declared.gate.Who.{Who}
@@ -84,9 +85,9 @@ abbrev pub steps_by : ℕ → ℕ → ℕ
 steps_by steps zero = steps
 steps_by steps (suc n) = min (2000 / suc n) steps
 
--- its guest waits for its backup's, which has said that it has made so many steps, unless the lists are kept whole
+-- its guest waits for its backup's, which has said that it has made so many steps, unless that one is to be exact
 abbrev pub waits_for_backup : {B S : Type 0} → (B → S) → Machine S → ℕ → PrimaryWorker B → Bool
-waits_for_backup state M follower w = not w.plan.keeps && is_too_far follower (M.count (state w.guest.board))
+waits_for_backup state M follower w = not w.plan.exact && is_too_far follower (M.count (state w.guest.board))
 
 -- how far it is: the entry that waits for its list counts too
 abbrev pub lead_of : {B S : Type 0} → (B → S) → Machine S → PrimaryWorker B → Lead
@@ -102,6 +103,15 @@ counted_of port w = if port == 0 then w.counted0 else w.counted1
 -- the entry to append: the one that waits, unless the log was found full
 abbrev pub to_append : {B : Type 0} → PrimaryWorker B → Option Entry
 to_append w = if w.full then None else w.guest.waiting
+
+-- whether an entry is a sector, and whether none waits
+abbrev pub is_sector : Entry → Bool
+is_sector (Sector count drive sector number bytes) = true
+is_sector _ = false
+
+abbrev pub no_sector_waits : Option Entry → Bool
+no_sector_waits None = true
+no_sector_waits (Some e) = not (is_sector e)
 
 -- whether all that its guest did is in the list, and acknowledged
 abbrev pub is_covered : {B : Type 0} → PrimaryWorker B → Bool

@@ -1,6 +1,6 @@
 -- How a generation on threads ends: the trace of one machine that never fails, on the inputs of a list, is what the guests
 -- have done, what the terminals have accepted, and what the disk holds.
-use Rattle.std.specs.Prelude.{◌≡◌, ◌⊎◌, ℕ, zero, suc, ◌+◌, ◌<◌, Bool, true, false, length, List, [], ◌∷◌, Option, Some, None, IsSome}
+use Rattle.std.specs.Prelude.{◌≡◌, ◌⊎◌, ℕ, zero, suc, ◌+◌, ◌<◌, false, length, List, [], ◌∷◌, Option, Some, None, IsSome}
 use Rattle.disk_dcdd.specs.declared.address.SectorAddress.{SectorAddress}
 use Rattle.event_callbacks.specs.declared.operations.OpId.{OpId}
 use Rattle.guest_lockstep.specs.Lockstep.{step_refusal}
@@ -74,15 +74,10 @@ pub record Keeps {S : Type 0} (M : Machine S) (list : List Entry) (screens : Lis
   pub outputs : EachScreen (λ port screen. IsAllBut M.window_size screen (output port trace)) 0 screens
   pub disk : EachSector (MayHave M trace s) records
 
--- where a copy with this list is: one that is exact at the last entry, any other at its own count
-abbrev pub copied_to : {S : Type 0} → Machine S → Bool → List Entry → S → ℕ
-copied_to M true list s = last_count 0 list
-copied_to M false list s = M.count s
-
 -- nobody went on alone: the primary's guest is where the trace of its list leads, idles, has nothing outstanding, waits for
 -- no sector and has taken all keys; the terminals have accepted its output; the disk is the machine's own; and the backup's
--- guest is where the trace leads up to the last entry, or to its own count
-pub record EndsWell {S : Type 0} (M : Machine S) (exact : Bool) (typed0 typed1 : List ℕ) (list : List Entry)
+-- guest is where the trace leads up to the last entry
+pub record EndsWell {S : Type 0} (M : Machine S) (typed0 typed1 : List ℕ) (list : List Entry)
     (screens : List (List ℕ)) (records : List Record) (primary backup : S) : Type 0 where
   pub trace : List Move
   pub is : IsTraceOf M list (M.count primary) trace primary
@@ -94,7 +89,7 @@ pub record EndsWell {S : Type 0} (M : Machine S) (exact : Bool) (typed0 typed1 :
   pub outputs : EachScreen (λ port screen. screen ≡ output port trace) 0 screens
   pub disk : EachSector (λ address bytes. bytes ≡ image M trace address) records
   pub front : List Move
-  pub copied : IsTraceOf M list (copied_to M exact list backup) front backup
+  pub copied : IsTraceOf M list (last_count 0 list) front backup
 
 -- who won has this list: terminals and disk have what its trace gives, and its keys are the first of those typed
 pub record EndsAlone {S : Type 0} (M : Machine S) (typed0 typed1 : List ℕ) (list : List Entry)
@@ -103,17 +98,17 @@ pub record EndsAlone {S : Type 0} (M : Machine S) (typed0 typed1 : List ℕ) (li
   pub keys0 : IsPrefix (keys 0 (inputs_of list)) typed0
   pub keys1 : IsPrefix (keys 1 (inputs_of list)) typed1
 
--- a backup that won is where the trace of its list leads
-abbrev pub IsWhereItLeads : {S : Type 0} → Machine S → Bool → List Entry → S → Type 0
-IsWhereItLeads M exact list s = (trace : List Move) × IsTraceOf M list (copied_to M exact list s) trace s
+-- a backup that won is where the trace of its list leads up to the last entry
+abbrev pub IsWhereItLeads : {S : Type 0} → Machine S → List Entry → S → Type 0
+IsWhereItLeads M list s = (trace : List Move) × IsTraceOf M list (last_count 0 list) trace s
 
 -- by who goes on alone
-abbrev pub EndsBy : {S : Type 0} → Machine S → Bool → List ℕ → List ℕ → Option Who → List Entry → List Entry → ℕ →
+abbrev pub EndsBy : {S : Type 0} → Machine S → List ℕ → List ℕ → Option Who → List Entry → List Entry → ℕ →
     List (List ℕ) → List Record → S → S → Type 0
-EndsBy M exact typed0 typed1 None primary backup held screens records s t =
-    (primary ≡ backup) × (held ≡ length primary) × EndsWell M exact typed0 typed1 primary screens records s t
-EndsBy M exact typed0 typed1 (Some Primary) primary backup held screens records s t =
+EndsBy M typed0 typed1 None primary backup held screens records s t =
+    (primary ≡ backup) × (held ≡ length primary) × EndsWell M typed0 typed1 primary screens records s t
+EndsBy M typed0 typed1 (Some Primary) primary backup held screens records s t =
     EndsAlone M typed0 typed1 primary screens records
-EndsBy M exact typed0 typed1 (Some Backup) primary backup held screens records s t =
-    EndsAlone M typed0 typed1 backup screens records × IsWhereItLeads M exact backup t
-EndsBy M exact typed0 typed1 (Some who) primary backup held screens records s t = ⊥
+EndsBy M typed0 typed1 (Some Backup) primary backup held screens records s t =
+    EndsAlone M typed0 typed1 backup screens records × IsWhereItLeads M backup t
+EndsBy M typed0 typed1 (Some who) primary backup held screens records s t = ⊥

@@ -1,5 +1,5 @@
 -- What happens to the packets that the link takes out.
-use Rattle.std.specs.Prelude.{◌≡◌, ℕ, Bool, ◌+◌, ◌-◌, ◌^◌, min, Option, Some, None, is_some, option_map, unwrap_or, if◌then◌else◌, List, length, slice_get}
+use Rattle.std.specs.Prelude.{◌≡◌, ℕ, ◌+◌, ◌-◌, ◌^◌, min, Option, Some, None, is_some, option_map, unwrap_or, if◌then◌else◌, List, length, slice_get}
 use Rattle.std.specs.Option.{option_or}
 use Rattle.pair_rule.specs.Seats.{Carrier, Empties, Fills}
 use Rattle.pair_rule.specs.declared.mailbox.Mailbox.TheVariants.{Inbox, Outbox}
@@ -16,10 +16,6 @@ use Rattle.pair_threads.specs.Turns.{turn_by}
 abbrev pub fate_at : List Fate → ℕ → Fate
 fate_at fates packet = unwrap_or (option_or (slice_get fates packet) (slice_get fates (length fates - 1))) Pass
 
--- a packet that the link is told to lose is lost, whatever its fate
-abbrev pub fate_told : Bool → Fate → Fate
-fate_told told fate = if told then Drop else fate
-
 -- what the link has done with the packet in its hand, and the fate of what it then has there: it delivered the packet; it
 -- lost it; or it delivered it, and will deliver it once more
 abbrev pub IsDealtWith : Fate → Packet → Carrier → Carrier → Option Fate → Type 0
@@ -34,13 +30,13 @@ HasTaken old new =
     × (new.fate ≡ (if is_some new.seat.hand then Some (fate_at old.fates.items old.packets) else None))
     × (new.packets ≡ (if is_some new.seat.hand then min (old.packets + 1) (2 ^ 64 - 1) else old.packets))
 
--- what it has done in a turn: with a packet in its hand it did what the packet's fate says, or lost it if it was told to, and counted
--- none; with none it took the next one out
-abbrev pub CarriesBy : Option Fate → Bool → LinkWorker → LinkWorker → Type 0
-CarriesBy (Some fate) told old new =
-    ((p : Packet) × (old.seat.hand ≡ Some p) × IsDealtWith (fate_told told fate) p old.seat new.seat new.fate)
+-- what it has done in a turn: with a packet in its hand it did what the packet's fate says, and counted none; with none it took the
+-- next one out
+abbrev pub CarriesBy : Option Fate → LinkWorker → LinkWorker → Type 0
+CarriesBy (Some fate) old new =
+    ((p : Packet) × (old.seat.hand ≡ Some p) × IsDealtWith fate p old.seat new.seat new.fate)
     × (new.fates ≡ old.fates) × (new.packets ≡ old.packets)
-CarriesBy None told old new = HasTaken old new
+CarriesBy None old new = HasTaken old new
 
-abbrev pub HasCarried : LinkWorker → Bool → LinkWorker → Turn → Type 0
-HasCarried old told new turn = (turn ≡ turn_by (is_some old.fate) (is_some new.fate)) × CarriesBy old.fate told old new
+abbrev pub HasCarried : LinkWorker → LinkWorker → Turn → Type 0
+HasCarried old new turn = (turn ≡ turn_by (is_some old.fate) (is_some new.fate)) × CarriesBy old.fate old new

@@ -1,5 +1,5 @@
 -- What the guest of a primary's worker has done.
-use Rattle.std.specs.Prelude.{◌≡◌, ℕ, zero, suc, ◌+◌, Bool, true, List, [], ◌∷◌, ◌++◌, Some, Contains}
+use Rattle.std.specs.Prelude.{◌≡◌, ℕ, zero, suc, ◌+◌, Bool, true, List, [], ◌∷◌, ◌++◌, Option, None, Some, Contains}
 use Rattle.event_callbacks.specs.declared.operations.OpId.{OpId}
 use Rattle.event_callbacks.specs.declared.operations.Operation.{Operation}
 use Rattle.guest_lockstep.specs.Lockstep.{step_refusal}
@@ -14,7 +14,6 @@ use Rattle.log_entry.specs.Entries.{entries, inputs_of}
 use Rattle.log_entry.specs.declared.entry.Entry.{Entry}
 use Rattle.pair_protocol.specs.Lawful.{Among}
 use Rattle.shared_disk.specs.Arrivals.{read_address}
-use Rattle.pair_rule.specs.Knowledge.{longer_by}
 use Rattle.pair_rule.specs.Shown.{IsAcknowledged}
 use Rattle.pair_rule.specs.declared.payload.DiskAnswer.{DiskAnswer}
 use Rattle.pair_rule.specs.declared.payload.DiskAnswer.TheVariants as answer
@@ -69,6 +68,11 @@ by_port first second none (suc (suc n)) = none
 -- a guest that is said to idle does
 abbrev pub IdlesIf : {S : Type 0} → Machine S → Bool → S → Type 0
 IdlesIf M idle s = idle ≡ true → step_refusal M s ≡ Some Idle
+
+-- a list with one entry more, or none
+abbrev pub longer_by : List Entry → Option Entry → List Entry
+longer_by list None = list
+longer_by list (Some e) = list ++ e ∷ []
 
 -- it is so with what a seat knows, the entry that waits, and what the inputs say
 abbrev pub IsLeading : {B S : Type 0} → (B → S) → Machine S → S → PrimaryView → (ℕ → List ℕ) → (ℕ → ℕ) →

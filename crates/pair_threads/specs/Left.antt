@@ -11,11 +11,12 @@ use Rattle.log_entry.specs.Entries.{entries}
 use Rattle.log_entry.specs.declared.entry.Entry.{Entry}
 use Rattle.pair_protocol.specs.Faithful.{IsPrefix}
 use Rattle.pair_protocol.specs.Lawful.{Among, IsDone}
-use Rattle.pair_rule.specs.Knowledge.{AllAre, HasWrite, longer_by}
+use Rattle.pair_rule.specs.Knowledge.{AllAre, HasWrite}
 use Rattle.pair_rule.specs.Law.{typed_at}
 use Rattle.pair_threads.specs.declared.gate.Who.{Who}
 use Rattle.pair_threads.specs.declared.gate.Who.TheVariants.{Primary, Backup}
 use Rattle.pair_threads.specs.Ending.{EachScreen}
+use Rattle.pair_threads.specs.Leading.{longer_by}
 use Rattle.pair_threads.specs.Stores.{IsDiskOf}
 use Rattle.shared_disk.specs.declared.store.Record.{Record}
 

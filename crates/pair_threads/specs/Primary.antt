@@ -22,13 +22,11 @@ use Rattle.pair_threads.specs.declared.port_inputs.PortInputs.{PortInputs}
 use Rattle.pair_threads.specs.declared.recording.Recording.{Recording}
 use Rattle.pair_threads.specs.declared.worker.Turn.{Turn}
 use Rattle.pair_threads.specs.declared.worker.Turn.TheVariants.{Ends, Moved, Waits}
-use Rattle.pair_threads.specs.Asking.{AsksIn}
 use Rattle.pair_threads.specs.Choosing.{accepted_of, at_other, counted_of, emitted_of, fruitless_after, may_accept, next_chore, to_append, to_emit, turn_after}
 use Rattle.pair_threads.specs.Ending.{NoSectorIsDue}
 use Rattle.pair_threads.specs.Leading.{IsLeading, by_port}
 use Rattle.pair_threads.specs.Patience.{has_keys}
 use Rattle.pair_threads.specs.Screens.{port_of}
-use Rattle.pair_threads.specs.Typing.{HasListened, typed_with}
 
 -- the keys of a port that were taken
 abbrev pub keys_taken : PortInputs → List ℕ
@@ -58,7 +56,7 @@ WorkerKeeps M boot w = CallsKept M boot w.port0.typed.items w.port1.typed.items 
 abbrev pub Works : {B S : Type 0} → (B → S) → Machine S → PrimaryWorker B → PrimaryWorker B → Type 0
 Works {B} {S} state M old new =
     (new.seat.table ≡ old.seat.table) × (new.seat.core.known.primary.winner ≡ old.seat.core.known.primary.winner)
-    × (new.plan ≡ old.plan) × (typed_with new.port0 ≡ typed_with old.port0) × (typed_with new.port1 ≡ typed_with old.port1)
+    × (new.plan ≡ old.plan) × (new.port0.typed ≡ old.port0.typed) × (new.port1.typed ≡ old.port1.typed)
     × ((boot : S) → WorkerLeads state M boot old → WorkerLeads state M boot new)
     × ((boot : S) → WorkerLeads state M boot old → WorkerKeeps M boot old → WorkerKeeps M boot new)
 
@@ -169,23 +167,20 @@ abbrev pub DoesNext : {B S : Type 0} → (B → S) → Machine S → Option Entr
 DoesNext state M (Some e) old new turn = HasAppended old new turn
 DoesNext state M None old new turn = HasDone state M old new turn
 
--- what a turn of this number was: in the turn in which it asks to go on alone it is at its end; before a chore it notes the keys
--- that have come
-abbrev pub HasHadTurn : {B S : Type 0} → (B → S) → Machine S → PrimaryWorker B → ℕ → Bool → PrimaryWorker B → Turn → Type 0
-HasHadTurn {B} state M old number told new turn =
-    (AsksIn old.plan.asking number told × (turn ≡ Ends))
-    ⊎ ((AsksIn old.plan.asking number told → ⊥) × ((heard : PrimaryWorker B) × HasListened old heard
-    × DoesNext state M (to_append old) heard new turn))
+-- what a turn of this number was: in the turn in which it asks to go on alone it is at its end
+abbrev pub HasHadTurn : {B S : Type 0} → (B → S) → Machine S → PrimaryWorker B → ℕ → PrimaryWorker B → Turn → Type 0
+HasHadTurn state M old number new turn =
+    ((old.plan.contests_at ≡ Some number) × (turn ≡ Ends))
+    ⊎ ((old.plan.contests_at ≢ Some number) × DoesNext state M (to_append old) old new turn)
 
--- its guest idles with all keys taken, no more to come and no sector due, nothing is outstanding, the disk is not asked, all that it
--- answered is taken, and all entries are acknowledged
+-- its guest idles with all keys taken and no sector due, nothing is outstanding, the disk is not asked, all that it answered is taken,
+-- and all entries are acknowledged
 pub record IsAtRest {B S : Type 0} (state : B → S) (M : Machine S) (w : PrimaryWorker B) : Type 0 where
   pub idle : w.guest.idle ≡ true
   pub none : w.guest.given.items ≡ []
   pub none_waits : w.guest.waiting ≡ None
   pub all0 : w.port0.taken ≡ vec_len w.port0.typed
   pub all1 : w.port1.taken ≡ vec_len w.port1.typed
-  pub closed : (w.port0.keyboard.open ≡ false) × (w.port1.keyboard.open ≡ false)
   pub acknowledged : w.seen ≡ length w.list.items
   pub asks_nothing : w.asked ≡ false
   pub all_answers : w.answer ≡ None

@@ -16,20 +16,19 @@ use Rattle.pair_threads.specs.declared.repeater.Repeater.{Repeater}
 use Rattle.replayer.specs.Following.{Follows, Ran, Reaches}
 use Rattle.replayer.specs.declared.following.Followed.{Followed}
 
--- from its boot the guest has made a recorded run with these entries, and one that is exact is at the last of them unless it
--- is between two
-pub record Repeats {S : Type 0} (M : Machine S) (exact : Bool) (boot : S) (list : List Entry) (between : Bool) (s : S) :
+-- from its boot the guest has made a recorded run with these entries, and is at the last of them unless it has made steps since
+pub record Repeats {S : Type 0} (M : Machine S) (boot : S) (list : List Entry) (between : Bool) (s : S) :
     Type 0 where
   pub ran : Ran M boot list s
-  pub at : exact ≡ true → between ≡ false → M.count s ≡ last_count (M.count boot) list
+  pub at : between ≡ false → M.count s ≡ last_count (M.count boot) list
 
 -- it is so with the entries that a repeater says it has repeated
-abbrev pub IsAt : {B S : Type 0} → (B → S) → Machine S → Bool → S → Repeater B → Type 0
-IsAt state M exact boot r = Repeats M exact boot (take r.replayed r.list.items) r.between (state r.board)
+abbrev pub IsAt : {B S : Type 0} → (B → S) → Machine S → S → Repeater B → Type 0
+IsAt state M boot r = Repeats M boot (take r.replayed r.list.items) r.between (state r.board)
 
 -- and it stays so
 abbrev pub GoesOn : {B S : Type 0} → (B → S) → Machine S → Repeater B → Repeater B → Type 0
-GoesOn {B} {S} state M old new = (exact : Bool) (boot : S) → IsAt state M exact boot old → IsAt state M exact boot new
+GoesOn {B} {S} state M old new = (boot : S) → IsAt state M boot old → IsAt state M boot new
 
 -- it has repeated its whole list
 abbrev pub has_all : {B : Type 0} → Repeater B → Bool
@@ -56,10 +55,10 @@ IsStuck {B} {S} state M r =
     ((e : Entry) × (slice_get r.list.items r.replayed ≡ Some e) × ((u : S) → Reaches M (state r.board) e u → ⊥))
     ⊎ IsSome (step_refusal M (state r.board))
 
--- it may run past its last entry only if it does not keep its list, has repeated all of it, and holds all entries that the primary
+-- it may run past its last entry only if it is not to be exact, has repeated its whole list, and holds all entries that the primary
 -- had at the count of the lead
 abbrev pub may_run_ahead : {B : Type 0} → Lead → Repeater B → Bool
-may_run_ahead lead r = not r.keeps && has_all r && nat_le lead.entries (length r.list.items)
+may_run_ahead lead r = not r.exact && has_all r && nat_le lead.entries (length r.list.items)
 
 -- how many steps it may make there: up to that count
 abbrev pub steps_ahead : {B S : Type 0} → (B → S) → Machine S → Lead → Repeater B → ℕ

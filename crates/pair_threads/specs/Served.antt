@@ -32,14 +32,14 @@ LeavesAs GoesOn ready ended = ready
 LeavesAs GivesUp ready ended = ready
 LeavesAs next.Ends ready ended = ended
 
--- it had a turn of this number, in which it was told that its peer has failed or not, it is paced by that very turn, and it does next what that says
-abbrev pub HasGoneOn : {W : Type 0} → (W → ℕ → Bool → W → Turn → Type 0) → Bool → ℕ → W → W → Pace → Pace → Next → Type 0
+-- it had a turn of this number, it is paced by that very turn, and it does next what that says
+abbrev pub HasGoneOn : {W : Type 0} → (W → ℕ → W → Turn → Type 0) → Bool → ℕ → W → W → Pace → Pace → Next → Type 0
 HasGoneOn turned contested number old new pace paced does =
-    (told : Bool) × (turn : Turn) × (goes_on : Bool) × turned old number told new turn × PacedBy turn contested pace paced goes_on
+    (turn : Turn) × (goes_on : Bool) × turned old number new turn × PacedBy turn contested pace paced goes_on
     × (does ≡ next_after turn goes_on)
 
 -- so many turns led from one worker to another, the first with number 0
-abbrev pub HasHadTurns : {W : Type 0} → (W → ℕ → Bool → W → Turn → Type 0) → W → ℕ → W → Type 0
+abbrev pub HasHadTurns : {W : Type 0} → (W → ℕ → W → Turn → Type 0) → W → ℕ → W → Type 0
 HasHadTurns turned first zero last = last ≡ first
 HasHadTurns {W} turned first (suc n) last =
-    (before : W) × (told : Bool) × (turn : Turn) × HasHadTurns turned first n before × turned before n told last turn
+    (before : W) × (turn : Turn) × HasHadTurns turned first n before × turned before n last turn

@@ -8,11 +8,12 @@ use Rattle.log_entry.specs.Entries.{entries}
 use Rattle.log_entry.specs.declared.entry.Entry.{Entry}
 use Rattle.pair_protocol.specs.Copying.{Copying, IsCopying}
 use Rattle.pair_rule.specs.declared.view.Knowledge.{Knowledge}
-use Rattle.pair_rule.specs.Knowledge.{last_or, winner_of, longer_by}
+use Rattle.pair_rule.specs.Knowledge.{last_or, winner_of}
 use Rattle.pair_rule.specs.Law.{Runnable}
 use Rattle.pair_rule.specs.Threads.{IsShown, ThreadRun, bytes_accepted}
 use Rattle.pair_threads.specs.declared.gate.Who.{Who}
 use Rattle.pair_threads.specs.Ending.{NoneUnderWay, winner_named}
+use Rattle.pair_threads.specs.Leading.{longer_by}
 use Rattle.pair_threads.specs.Stores.{IsDiskOf}
 use Rattle.shared_disk.specs.declared.store.Record.{Record}
 

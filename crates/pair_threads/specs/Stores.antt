@@ -1,5 +1,5 @@
 -- What the disk's worker keeps besides its seat: a store whose sectors are as they booted, but for the writes answered.
-use Rattle.std.specs.Prelude.{◌≡◌, ℕ, List, [], Some}
+use Rattle.std.specs.Prelude.{◌≡◌, ℕ, List, Some}
 use Rattle.disk_dcdd.specs.declared.address.SectorAddress.{SectorAddress}
 use Rattle.disk_dcdd.specs.declared.sector.SectorWrite.{SectorWrite}
 use Rattle.pair_protocol.specs.World.{SectorRecord, latest}
@@ -8,10 +8,9 @@ use Rattle.pair_rule.specs.declared.payload.DiskAnswer.TheVariants as answer
 use Rattle.pair_rule.specs.declared.payload.DiskRequest.{DiskRequest}
 use Rattle.pair_rule.specs.declared.view.DiskView.{DiskView}
 use Rattle.shared_disk.specs.Arrivals.{read_address}
-use Rattle.pair_rule.specs.Knowledge.{AllAre, Finds, put_by}
+use Rattle.pair_rule.specs.Knowledge.{AllAre, put_by}
 use Rattle.pair_rule.specs.Seats.{Replies}
 use Rattle.shared_disk.specs.Records.{record_at}
-use Rattle.shared_disk.specs.declared.disk.SectorRead.{SectorRead}
 use Rattle.shared_disk.specs.declared.store.Record.{Record}
 
 -- a sector at boot
@@ -33,20 +32,13 @@ abbrev pub IsFirst : (SectorAddress → List ℕ) → DiskAnswer → Type 0
 IsFirst boots (answer.Written number) = Unit {0}
 IsFirst boots (answer.Read r) = r.number ≡ 0 → r.bytes ≡ boots (read_address r)
 
--- a store is as the view of its seat says, and so is what was read of it before any write, for the primary and for the backup
+-- a store is as the view of its seat says, and so is what was read of it before any write
 pub record IsStore (boots : SectorAddress → List ℕ) (records : List Record) (view : DiskView) : Type 0 where
   pub kept : IsDiskOf boots records view.puts
   pub firsts : AllAre view.given (IsFirst boots)
-  pub finds : AllAre view.found (λ r. IsFirst boots (answer.Read r))
 
 -- a store serves the request that the seat took last: its answer may be replied, and its records are right after that
 abbrev pub Serves : List Record → DiskRequest → DiskAnswer → List Record → Type 0
 Serves old request answer new =
     (boots : SectorAddress → List ℕ) (view : DiskView) → view.taken ≡ Some request → IsDiskOf boots old view.puts →
     Replies view answer × IsFirst boots answer × IsDiskOf boots new (put_by view.taken view.puts)
-
--- what it has of the sector that the seat looks up: that may be replied, and the records stay right
-abbrev pub LooksAt : List Record → SectorAddress → SectorRead → List Record → Type 0
-LooksAt old address r new =
-    (boots : SectorAddress → List ℕ) (view : DiskView) → view.sought ≡ Some address → IsDiskOf boots old view.puts →
-    Finds view r × IsFirst boots (answer.Read r) × IsDiskOf boots new view.puts

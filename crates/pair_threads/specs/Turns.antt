@@ -1,5 +1,5 @@
 -- What a turn of a worker leaves.
-use Rattle.std.specs.Prelude.{◌||◌, ◌&&◌, not, ℕ, Bool, true, false, if◌then◌else◌, Result, Ok, Err}
+use Rattle.std.specs.Prelude.{◌||◌, ℕ, Bool, true, false, if◌then◌else◌, Result, Ok, Err}
 use Rattle.guest_lockstep.specs.Machine.{Machine}
 use Rattle.guest_lockstep.specs.Running.{RunsOn}
 use Rattle.guest_lockstep.specs.declared.running.Stopped.{Stopped}
@@ -19,18 +19,10 @@ Leaves (Err fault) ready ended = Unit {0}
 abbrev pub turn_by : Bool → Bool → Turn
 turn_by had has = if had || has then Moved else Waits
 
--- a turn of the disk: if it changed nothing it looks for something else at once; but if nor did the one before, it waits
+-- a turn of the disk: it waits if it has found no request, or if the disk fails the one that it has
 abbrev pub disk_turn : Bool → Bool → Turn
-disk_turn moved quiet = if moved then Moved else if quiet then Waits else Looks
-
--- and then the last one changed nothing, unless it waited
-abbrev pub is_quiet_after : Bool → Bool → Bool
-is_quiet_after moved quiet = not moved && not quiet
-
--- it changed something if it took a request or a lookup, or answered the one that it had
-abbrev pub is_changed : Bool → Bool → Bool
-is_changed false has = has
-is_changed true has = not has
+disk_turn false has = if has then Moved else Waits
+disk_turn true has = if has then Waits else Moved
 
 -- a guest runs by itself, as many steps as it may make
 abbrev pub RunsFor : {S : Type 0} → Machine S → S → ℕ → S → Type 0

@@ -1,19 +1,15 @@
-//! The backup's worker: it takes packets, looks up sectors that they only name, acknowledges its list, repeats its entries, and
-//! may go on alone.
-ghost use Rattle.std.specs.Prelude.{◌≡◌, ◌≢◌, ◌<◌, ◌≤◌, ◌*◌, ◌^◌, ◌-◌, Bool, cond, min, [], false, true, length, Option, IfErr, IfOk, OnOk};
-ghost use Rattle.pair_rule.specs.Seats.{HasSwapsLeft};
-ghost use Rattle.pair_threads.specs.BackupTurns.{FindsSector, IsTurnOf, LooksSoon, LooksUp, Takes, TakesPacket, next_chore, turn_of_asking, turn_of_draining, turn_of_nothing, turn_of_replay};
+//! The backup's worker: it takes packets, acknowledges its list, repeats its entries, and may go on alone.
+ghost use Rattle.std.specs.Prelude.{◌≡◌, ◌≢◌, ◌<◌, ◌≤◌, ◌*◌, ◌^◌, ◌-◌, cond, min, [], false, length, IfErr, IfOk, OnOk};
+ghost use Rattle.pair_threads.specs.BackupTurns.{IsTurnOf, LooksSoon, TakesPacket, next_chore, turn_of_asking, turn_of_draining, turn_of_nothing, turn_of_replay};
 ghost use Rattle.pair_threads.specs.Ending.{IsEnding};
 ghost use Rattle.pair_threads.specs.Repeating.{Advances, FollowsFor, GoesOn, IsAt, has_all, has_run_ahead, is_far_behind};
 ghost use Rattle.pair_threads.specs.Turns.{Leaves};
 ghost use Rattle.pair_threads.specs.declared.backup.Chore.TheVariants as task;
 
-use crate::gate::Progress;
 use crate::plan::Plan;
 use crate::repeater::Repeater;
 use crate::signals::{Signals, Told};
 use crate::worker::{Turn, Worker};
-use disk_dcdd::SectorAddress;
 use guest_lockstep::Lockstep;
 use i8080_words::{Fault, R};
 use pair_rule::{BackupSeat, Fabric};
@@ -52,13 +48,11 @@ pub(crate) struct BackupWorker<B> {
     held: u64,
     won: bool,
     chore: Chore,
-    // Whether it has asked the disk for the sector that it wants.
-    asked: bool,
     // How many steps its guest makes at most before the next look.
     stride: u64,
     plan: Plan,
     ghost same: { guest.list.items ≡ seat.core.known.backup.list },
-    ghost keeps: { guest.keeps ≡ plan.keeps },
+    ghost exact: { guest.exact ≡ plan.exact },
     ghost strides: { 1000 ≤ stride },
 }
 
@@ -69,21 +63,20 @@ impl<B: Lockstep> BackupWorker<B> {
         ensures seat { result.seat ≡ seat }
         ensures board { result.guest.board ≡ board }
         ensures plan { (result.plan ≡ plan) × (result.won ≡ false) }
-        ensures at { (exact : Bool) → IsAt B.state B.machine exact (B.state board) result.guest }
+        ensures at { IsAt B.state B.machine (B.state board) result.guest }
     {
         BackupWorker {
             seat,
-            guest: Repeater::new(alloc, board, plan.keeps),
+            guest: Repeater::new(alloc, board, plan.exact),
             held: 0,
             won: false,
             chore: Chore::Take,
-            asked: false,
             stride: STEPS,
             plan,
         }
     }
 
-    // Takes the packet that arrived; or, while it wants a sector that a packet only named, looks that up first.
+    // Takes the packet that arrived.
     fn take(&mut self, fabric: &Fabric) -> R<Turn>
         requires table { self.old.seat.table ≡ fabric.now }
         requires before { self.old.seat.core.known.backup.winner ≡ 0 }
@@ -92,99 +85,26 @@ impl<B: Lockstep> BackupWorker<B> {
         ensures same { (self.new.plan ≡ self.old.plan) × (self.new.won ≡ self.old.won) × (self.new.chore ≡ self.old.chore) }
         ensures goes_on { OnOk result (GoesOn B.state B.machine self.old.guest self.new.guest) }
         ensures leaves { Leaves result (Unit {0}) ⊥ }
-        ensures turn { IfOk result (λ turn. Takes self.old.seat.core.known.backup.wanted self.old.asked self.new.asked
-            self.old.seat.core self.new.seat.core self.new.guest.between (has_all self.new.guest) turn) }
+        ensures turn { IfOk result (λ turn. TakesPacket self.old.seat.core self.new.seat.core self.new.guest.between
+            (has_all self.new.guest) turn) }
         ensures stride { OnOk result (LooksSoon self.old.guest.list.items self.new.guest.list.items self.new.stride) }
         ensures refused { IfErr result IsEnding }
     {
         if !self.seat.has_swaps_left() {
             return Err(Fault::Stalled);
         }
-        let Some(sector) = self.seat.wanted() else {
-            return self.take_packet(fabric);
-        };
-        if self.asked {
-            return self.find(fabric);
-        }
-        Ok(self.look_up(fabric, sector.address))
-    }
-
-    // Takes the packet that arrived. Of one that only names a sector nothing is in its list yet.
-    fn take_packet(&mut self, fabric: &Fabric) -> R<Turn>
-        requires table { self.old.seat.table ≡ fabric.now }
-        requires before { self.old.seat.core.known.backup.winner ≡ 0 }
-        requires swaps { HasSwapsLeft self.old.seat.core }
-        ensures table { self.new.seat.table ≡ self.old.seat.table }
-        ensures before { self.new.seat.core.known.backup.winner ≡ 0 }
-        ensures same { (self.new.plan ≡ self.old.plan) × (self.new.won ≡ self.old.won) × (self.new.chore ≡ self.old.chore) }
-        ensures goes_on { OnOk result (GoesOn B.state B.machine self.old.guest self.new.guest) }
-        ensures leaves { Leaves result (Unit {0}) ⊥ }
-        ensures turn { IfOk result (λ turn. TakesPacket self.new.asked self.old.seat.core self.new.seat.core
-            self.new.guest.between (has_all self.new.guest) turn) }
-        ensures stride { OnOk result (LooksSoon self.old.guest.list.items self.new.guest.list.items self.new.stride) }
-        ensures refused { IfErr result IsEnding }
-    {
-        self.guest.list.reserve()?;
-        self.asked = false;
+        self.guest.list.reserve(1)?;
         match self.seat.take(fabric) {
             Some(packet) => {
                 if packet.index == self.guest.list.len() as u64 {
                     self.stride = STEPS;
-                    self.guest.receive(packet.carried);
+                    self.guest.hear(packet.entry);
                 }
                 Ok(Turn::Moved)
             }
             None => {
                 self.stride = longer(self.stride);
                 Ok(self.pace(!self.guest.between))
-            }
-        }
-    }
-
-    // Asks the disk for the sector that it wants.
-    fn look_up(&mut self, fabric: &Fabric, address: SectorAddress) -> Turn
-        requires table { self.old.seat.table ≡ fabric.now }
-        requires before { self.old.seat.core.known.backup.winner ≡ 0 }
-        requires swaps { HasSwapsLeft self.old.seat.core }
-        ensures table { self.new.seat.table ≡ self.old.seat.table }
-        ensures before { self.new.seat.core.known.backup.winner ≡ 0 }
-        ensures same { (self.new.plan ≡ self.old.plan) × (self.new.won ≡ self.old.won) × (self.new.chore ≡ self.old.chore)
-            × (self.new.guest ≡ self.old.guest) }
-        ensures turn { LooksUp address self.new.asked self.old.seat.core self.new.seat.core result }
-    {
-        self.seat.look_up(fabric, address);
-        self.asked = true;
-        Turn::Moved
-    }
-
-    // Hears the entry of the sector that it asked for, if the disk has answered.
-    fn find(&mut self, fabric: &Fabric) -> R<Turn>
-        requires asked { self.old.asked ≡ true }
-        requires table { self.old.seat.table ≡ fabric.now }
-        requires before { self.old.seat.core.known.backup.winner ≡ 0 }
-        requires swaps { HasSwapsLeft self.old.seat.core }
-        ensures table { self.new.seat.table ≡ self.old.seat.table }
-        ensures before { self.new.seat.core.known.backup.winner ≡ 0 }
-        ensures same { (self.new.plan ≡ self.old.plan) × (self.new.won ≡ self.old.won) × (self.new.chore ≡ self.old.chore) }
-        ensures goes_on { OnOk result (GoesOn B.state B.machine self.old.guest self.new.guest) }
-        ensures leaves { Leaves result (Unit {0}) ⊥ }
-        ensures turn { IfOk result (λ turn. FindsSector self.new.asked self.old.seat.core self.new.seat.core
-            self.new.guest.between (has_all self.new.guest) turn) }
-        ensures stride { OnOk result (LooksSoon self.old.guest.list.items self.new.guest.list.items self.new.stride) }
-        ensures refused { IfErr result IsEnding }
-    {
-        self.guest.list.reserve()?;
-        match self.seat.find(fabric) {
-            Some(entry) => {
-                self.asked = false;
-                self.stride = STEPS;
-                self.guest.hear(entry);
-                Ok(Turn::Moved)
-            }
-            None => {
-                self.stride = longer(self.stride);
-                let waits = !self.guest.between;
-                Ok(self.pace(waits))
             }
         }
     }
@@ -196,7 +116,7 @@ impl<B: Lockstep> BackupWorker<B> {
         ensures table { self.new.seat.table ≡ self.old.seat.table }
         ensures before { self.new.seat.core.known.backup.winner ≡ 0 }
         ensures same { (self.new.plan ≡ self.old.plan) × (self.new.won ≡ self.old.won) × (self.new.guest ≡ self.old.guest)
-            × (self.new.chore ≡ self.old.chore) × (self.new.stride ≡ self.old.stride) × (self.new.asked ≡ self.old.asked) }
+            × (self.new.chore ≡ self.old.chore) × (self.new.stride ≡ self.old.stride) }
         ensures held { self.new.held ≡ length self.new.guest.list.items }
     {
         if self.held != self.guest.list.len() as u64 {
@@ -251,11 +171,10 @@ impl<B: Lockstep> BackupWorker<B> {
         if waits { Turn::Waits } else { Turn::Looks }
     }
 
-    // Repeats the next entry, or runs ahead, and says how far its guest is, unless the lists are kept whole.
+    // Repeats the next entry, or runs ahead, and says how far its guest is, unless it is to be exact.
     fn repeat(&mut self, signals: &Signals) -> R<Turn>
         ensures seat { self.new.seat ≡ self.old.seat }
-        ensures same { (self.new.plan ≡ self.old.plan) × (self.new.won ≡ self.old.won) × (self.new.chore ≡ self.old.chore)
-            × (self.new.asked ≡ self.old.asked) }
+        ensures same { (self.new.plan ≡ self.old.plan) × (self.new.won ≡ self.old.won) × (self.new.chore ≡ self.old.chore) }
         ensures goes_on { OnOk result (GoesOn B.state B.machine self.old.guest self.new.guest) }
         ensures leaves { Leaves result (Unit {0}) ⊥ }
         ensures turn { IfOk result (λ turn. turn ≡ turn_of_replay (has_run_ahead B.state B.machine self.old.guest self.new.guest)
@@ -265,7 +184,7 @@ impl<B: Lockstep> BackupWorker<B> {
         ensures refused { IfErr result IsEnding }
     {
         let ran = self.advance(signals)?;
-        if !self.plan.keeps {
+        if !self.plan.exact {
             signals.follows(self.guest.board.count());
         }
         if ran {
@@ -277,8 +196,7 @@ impl<B: Lockstep> BackupWorker<B> {
     // Follows the next entry; past the last one, it runs ahead up to where the primary's guest is. Returns whether it ran ahead.
     fn advance(&mut self, signals: &Signals) -> R<bool>
         ensures seat { self.new.seat ≡ self.old.seat }
-        ensures same { (self.new.plan ≡ self.old.plan) × (self.new.won ≡ self.old.won) × (self.new.chore ≡ self.old.chore)
-            × (self.new.asked ≡ self.old.asked) }
+        ensures same { (self.new.plan ≡ self.old.plan) × (self.new.won ≡ self.old.won) × (self.new.chore ≡ self.old.chore) }
         ensures goes_on { OnOk result (GoesOn B.state B.machine self.old.guest self.new.guest) }
         ensures ran { IfOk result (λ ran. ran ≡ has_run_ahead B.state B.machine self.old.guest self.new.guest) }
         ensures steps { OnOk result (Advances B.state B.machine (has_all self.old.guest)
@@ -304,7 +222,7 @@ impl<B: Lockstep> BackupWorker<B> {
         ensures leaves { Leaves result (Unit {0}) ⊥ }
         ensures next { OnOk result (self.new.chore ≡ next_chore self.old.chore) }
         ensures turn { IfOk result
-            (IsTurnOf self.old.chore (is_far_behind B.state B.machine self.old.guest) self.old.asked self.new.asked
+            (IsTurnOf self.old.chore (is_far_behind B.state B.machine self.old.guest)
             (has_run_ahead B.state B.machine self.old.guest self.new.guest) self.new.guest.between self.old.seat.core
             self.new.seat.core (has_all self.new.guest)) }
         ensures steps { self.old.chore ≡ task.Replay → OnOk result (Advances B.state B.machine (has_all self.old.guest)
@@ -333,7 +251,7 @@ fn longer(stride: u64) -> u64
 }
 
 impl<B: Lockstep> Worker for BackupWorker<B> {
-    ghost use Rattle.std.specs.Prelude.{◌≡◌, ◌⊎◌, ◌&&◌, ◌||◌, not, cond, false, Some, length};
+    ghost use Rattle.std.specs.Prelude.{◌≡◌, ◌⊎◌, ◌&&◌, ◌||◌, not, cond, false, length};
     ghost use Rattle.pair_threads.specs.Asking.{AsksAt, HasAsked};
     ghost use Rattle.pair_threads.specs.Repeating.{GoesOn, has_all, has_run_ahead, is_far_behind};
     ghost use Rattle.pair_threads.specs.BackupTurns.{IsTurn, IsTurnOf};
@@ -342,36 +260,28 @@ impl<B: Lockstep> Worker for BackupWorker<B> {
 
     ghost ready = { λ w. w.seat.core.known.backup.winner ≡ cond w.won 2 0 };
 
-    ghost came = { λ first w. (w.plan ≡ first.plan) × HasAsked w.plan.asking w.seat.core.known.backup.winner
+    ghost came = { λ first w. (w.plan ≡ first.plan) × HasAsked w.plan.contests_at w.seat.core.known.backup.winner
         × GoesOn B.state B.machine first.guest w.guest };
 
     ghost ended = { λ w. (w.plan.contested ≡ false) ⊎ (w.seat.core.known.backup.winner ≡ 2)
         → w.guest.replayed ≡ length w.guest.list.items };
 
-    ghost asks = { λ old number told new.
-        AsksAt old.plan.asking number told old.seat.core.known.backup.winner new.seat.core.known.backup.winner };
+    ghost asks = { λ old number new.
+        AsksAt old.plan.contests_at number old.seat.core.known.backup.winner new.seat.core.known.backup.winner };
 
-    ghost turned = { λ old number told new turn. IsTurn old.won old.plan.asking number told (has_all old.guest) new.won
-        (IsTurnOf old.chore (is_far_behind B.state B.machine old.guest) old.asked new.asked
-        (has_run_ahead B.state B.machine old.guest new.guest) new.guest.between old.seat.core new.seat.core
-        (has_all new.guest) turn) turn };
+    ghost turned = { λ old number new turn. IsTurn old.won old.plan.contests_at number (has_all old.guest) new.won
+        (IsTurnOf old.chore (is_far_behind B.state B.machine old.guest) (has_run_ahead B.state B.machine old.guest new.guest)
+        new.guest.between old.seat.core new.seat.core (has_all new.guest) turn) turn };
 
-    ghost ends_by = { λ w told. not w.won && told.primary_ended
-        && (not (not w.plan.contested || w.plan.watched) || has_all w.guest) };
+    ghost ends_by = { λ w told. not w.won && told.primary_ended && (w.plan.contested || has_all w.guest) };
 
     ghost needs_others = { λ w. false };
 
-    ghost stands = { λ w. Some (record {
-      entries = length w.guest.list.items;
-      passed = w.guest.replayed;
-      steps = B.machine.count (B.state w.guest.board);
-    }) };
-
-    fn turn(&mut self, fabric: &Fabric, signals: &Signals, number: u64, told: bool) -> R<Turn> {
+    fn turn(&mut self, fabric: &Fabric, signals: &Signals, number: u64) -> R<Turn> {
         if self.won {
             return self.drain();
         }
-        if self.plan.asks_at(number, told) {
+        if self.plan.asks_at(number) {
             return Ok(self.contest(fabric));
         }
         self.follow(fabric, signals)
@@ -381,18 +291,10 @@ impl<B: Lockstep> Worker for BackupWorker<B> {
         if self.won || !told.primary_ended {
             return false;
         }
-        !self.plan.may_rest() || self.guest.has_replayed_all()
+        self.plan.contested || self.guest.has_replayed_all()
     }
 
     fn is_held_up(&self) -> bool {
         false
-    }
-
-    fn progress(&self) -> Option<Progress> {
-        Some(Progress {
-            entries: self.guest.list.len() as u64,
-            passed: self.guest.replayed as u64,
-            steps: self.guest.board.count(),
-        })
     }
 }

@@ -10,31 +10,12 @@ pub enum Who {
     Disk,
 }
 
-/// How far a node has come.
-#[derive(Clone, Copy, PartialEq, Eq)]
-pub struct Progress {
-    /// The entries of its list.
-    pub entries: u64,
-    /// How many of them the primary has seen acknowledged, or the backup has repeated.
-    pub passed: u64,
-    /// How many steps its guest has made.
-    pub steps: u64,
-}
-
 /// A caller's hold on the turns. Each worker counts its turns from 0. A gate may wait; the run ends as stalled if `enter`
-/// returns false. In a watched generation the gate also detects failures: a worker for which `suspects` is true is told that
-/// its peer has failed, and asks to go on alone. If `suspects` is true for the link, it loses the packet that it carries. After each
-/// turn of a node the gate notes how far it has come.
+/// returns false.
 pub trait Gate {
     fn enter(&self, who: Who, turn: u64) -> bool;
 
     fn leave(&self, who: Who, turn: u64);
-
-    fn suspects(&self, _who: Who) -> bool {
-        false
-    }
-
-    fn notes(&self, _who: Who, _progress: Progress) {}
 }
 
 /// A gate that holds nobody.

@@ -18,14 +18,13 @@ mod rest;
 mod run;
 mod signals;
 mod terminal;
-mod tracks;
 mod worker;
 mod workers;
 mod yields;
 
-pub use gate::{Gate, OpenGate, Progress, Who};
+pub use gate::{Gate, OpenGate, Who};
 pub use lag::Lead;
 pub use link::Fate;
-pub use run::{run_generation, run_generation_over};
+pub use run::run_generation;
 pub use signals::{Signals, Told};
 pub use workers::{GenerationEnd, Workers};

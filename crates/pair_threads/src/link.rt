@@ -3,10 +3,9 @@ ghost use Rattle.std.specs.Prelude.{◌≡◌, ◌<◌, ◌^◌, false, is_some,
 ghost use Rattle.pair_rule.specs.Seats.{swaps_at};
 ghost use Rattle.pair_rule.specs.declared.mailbox.Mailbox.TheVariants.{Inbox, Outbox};
 ghost use Rattle.pair_rule.specs.declared.payload.Packet.{Packet};
-ghost use Rattle.pair_threads.specs.Fates.{HasTaken, IsDealtWith, fate_at, fate_told};
+ghost use Rattle.pair_threads.specs.Fates.{HasTaken, IsDealtWith, fate_at};
 ghost use Rattle.pair_threads.specs.Turns.{turn_by};
 
-use crate::gate::Progress;
 use crate::signals::{Signals, Told};
 use crate::worker::{Turn, Worker};
 use i8080_words::{Fault, R};
@@ -94,13 +93,6 @@ fn fate_of(fates: &[Fate], packet: usize) -> Fate
     own.or(last).unwrap_or(Fate::Pass)
 }
 
-// The fate of a packet, by whether the link is told to lose it.
-fn fate_told(fate: Fate, told: bool) -> Fate
-    ensures { result ≡ fate_told told fate }
-{
-    if told { Fate::Drop } else { fate }
-}
-
 impl Worker for LinkWorker {
     ghost use Rattle.std.specs.Prelude.{◌≡◌, ◌&&◌, is_some, false};
     ghost use Rattle.pair_threads.specs.Fates.{HasCarried};
@@ -113,21 +105,21 @@ impl Worker for LinkWorker {
 
     ghost ended = { λ w. Unit {0} };
 
-    ghost asks = { λ old number told new. Unit {0} };
+    ghost asks = { λ old number new. Unit {0} };
 
-    ghost turned = { λ old number told new turn. HasCarried old told new turn };
+    ghost turned = { λ old number new turn. HasCarried old new turn };
 
     ghost ends_by = { λ w told. told.primary_ended && told.backup_ended };
 
     ghost needs_others = { λ w. false };
 
-    fn turn(&mut self, fabric: &Fabric, _signals: &Signals, _number: u64, told: bool) -> R<Turn> {
+    fn turn(&mut self, fabric: &Fabric, _signals: &Signals, _number: u64) -> R<Turn> {
         if !self.seat.has_swaps_left() {
             return Err(Fault::Stalled);
         }
         match self.fate {
             Some(fate) => {
-                self.deal(fabric, fate_told(fate, told));
+                self.deal(fabric, fate);
                 Ok(Turn::Moved)
             }
             None => Ok(self.take(fabric)),
@@ -140,9 +132,5 @@ impl Worker for LinkWorker {
 
     fn is_held_up(&self) -> bool {
         false
-    }
-
-    fn progress(&self) -> Option<Progress> {
-        None
     }
 }

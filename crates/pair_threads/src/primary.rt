@@ -1,9 +1,7 @@
 //! The primary's worker: it runs its guest, logs, and gives away what the backup has acknowledged.
-ghost use Rattle.std.specs.Prelude.{◌≡◌, ◌+◌, ◌-◌, ◌<◌, ◌≤◌, cond, true, Some, length, slice_get};
+ghost use Rattle.std.specs.Prelude.{◌≡◌, ◌+◌, ◌-◌, ◌<◌, ◌≤◌, cond, Some, length, slice_get};
 ghost use Rattle.disk_dcdd.specs.declared.sector.TheConstants.{SECTORS};
 ghost use Rattle.pair_rule.specs.declared.payload.DiskAnswer.{DiskAnswer};
-ghost use Rattle.pair_threads.specs.Keeping.{first_kept};
-ghost use Rattle.pair_threads.specs.Naming.{HasTracks, waits_on_track};
 
 mod chores;
 mod requests;
@@ -13,8 +11,7 @@ use crate::chore::Chore;
 use crate::plan::Plan;
 use crate::port_inputs::PortInputs;
 use crate::recording::Recording;
-use crate::tracks::Tracks;
-use log_journal::Journal;
+use log_entry::Entry;
 use pair_rule::{DiskAnswer, PrimarySeat};
 
 /// How many steps a guest makes between two keys, unless it idles: about those of an 8080 between two bytes of a line at
@@ -25,7 +22,7 @@ pub(crate) const KEY_STEPS: u64 = 300;
 #[derive(Drop)]
 pub(crate) struct PrimaryWorker<B> {
     pub(crate) seat: PrimarySeat,
-    pub(crate) list: Journal,
+    pub(crate) list: Vec<Entry>,
     pub(crate) guest: Recording<B>,
     pub(crate) port0: PortInputs,
     pub(crate) port1: PortInputs,
@@ -43,9 +40,6 @@ pub(crate) struct PrimaryWorker<B> {
     // Whether the disk was asked and its answer has not come, and what it answered and the guest has not taken.
     asked: bool,
     answer: Option<DiskAnswer>,
-    // The track of each sector in the list that is not acknowledged, and of the one that its guest took last.
-    tracks: Tracks,
-    track: u8,
     // The next sector to read.
     sector: u8,
     // How many steps the guest was at when it took its last key.
@@ -58,7 +52,6 @@ pub(crate) struct PrimaryWorker<B> {
     held_up: bool,
     plan: Plan,
     ghost same: { list.items ≡ seat.core.known.primary.list },
-    ghost forgot: { list.forgotten ≡ first_kept plan.keeps seen },
     ghost few: { length list.items ≤ seen + 256 },
     ghost saw: { seen ≡ seat.core.known.primary.seen },
     ghost saw_counted: { (counted0 ≡ seat.core.known.primary.counted0) × (counted1 ≡ seat.core.known.primary.counted1) },
@@ -66,8 +59,6 @@ pub(crate) struct PrimaryWorker<B> {
     ghost there: { sector < SECTORS },
     ghost answered: { (a : DiskAnswer) → answer ≡ Some a
         → slice_get seat.core.known.primary.answers (length seat.core.known.primary.answers - 1) ≡ Some a },
-    ghost tracked: { HasTracks seat.core.known.primary.answers seen tracks.tracks list.items },
-    ghost waits: { waits_on_track seat.core.known.primary.answers track guest.waiting ≡ true },
     ghost requests: { seat.core.known.primary.asked
         ≤ length seat.core.known.primary.answers + cond asked 1 0 },
 }

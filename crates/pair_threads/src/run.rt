@@ -1,23 +1,17 @@
 //! One generation on threads.
-ghost use Rattle.std.specs.Prelude.{◌≡◌, ◌⊎◌, ℕ, List, [], ◌∷◌, Option, None, Some, Bool, true, false, not, length, map, IfErr, IfOk, IsOk, OnOk};
+ghost use Rattle.std.specs.Prelude.{◌≡◌, ◌⊎◌, ℕ, List, [], ◌∷◌, Option, None, Some, true, false, length, map, IfErr, IfOk, IsOk, OnOk};
 ghost use Rattle.guest_lockstep.specs.Machine.{booted_from};
 ghost use Rattle.pair_protocol.specs.Lawful.{Lawful};
 ghost use Rattle.pair_rule.specs.Knowledge.{StartsWith, last_or};
 ghost use Rattle.pair_rule.specs.Threads.{bytes_accepted};
 ghost use Rattle.pair_threads.specs.Choosing.{together};
-ghost use Rattle.pair_lines.specs.Lines.{HasShown, IsSameStart};
-ghost use Rattle.pair_lines.specs.declared.lines.Lines.{Lines};
-ghost use Rattle.pair_threads.specs.Asking.{HasAsked, MayBeWatched, IsUnplanned, WonAs, WonOver};
-ghost use Rattle.pair_threads.specs.declared.plan.Asking.{Asking};
-ghost use Rattle.pair_threads.specs.Ending.{EachScreen, EndsBy, IsEnding, KeepsSectors, WonBy, winner_named};
-ghost use Rattle.pair_threads.specs.Keeping.{HasKept};
+ghost use Rattle.pair_threads.specs.Asking.{HasAsked};
+ghost use Rattle.pair_threads.specs.Ending.{EndsBy, IsEnding, KeepsSectors, WonBy, winner_named};
 ghost use Rattle.pair_threads.specs.Left.{LeavesBy};
 ghost use Rattle.pair_threads.specs.Primary.{IsAtRest, WorkerKeeps, WorkerLeads};
 ghost use Rattle.pair_threads.specs.Repeating.{IsAt};
-ghost use Rattle.pair_threads.specs.Showing.{ShowsAll};
 ghost use Rattle.pair_threads.specs.Shown.{IsOfRun};
 ghost use Rattle.pair_threads.specs.Stores.{IsStore};
-ghost use Rattle.pair_threads.specs.Typing.{IsOver, IsTyped, typed_with};
 ghost use Rattle.shared_disk.specs.Records.{IsUnwritten, bytes_in};
 ghost use Rattle.shared_disk.specs.declared.store.Record.{Record};
 
@@ -26,18 +20,16 @@ use crate::disk::DiskWorker;
 use crate::gate::{Gate, Who};
 use crate::join::{Five, Served, work};
 use crate::link::LinkWorker;
-use crate::plan::plans_of;
+use crate::plan::Plan;
 use crate::port_inputs::PortInputs;
 use crate::primary::PrimaryWorker;
 use crate::recording::Recording;
 use crate::repeater::Repeater;
 use crate::terminal::TerminalWorker;
 use crate::workers::{GenerationEnd, Workers};
-use guest_lockstep::{Lockstep, Reads};
+use guest_lockstep::Lockstep;
 use i8080_words::{Fault, R};
 use log_entry::Entry;
-use log_journal::Journal;
-use pair_lines::Lines;
 use pair_rule::{Fabric, FiveSeats};
 use shared_disk::{SectorStore, SharedDisk};
 use std::alloc::Global;
@@ -72,8 +64,8 @@ fn failure_of(one: R<()>, other: R<()>) -> R<()>
 #[derive(Drop)]
 struct Parts<B, D: SectorStore> {
     seats: FiveSeats,
-    primary_list: Journal,
-    backup_list: Journal,
+    primary_list: Vec<Entry>,
+    backup_list: Vec<Entry>,
     primary_board: B,
     backup_board: B,
     waiting: Option<Entry>,
@@ -81,7 +73,6 @@ struct Parts<B, D: SectorStore> {
     typed1: Vec<u8>,
     accepted: [Vec<u8>; 2],
     disk: SharedDisk<D>,
-    lines: Lines,
 }
 
 // Takes the workers apart.
@@ -102,8 +93,6 @@ fn take_apart<B: Lockstep + Drop, D: SectorStore>(
     ensures screens { map (λ v. v.items) result.accepted
         ≡ bytes_accepted 0 terminal.seat.core.known ∷ bytes_accepted 1 terminal.seat.core.known ∷ [] }
     ensures accepted { map (λ v. v.items) result.accepted ≡ terminal.accepted0.items ∷ terminal.accepted1.items ∷ [] }
-    ensures lines { (result.lines.keyboard0 ≡ primary.port0.keyboard) × (result.lines.keyboard1 ≡ primary.port1.keyboard)
-        × (result.lines.screen ≡ terminal.screen) }
 {
     let PrimaryWorker {
         seat: primary_seat,
@@ -113,16 +102,8 @@ fn take_apart<B: Lockstep + Drop, D: SectorStore>(
         port1,
         ..
     } = primary;
-    let PortInputs {
-        typed: typed0,
-        keyboard: keyboard0,
-        ..
-    } = port0;
-    let PortInputs {
-        typed: typed1,
-        keyboard: keyboard1,
-        ..
-    } = port1;
+    let PortInputs { typed: typed0, .. } = port0;
+    let PortInputs { typed: typed1, .. } = port1;
     let BackupWorker {
         seat: backup_seat,
         guest: backup_guest,
@@ -132,7 +113,6 @@ fn take_apart<B: Lockstep + Drop, D: SectorStore>(
         seat: terminal_seat,
         accepted0,
         accepted1,
-        screen,
         ..
     } = terminal;
     let DiskWorker {
@@ -171,11 +151,6 @@ fn take_apart<B: Lockstep + Drop, D: SectorStore>(
         typed1,
         accepted: [accepted0, accepted1],
         disk,
-        lines: Lines {
-            keyboard0,
-            keyboard1,
-            screen,
-        },
     }
 }
 
@@ -197,18 +172,18 @@ fn conclude<B: Lockstep + Drop, D: SectorStore>(
     backup: BackupWorker<B>,
     terminal: TerminalWorker,
     disk: DiskWorker<D>,
-    undecided: bool,
+    contested: bool,
 ) -> R<GenerationEnd<B, D>>
     requires tables { (primary.seat.table ≡ fabric) × (backup.seat.table ≡ fabric) × (terminal.seat.table ≡ fabric)
         × (disk.seat.table ≡ fabric) }
-    requires rests { undecided ≡ false → IsAtRest B.state B.machine primary }
-    requires unplanned { undecided ≡ false → IsUnplanned primary.plan.asking × IsUnplanned backup.plan.asking }
-    requires asked { HasAsked primary.plan.asking primary.seat.core.known.primary.winner
-        × HasAsked backup.plan.asking backup.seat.core.known.backup.winner }
-    requires repeated { (undecided ≡ false) ⊎ (backup.seat.core.known.backup.winner ≡ 2)
+    requires rests { contested ≡ false → IsAtRest B.state B.machine primary }
+    requires plans { (primary.plan.contested ≡ contested) × (backup.plan.contested ≡ contested) }
+    requires asked { HasAsked primary.plan.contests_at primary.seat.core.known.primary.winner
+        × HasAsked backup.plan.contests_at backup.seat.core.known.backup.winner }
+    requires repeated { (contested ≡ false) ⊎ (backup.seat.core.known.backup.winner ≡ 2)
         → backup.guest.replayed ≡ length backup.guest.list.items }
     ensures refused { IfErr result IsEnding }
-    ensures decided { IfOk result (λ e. WonAs primary.plan.asking backup.plan.asking e.winner) }
+    ensures decided { IfOk result (λ e. WonBy primary.plan.contests_at backup.plan.contests_at e.winner) }
     ensures lists { IfOk result (λ e. (e.primary ≡ primary.list) × (e.backup ≡ backup.guest.list)
         × (e.held ≡ last_or 0 backup.seat.core.known.backup.held_values)) }
     ensures boards { IfOk result (λ e. (e.primary_board ≡ primary.guest.board) × (e.backup_board ≡ backup.guest.board)) }
@@ -217,33 +192,25 @@ fn conclude<B: Lockstep + Drop, D: SectorStore>(
         × (e.typed1.items ≡ primary.port1.typed.items)) }
     ensures there { (first : List Record) → KeepsSectors first (D.records disk.disk)
         → IfOk result (λ e. KeepsSectors first (D.records e.disk)) }
-    ensures over { (typed0 typed1 : List ℕ) (lines : Lines) (screens : List (List ℕ))
-        → IsTyped (typed0, lines.keyboard0) (typed_with primary.port0)
-        → IsTyped (typed1, lines.keyboard1) (typed_with primary.port1)
-        → IsSameStart lines.screen.ring terminal.screen.ring
-        → (EachScreen (HasShown lines.screen) 0 screens → ShowsAll terminal)
-        → IfOk result (IsOver typed0 typed1 lines screens) }
     ensures prefix { IfOk result (λ e. StartsWith e.primary.items e.backup.items) }
-    ensures kept { (keeps : Bool) → primary.plan.keeps ≡ keeps → backup.plan.keeps ≡ keeps
-        → IfOk result (λ e. HasKept keeps e.primary e.backup) }
-    ensures ends { (boot : B.State) (first : List Record) (exact : Bool)
+    ensures ends { (boot : B.State) (first : List Record)
         → Lawful (booted_from B.machine boot (bytes_in first))
-        → WorkerLeads B.state B.machine boot primary → IsAt B.state B.machine exact boot backup.guest
-        → (exact ≡ true → backup.plan.keeps ≡ true) → IsStore (bytes_in first) (D.records disk.disk) disk.seat.core.known.disk
-        → IfOk result (λ e. EndsBy (booted_from B.machine boot (bytes_in first)) exact e.typed0.items e.typed1.items
+        → WorkerLeads B.state B.machine boot primary → IsAt B.state B.machine boot backup.guest
+        → backup.plan.exact ≡ true → IsStore (bytes_in first) (D.records disk.disk) disk.seat.core.known.disk
+        → IfOk result (λ e. EndsBy (booted_from B.machine boot (bytes_in first)) e.typed0.items e.typed1.items
         e.winner e.primary.items e.backup.items e.held (map (λ v. v.items) e.accepted) (D.records e.disk)
         (B.state e.primary_board) (B.state e.backup_board)) }
-    ensures left { (boot : B.State) (first : List Record) (exact : Bool)
+    ensures left { (boot : B.State) (first : List Record)
         → Lawful (booted_from B.machine boot (bytes_in first))
-        → WorkerLeads B.state B.machine boot primary → IsAt B.state B.machine exact boot backup.guest
+        → WorkerLeads B.state B.machine boot primary → IsAt B.state B.machine boot backup.guest
         → IsStore (bytes_in first) (D.records disk.disk) disk.seat.core.known.disk
         → IfOk result (λ e. LeavesBy (booted_from B.machine boot (bytes_in first)) e.typed0.items e.typed1.items e.winner
         e.primary.items e.backup.items e.waiting (map (λ v. v.items) e.accepted) (D.records e.disk) (B.state e.primary_board)
         (B.state e.backup_board)) }
-    ensures ran { (boot : B.State) (first : List Record) (exact : Bool)
+    ensures ran { (boot : B.State) (first : List Record)
         → Lawful (booted_from B.machine boot (bytes_in first))
         → WorkerLeads B.state B.machine boot primary → WorkerKeeps B.machine boot primary
-        → IsAt B.state B.machine exact boot backup.guest
+        → IsAt B.state B.machine boot backup.guest
         → IsStore (bytes_in first) (D.records disk.disk) disk.seat.core.known.disk
         → IfOk result (λ e. IsOfRun (booted_from B.machine boot (bytes_in first)) e.typed0.items e.typed1.items e.winner
         e.primary.items e.backup.items e.held e.waiting (map (λ v. v.items) e.accepted) (D.records e.disk) (B.state e.primary_board)
@@ -261,11 +228,10 @@ fn conclude<B: Lockstep + Drop, D: SectorStore>(
         typed1,
         accepted,
         disk,
-        lines,
     } = parts;
     let closed = fabric.close(seats);
     let winner = winner_of(closed.winner);
-    if undecided && winner.is_none() {
+    if contested && winner.is_none() {
         return Err(Fault::Stalled);
     }
     Ok(GenerationEnd {
@@ -280,30 +246,7 @@ fn conclude<B: Lockstep + Drop, D: SectorStore>(
         winner,
         accepted,
         disk,
-        lines,
     })
-}
-
-// Whether somebody has to go on alone: one may ask, and a watched generation is not at rest.
-fn is_undecided<B: Lockstep>(
-    primary: &PrimaryWorker<B>,
-    backup: &BackupWorker<B>,
-    contested: bool,
-    watched: bool,
-) -> bool
-    ensures { result ≡ false → (contested ≡ false) ⊎ ((watched ≡ true) × IsAtRest B.state B.machine primary.now
-        × (backup.now.guest.replayed ≡ length backup.now.guest.list.items)) }
-{
-    if !contested {
-        return false;
-    }
-    if !watched {
-        return true;
-    }
-    if !primary.is_at_rest() {
-        return true;
-    }
-    !backup.guest.has_replayed_all()
 }
 
 // What workers leave, if all of them are at their ends.
@@ -311,14 +254,13 @@ pub(crate) fn finish<B: Lockstep + Drop, D: SectorStore>(
     fabric: Fabric,
     five: AllServed<B, D>,
     contested: bool,
-    watched: bool,
 ) -> R<GenerationEnd<B, D>>
     requires primary { (five.primary.0.seat.table ≡ fabric)
         × OnOk five.primary.1 (contested ≡ false → IsAtRest B.state B.machine five.primary.0) }
     requires primary_asked { OnOk five.primary.1 ((five.primary.0.plan.contested ≡ contested)
-        × (five.primary.0.plan.watched ≡ watched) × HasAsked five.primary.0.plan.asking five.primary.0.seat.core.known.primary.winner) }
+        × HasAsked five.primary.0.plan.contests_at five.primary.0.seat.core.known.primary.winner) }
     requires backup_asked { OnOk five.backup.1 ((five.backup.0.plan.contested ≡ contested)
-        × (five.backup.0.plan.watched ≡ watched) × HasAsked five.backup.0.plan.asking five.backup.0.seat.core.known.backup.winner) }
+        × HasAsked five.backup.0.plan.contests_at five.backup.0.seat.core.known.backup.winner) }
     requires backup { (five.backup.0.seat.table ≡ fabric)
         × OnOk five.backup.1 ((contested ≡ false) ⊎ (five.backup.0.seat.core.known.backup.winner ≡ 2)
         → five.backup.0.guest.replayed ≡ length five.backup.0.guest.list.items) }
@@ -326,41 +268,36 @@ pub(crate) fn finish<B: Lockstep + Drop, D: SectorStore>(
     ensures refused { IfErr result IsEnding }
     ensures failed { IfErr (together (together five.primary.1 five.backup.1) (together five.link.1
         (together five.terminal.1 five.disk.1))) (λ fault. result ≡ Err fault) }
-    ensures decided { (first second : Asking) → OnOk five.primary.1 (five.primary.0.plan.asking ≡ first)
-        → OnOk five.backup.1 (five.backup.0.plan.asking ≡ second) → IfOk result (λ e. WonAs first second e.winner) }
+    ensures decided { (first second : Option ℕ) → OnOk five.primary.1 (five.primary.0.plan.contests_at ≡ first)
+        → OnOk five.backup.1 (five.backup.0.plan.contests_at ≡ second) → IfOk result (λ e. WonBy first second e.winner) }
     ensures prefix { IfOk result (λ e. StartsWith e.primary.items e.backup.items) }
-    ensures kept { (keeps : Bool) → OnOk five.primary.1 (five.primary.0.plan.keeps ≡ keeps)
-        → OnOk five.backup.1 (five.backup.0.plan.keeps ≡ keeps) → IfOk result (λ e. HasKept keeps e.primary e.backup) }
-    ensures ends { (boot : B.State) (first : List Record) (exact : Bool)
+    ensures ends { (boot : B.State) (first : List Record)
         → Lawful (booted_from B.machine boot (bytes_in first))
         → OnOk five.primary.1 (WorkerLeads B.state B.machine boot five.primary.0)
-        → OnOk five.backup.1 (IsAt B.state B.machine exact boot five.backup.0.guest)
-        → OnOk five.backup.1 (exact ≡ true → five.backup.0.plan.keeps ≡ true)
+        → OnOk five.backup.1 (IsAt B.state B.machine boot five.backup.0.guest)
+        → OnOk five.backup.1 (five.backup.0.plan.exact ≡ true)
         → OnOk five.disk.1 (IsStore (bytes_in first) (D.records five.disk.0.disk) five.disk.0.seat.core.known.disk)
-        → IfOk result (λ e. EndsBy (booted_from B.machine boot (bytes_in first)) exact e.typed0.items e.typed1.items
+        → IfOk result (λ e. EndsBy (booted_from B.machine boot (bytes_in first)) e.typed0.items e.typed1.items
         e.winner e.primary.items e.backup.items e.held (map (λ v. v.items) e.accepted) (D.records e.disk)
         (B.state e.primary_board) (B.state e.backup_board)) }
     ensures there { (first : List Record) → OnOk five.disk.1 (KeepsSectors first (D.records five.disk.0.disk))
         → IfOk result (λ e. KeepsSectors first (D.records e.disk)) }
-    ensures over { (typed0 typed1 : List ℕ) (lines : Lines) (screens : List (List ℕ))
-        → OnOk five.primary.1 (IsTyped (typed0, lines.keyboard0) (typed_with five.primary.0.port0)
-        × IsTyped (typed1, lines.keyboard1) (typed_with five.primary.0.port1))
-        → OnOk five.terminal.1 (IsSameStart lines.screen.ring five.terminal.0.screen.ring
-        × (EachScreen (HasShown lines.screen) 0 screens → ShowsAll five.terminal.0))
-        → IfOk result (IsOver typed0 typed1 lines screens) }
-    ensures left { (boot : B.State) (first : List Record) (exact : Bool)
+    ensures typed { (typed0 typed1 : List ℕ)
+        → OnOk five.primary.1 ((five.primary.0.port0.typed.items ≡ typed0) × (five.primary.0.port1.typed.items ≡ typed1))
+        → IfOk result (λ e. (e.typed0.items ≡ typed0) × (e.typed1.items ≡ typed1)) }
+    ensures left { (boot : B.State) (first : List Record)
         → Lawful (booted_from B.machine boot (bytes_in first))
         → OnOk five.primary.1 (WorkerLeads B.state B.machine boot five.primary.0)
-        → OnOk five.backup.1 (IsAt B.state B.machine exact boot five.backup.0.guest)
+        → OnOk five.backup.1 (IsAt B.state B.machine boot five.backup.0.guest)
         → OnOk five.disk.1 (IsStore (bytes_in first) (D.records five.disk.0.disk) five.disk.0.seat.core.known.disk)
         → IfOk result (λ e. LeavesBy (booted_from B.machine boot (bytes_in first)) e.typed0.items e.typed1.items e.winner
         e.primary.items e.backup.items e.waiting (map (λ v. v.items) e.accepted) (D.records e.disk) (B.state e.primary_board)
         (B.state e.backup_board)) }
-    ensures ran { (boot : B.State) (first : List Record) (exact : Bool)
+    ensures ran { (boot : B.State) (first : List Record)
         → Lawful (booted_from B.machine boot (bytes_in first))
         → OnOk five.primary.1 (WorkerLeads B.state B.machine boot five.primary.0)
         → OnOk five.primary.1 (WorkerKeeps B.machine boot five.primary.0)
-        → OnOk five.backup.1 (IsAt B.state B.machine exact boot five.backup.0.guest)
+        → OnOk five.backup.1 (IsAt B.state B.machine boot five.backup.0.guest)
         → OnOk five.disk.1 (IsStore (bytes_in first) (D.records five.disk.0.disk) five.disk.0.seat.core.known.disk)
         → IfOk result (λ e. IsOfRun (booted_from B.machine boot (bytes_in first)) e.typed0.items e.typed1.items e.winner
         e.primary.items e.backup.items e.held e.waiting (map (λ v. v.items) e.accepted) (D.records e.disk) (B.state e.primary_board)
@@ -377,46 +314,32 @@ pub(crate) fn finish<B: Lockstep + Drop, D: SectorStore>(
         failure_of(primary_end, backup_end),
         failure_of(link_end, failure_of(terminal_end, disk_end)),
     )?;
-    let undecided = is_undecided(&primary, &backup, contested, watched);
-    conclude(fabric, primary, link, backup, terminal, disk, undecided)
+    conclude(fabric, primary, link, backup, terminal, disk, contested)
 }
 
-/// Runs one generation over these lines, a worker for each of the five seats on its own thread, with at most this many turns
-/// for the primary and for the backup. If nobody is planned to go on alone, it ends well when the guest idles, all keys are
-/// taken and no more come, nothing is outstanding, under way or due, and all entries are acknowledged and repeated. Otherwise
-/// it ends when it is decided who goes on alone; a backup that does has repeated its list. A watched generation ends in the
-/// first of these two ways: a host fails in it when the gate says so (`Gate::suspects`), and it waits for keys as long as it
-/// takes; its backup's guest may have gone on past the last entry. `reads` says whether a log packet carries the bytes of a
-/// sector, or the backup reads it from the disk itself; the lists are the same. `Stalled` if it ends in no such way, `OutOfMemory` if memory or a thread is refused.
-#[tactic(auto, using(crate::proofs::Beginning::nothing_yet, crate::proofs::Serving::first_disk, crate::proofs::Typing::typed_same, crate::proofs::Showing::shows_same))]
-pub fn run_generation_over<
+/// Runs one generation, a worker for each of the five seats on its own thread, with at most this many turns for the primary
+/// and for the backup. If nobody is planned to go on alone, it ends well when the guest idles, all keys are taken, nothing is
+/// outstanding, under way or due, and all entries are acknowledged and repeated. Otherwise it ends when it is decided who goes
+/// on alone; a backup that does has repeated its list. `Stalled` if it ends in no such way, `OutOfMemory` if memory or a thread
+/// is refused.
+#[tactic(auto, using(crate::proofs::Beginning::nothing_yet, crate::proofs::Serving::first_disk))]
+pub fn run_generation<
     B: Lockstep + Send + Drop,
     D: SectorStore + Send,
     G: Gate + Sync,
     T: Threads + Clock + Sync,
->(
-    rt: &T,
-    alloc: Global,
-    workers: Workers<B, D>,
-    lines: Lines,
-    watched: bool,
-    reads: Reads,
-    gate: &G,
-    turns: u64,
-) -> R<GenerationEnd<B, D>>
+>(rt: &T, alloc: Global, workers: Workers<B, D>, gate: &G, turns: u64) -> R<GenerationEnd<B, D>>
     requires lawful { Lawful (booted_from B.machine (B.state workers.primary) (bytes_in (D.records workers.disk))) }
     requires alike { B.state workers.backup ≡ B.state workers.primary }
     requires unwritten { IsUnwritten (D.records workers.disk) }
-    requires watched { MayBeWatched watched workers.primary_contests workers.backup_contests }
     ensures refused { IfErr result IsEnding }
-    ensures decided { IfOk result (λ e. WonOver watched workers.primary_contests workers.backup_contests e.winner) }
+    ensures decided { IfOk result (λ e. WonBy workers.primary_contests workers.backup_contests e.winner) }
     ensures prefix { IfOk result (λ e. StartsWith e.primary.items e.backup.items) }
-    ensures kept { IfOk result (λ e. HasKept (not watched) e.primary e.backup) }
-    ensures ends { IfOk result (λ e. EndsBy (booted_from B.machine (B.state workers.primary) (bytes_in (D.records workers.disk)))
-        (not watched) e.typed0.items e.typed1.items e.winner e.primary.items e.backup.items e.held
-        (map (λ v. v.items) e.accepted) (D.records e.disk) (B.state e.primary_board) (B.state e.backup_board)) }
+    ensures typed { IfOk result (λ e. (e.typed0.items ≡ workers.typed0.items) × (e.typed1.items ≡ workers.typed1.items)) }
     ensures there { IfOk result (λ e. KeepsSectors (D.records workers.disk) (D.records e.disk)) }
-    ensures over { IfOk result (IsOver workers.typed0.items workers.typed1.items lines ([] ∷ [] ∷ [])) }
+    ensures ends { IfOk result (λ e. EndsBy (booted_from B.machine (B.state workers.primary) (bytes_in (D.records workers.disk)))
+        e.typed0.items e.typed1.items e.winner e.primary.items e.backup.items e.held
+        (map (λ v. v.items) e.accepted) (D.records e.disk) (B.state e.primary_board) (B.state e.backup_board)) }
     ensures left { IfOk result (λ e. LeavesBy (booted_from B.machine (B.state workers.primary) (bytes_in (D.records workers.disk)))
         e.typed0.items e.typed1.items e.winner e.primary.items e.backup.items e.waiting
         (map (λ v. v.items) e.accepted) (D.records e.disk) (B.state e.primary_board) (B.state e.backup_board)) }
@@ -436,70 +359,17 @@ pub fn run_generation_over<
         backup_contests,
         steps,
     } = workers;
-    let Lines {
-        keyboard0,
-        keyboard1,
-        screen,
-    } = lines;
-    let (lead, follow) = plans_of(
-        primary_contests,
-        backup_contests,
-        watched,
-        !watched,
-        reads,
-        steps,
-    );
-    let contested = lead.contested;
-    let ports = (
-        PortInputs::new(typed0, keyboard0),
-        PortInputs::new(typed1, keyboard1),
-    );
+    let contested = primary_contests.is_some() || backup_contests.is_some();
+    let lead = Plan::new(primary_contests, contested, true, steps);
+    let follow = Plan::new(backup_contests, contested, true, steps);
+    let ports = (PortInputs::new(typed0), PortInputs::new(typed1));
     let five = Five {
         primary: PrimaryWorker::new(alloc, seats.primary, primary, ports, lead),
         link: LinkWorker::new(seats.link, fates),
         backup: BackupWorker::new(alloc, seats.backup, backup, follow),
-        terminal: TerminalWorker::new(alloc, seats.terminal, screen),
+        terminal: TerminalWorker::new(alloc, seats.terminal),
         disk: DiskWorker::new(seats.disk, disk),
     };
     let served = work(rt, five, &fabric, gate, turns, contested);
-    finish(fabric, served, contested, watched)
-}
-
-/// Runs one generation without lines: its keys are those that were typed before.
-#[tactic(auto, using(crate::proofs::Typing::over_none, crate::proofs::Asking::won_closed))]
-pub fn run_generation<
-    B: Lockstep + Send + Drop,
-    D: SectorStore + Send,
-    G: Gate + Sync,
-    T: Threads + Clock + Sync,
->(rt: &T, alloc: Global, workers: Workers<B, D>, gate: &G, turns: u64) -> R<GenerationEnd<B, D>>
-    requires lawful { Lawful (booted_from B.machine (B.state workers.primary) (bytes_in (D.records workers.disk))) }
-    requires alike { B.state workers.backup ≡ B.state workers.primary }
-    requires unwritten { IsUnwritten (D.records workers.disk) }
-    ensures refused { IfErr result IsEnding }
-    ensures decided { IfOk result (λ e. WonBy workers.primary_contests workers.backup_contests e.winner) }
-    ensures prefix { IfOk result (λ e. StartsWith e.primary.items e.backup.items) }
-    ensures whole { IfOk result (λ e. (e.primary.forgotten ≡ 0) × (e.backup.forgotten ≡ 0)) }
-    ensures typed { IfOk result (λ e. (e.typed0.items ≡ workers.typed0.items) × (e.typed1.items ≡ workers.typed1.items)) }
-    ensures there { IfOk result (λ e. KeepsSectors (D.records workers.disk) (D.records e.disk)) }
-    ensures ends { IfOk result (λ e. EndsBy (booted_from B.machine (B.state workers.primary) (bytes_in (D.records workers.disk)))
-        true e.typed0.items e.typed1.items e.winner e.primary.items e.backup.items e.held
-        (map (λ v. v.items) e.accepted) (D.records e.disk) (B.state e.primary_board) (B.state e.backup_board)) }
-    ensures left { IfOk result (λ e. LeavesBy (booted_from B.machine (B.state workers.primary) (bytes_in (D.records workers.disk)))
-        e.typed0.items e.typed1.items e.winner e.primary.items e.backup.items e.waiting
-        (map (λ v. v.items) e.accepted) (D.records e.disk) (B.state e.primary_board) (B.state e.backup_board)) }
-    ensures ran { IfOk result (λ e. IsOfRun (booted_from B.machine (B.state workers.primary) (bytes_in (D.records workers.disk)))
-        e.typed0.items e.typed1.items e.winner e.primary.items e.backup.items e.held e.waiting
-        (map (λ v. v.items) e.accepted) (D.records e.disk) (B.state e.primary_board) (B.state e.backup_board)) }
-{
-    run_generation_over(
-        rt,
-        alloc,
-        workers,
-        Lines::none(),
-        false,
-        Reads::Logged,
-        gate,
-        turns,
-    )
+    finish(fabric, served, contested)
 }

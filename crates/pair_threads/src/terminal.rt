@@ -1,28 +1,24 @@
 //! The worker of the two terminals: it takes bytes, counts them, and keeps those that are accepted.
-ghost use Rattle.std.specs.Prelude.{◌≡◌, ◌≢◌, ◌++◌, ◌<◌, ℕ, List, [], length, vec_len, vec_capacity, is_some, IfErr, IfOk, IsTrue, None, Some, OnOk, true, false, not};
+ghost use Rattle.std.specs.Prelude.{◌≡◌, ◌++◌, ◌<◌, [], length, vec_len, vec_capacity, is_some, IfErr, IfOk, None, Some, OnOk, true, false, not};
 ghost use Rattle.pair_rule.specs.declared.payload.PortByte.{PortByte};
 ghost use Rattle.pair_rule.specs.Threads.{bytes_accepted};
 ghost use Rattle.pair_threads.specs.declared.worker.Turn.TheVariants as turn;
 ghost use Rattle.pair_threads.specs.Ending.{IsEnding};
-ghost use Rattle.pair_lines.specs.Lines.{HasRoom, HasShown, IsSameStart};
 ghost use Rattle.pair_threads.specs.Screens.{HasInHand, next_byte};
 ghost use Rattle.pair_threads.specs.Turns.{turn_by};
 
-use crate::gate::Progress;
 use crate::signals::{Signals, Told};
 use crate::worker::{Turn, Worker};
 use i8080_words::{Fault, R};
-use pair_lines::Screen;
 use pair_rule::{Fabric, PortByte, TerminalSeat};
 use std::alloc::Global;
 
-/// The terminals' seat, what each of them has accepted, and where that goes out.
+/// The terminals' seat, and what each of them has accepted.
 #[derive(Drop)]
 pub(crate) struct TerminalWorker {
     pub(crate) seat: TerminalSeat,
     pub(crate) accepted0: Vec<u8>,
     pub(crate) accepted1: Vec<u8>,
-    pub(crate) screen: Screen,
     // Whether it is the second port's turn, and the byte that was taken there and not counted yet.
     second: bool,
     hand: Option<PortByte>,
@@ -31,37 +27,27 @@ pub(crate) struct TerminalWorker {
     ghost in_hand: { (byte : PortByte) → hand ≡ Some byte → HasInHand second byte seat.core.known },
 }
 
-// A byte arrives at the terminal of a port, which accepts it if it is the next one; then it is shown.
-#[tactic(auto, using(crate::proofs::Screens::shown_on, crate::proofs::Screens::shown_beside))]
-fn accept(accepted: &mut Vec<u8>, screen: &mut Screen, port: u8, byte: PortByte)
+// A byte arrives at a terminal, which accepts it if it is the next one.
+fn accept(accepted: &mut Vec<u8>, byte: PortByte)
     requires room { vec_len accepted.old < vec_capacity accepted.old }
-    requires place { HasRoom screen.old.ring }
-    ensures accepted { accepted.new.items ≡ accepted.old.items ++ next_byte (length accepted.old.items) byte }
-    ensures same { IsSameStart screen.old.ring screen.new.ring }
-    ensures shown { HasShown screen.old port accepted.old.items → HasShown screen.new port accepted.new.items }
-    ensures other { (at : ℕ) (bytes : List ℕ) → at ≢ port → HasShown screen.old at bytes → HasShown screen.new at bytes }
+    ensures { accepted.new.items ≡ accepted.old.items ++ next_byte (length accepted.old.items) byte }
 {
     if byte.number > 0 && byte.number - 1 == accepted.len() as u64 {
         accepted.push_reserved(byte.byte);
-        screen.show(port, byte.byte);
     }
 }
 
 impl TerminalWorker {
-    ghost use Rattle.pair_threads.specs.Showing.{ShowsOn};
-
     /// Terminals at which nothing has arrived.
-    pub(crate) fn new(alloc: Global, seat: TerminalSeat, screen: Screen) -> TerminalWorker
+    pub(crate) fn new(alloc: Global, seat: TerminalSeat) -> TerminalWorker
         requires first { bytes_accepted 0 seat.core.known ≡ [] }
         requires second { bytes_accepted 1 seat.core.known ≡ [] }
-        ensures seat { (result.seat ≡ seat) × (result.screen ≡ screen) }
-        ensures accepted { (result.accepted0.items ≡ []) × (result.accepted1.items ≡ []) }
+        ensures seat { result.seat ≡ seat }
     {
         TerminalWorker {
             seat,
             accepted0: Vec::new(alloc),
             accepted1: Vec::new(alloc),
-            screen,
             second: false,
             hand: None,
         }
@@ -71,9 +57,7 @@ impl TerminalWorker {
     fn count(&mut self, fabric: &Fabric, byte: PortByte) -> R<()>
         requires table { self.old.seat.table ≡ fabric.now }
         requires hand { self.old.hand ≡ Some byte }
-        requires place { HasRoom self.old.screen.ring }
         ensures table { self.new.seat.table ≡ self.old.seat.table }
-        ensures shows { OnOk result (ShowsOn self.old self.new) }
         ensures next { OnOk result (self.new.second ≡ not self.old.second) }
         ensures refused { IfErr result IsEnding }
     {
@@ -88,16 +72,14 @@ impl TerminalWorker {
     fn count0(&mut self, fabric: &Fabric, byte: PortByte) -> R<()>
         requires table { self.old.seat.table ≡ fabric.now }
         requires hand { self.old.hand ≡ Some byte }
-        requires place { HasRoom self.old.screen.ring }
         requires first { self.old.second ≡ false }
         ensures table { self.new.seat.table ≡ self.old.seat.table }
-        ensures shows { OnOk result (ShowsOn self.old self.new) }
         ensures next { OnOk result (self.new.second ≡ true) }
         ensures refused { IfErr result IsEnding }
     {
         self.accepted0.reserve(1)?;
         self.seat.count(fabric, 0);
-        accept(&mut self.accepted0, &mut self.screen, 0, byte);
+        accept(&mut self.accepted0, byte);
         self.second = true;
         self.hand = None;
         Ok(())
@@ -107,16 +89,14 @@ impl TerminalWorker {
     fn count1(&mut self, fabric: &Fabric, byte: PortByte) -> R<()>
         requires table { self.old.seat.table ≡ fabric.now }
         requires hand { self.old.hand ≡ Some byte }
-        requires place { HasRoom self.old.screen.ring }
         requires second { self.old.second ≡ true }
         ensures table { self.new.seat.table ≡ self.old.seat.table }
-        ensures shows { OnOk result (ShowsOn self.old self.new) }
         ensures next { OnOk result (self.new.second ≡ false) }
         ensures refused { IfErr result IsEnding }
     {
         self.accepted1.reserve(1)?;
         self.seat.count(fabric, 1);
-        accept(&mut self.accepted1, &mut self.screen, 1, byte);
+        accept(&mut self.accepted1, byte);
         self.second = false;
         self.hand = None;
         Ok(())
@@ -127,8 +107,6 @@ impl TerminalWorker {
         requires table { self.old.seat.table ≡ fabric.now }
         requires hand { self.old.hand ≡ None }
         ensures table { self.new.seat.table ≡ self.old.seat.table }
-        ensures shows { (self.new.screen ≡ self.old.screen) × (self.new.accepted0 ≡ self.old.accepted0)
-            × (self.new.accepted1 ≡ self.old.accepted1) }
         ensures next { result ≡ Ok turn.Waits → self.new.second ≡ not self.old.second }
         ensures same { result ≡ Ok turn.Moved → self.new.second ≡ self.old.second }
         ensures turn { IfOk result (λ turn. turn ≡ turn_by false (is_some self.new.hand)) }
@@ -148,34 +126,33 @@ impl TerminalWorker {
 }
 
 impl Worker for TerminalWorker {
-    ghost use Rattle.std.specs.Prelude.{◌&&◌, false};
-    ghost use Rattle.pair_threads.specs.Showing.{HasTurned, ShowsOn};
+    ghost use Rattle.std.specs.Prelude.{◌≡◌, ◌&&◌, is_some, false};
+    ghost use Rattle.pair_threads.specs.Turns.{turn_by};
 
     ghost table = { λ w. w.seat.table };
 
     ghost ready = { λ w. Unit {0} };
 
-    ghost came = { λ first w. ShowsOn first w };
+    ghost came = { λ first w. Unit {0} };
 
     ghost ended = { λ w. Unit {0} };
 
-    ghost asks = { λ old number told new. Unit {0} };
+    ghost asks = { λ old number new. Unit {0} };
 
-    ghost turned = { λ old number told new turn. HasTurned old new turn };
+    ghost turned = { λ old number new turn. turn ≡ turn_by (is_some old.hand) (is_some new.hand) };
 
     ghost ends_by = { λ w told. told.primary_ended && told.backup_ended };
 
     ghost needs_others = { λ w. false };
 
-    fn turn(&mut self, fabric: &Fabric, _signals: &Signals, _number: u64, _told: bool) -> R<Turn> {
-        let Some(byte) = self.hand else {
-            return self.take(fabric);
-        };
-        if !self.screen.has_room() {
-            return Ok(Turn::Waits);
+    fn turn(&mut self, fabric: &Fabric, _signals: &Signals, _number: u64) -> R<Turn> {
+        match self.hand {
+            Some(byte) => {
+                self.count(fabric, byte)?;
+                Ok(Turn::Moved)
+            }
+            None => self.take(fabric),
         }
-        self.count(fabric, byte)?;
-        Ok(Turn::Moved)
     }
 
     fn may_end(&self, told: Told) -> bool {
@@ -184,9 +161,5 @@ impl Worker for TerminalWorker {
 
     fn is_held_up(&self) -> bool {
         false
-    }
-
-    fn progress(&self) -> Option<Progress> {
-        None
     }
 }

@@ -5,7 +5,7 @@ ghost use Rattle.pair_threads.specs.Ending.{IsEnding};
 ghost use Rattle.pair_threads.specs.Served.{HasGoneOn, HasHadTurns, LeavesAs, next_after};
 ghost use Rattle.pair_threads.specs.Turns.{Leaves};
 
-use crate::gate::{Gate, Progress, Who};
+use crate::gate::{Gate, Who};
 use crate::pace::Pace;
 use crate::signals::{Signals, Told};
 use i8080_words::{Fault, R};
@@ -27,9 +27,8 @@ pub(crate) enum Turn {
 
 /// A seat with all that its thread keeps besides it.
 pub(crate) trait Worker {
-    ghost use Rattle.std.specs.Prelude.{ℕ, Bool, Option, None};
+    ghost use Rattle.std.specs.Prelude.{ℕ, Bool};
     ghost use Rattle.atomic_table.specs.Seated.{TableId};
-    ghost use Rattle.pair_threads.specs.declared.gate.Progress.{Progress};
     ghost use Rattle.pair_threads.specs.declared.signals.Told.{Told};
     ghost use Rattle.pair_threads.specs.declared.worker.Turn.{Turn};
 
@@ -45,11 +44,11 @@ pub(crate) trait Worker {
     // What holds of a worker that is at its end.
     ghost ended: { Self → Type 0 };
 
-    // What a turn of this number is to a worker that may ask to go on alone, by whether it is told that its peer has failed.
-    ghost asks: { Self → ℕ → Bool → Self → Type 0 };
+    // What a turn of this number is to a worker that may ask to go on alone.
+    ghost asks: { Self → ℕ → Self → Type 0 };
 
     // What it has done in a turn of this number that was such a turn.
-    ghost turned: { Self → ℕ → Bool → Self → Turn → Type 0 };
+    ghost turned: { Self → ℕ → Self → Turn → Type 0 };
 
     // Whether it is at its end by what it was told.
     ghost ends_by: { Self → Told → Bool };
@@ -59,14 +58,14 @@ pub(crate) trait Worker {
 
     /// Makes at most one call of its seat, or lets its guest move, and says so by the signals. Refused if the run can no longer
     /// end well: `OutOfMemory`, and `Stalled` otherwise.
-    fn turn(&mut self, fabric: &Fabric, signals: &Signals, number: u64, told: bool) -> R<Turn>
+    fn turn(&mut self, fabric: &Fabric, signals: &Signals, number: u64) -> R<Turn>
         requires table { table self.old ≡ fabric.now }
         requires ready { ready self.old }
         ensures table { table self.new ≡ table self.old }
         ensures came { (first : Self) → came first self.old → OnOk result (came first self.new) }
         ensures leaves { Leaves result (ready self.new) (ended self.new) }
-        ensures asks { OnOk result (asks self.old number told self.new) }
-        ensures turned { IfOk result (turned self.old number told self.new) }
+        ensures asks { OnOk result (asks self.old number self.new) }
+        ensures turned { IfOk result (turned self.old number self.new) }
         ensures refused { IfErr result IsEnding };
 
     /// Whether it is at its end by what it was told.
@@ -78,13 +77,6 @@ pub(crate) trait Worker {
     /// Whether its guest makes progress only if the other workers do.
     fn is_held_up(&self) -> bool
         ensures { result ≡ needs_others self.now };
-
-    // How far it has come, if it is a node.
-    ghost stands: { Self → Option Progress } = { λ _. None };
-
-    /// How far it has come, if it is a node.
-    fn progress(&self) -> Option<Progress>
-        ensures { result ≡ stands self.now };
 }
 
 // Waits until all workers have begun, or one has failed, for ten seconds at most. If no thread can be made for one of them,
@@ -160,10 +152,7 @@ fn take_turn<C: Clock, W: Worker, G: Gate>(
     ensures held_up { OnOk result (held_up.new ≡ W.needs_others worker.new) }
     ensures refused { IfErr result IsEnding }
 {
-    let turn = worker.turn(fabric, signals, number, gate.suspects(who));
-    if let Some(progress) = worker.progress() {
-        gate.notes(who, progress);
-    }
+    let turn = worker.turn(fabric, signals, number);
     gate.leave(who, number);
     if worker.is_held_up() != *held_up {
         *held_up = !*held_up;

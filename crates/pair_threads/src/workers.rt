@@ -3,8 +3,6 @@
 use crate::gate::Who;
 use crate::link::Fate;
 use log_entry::Entry;
-use log_journal::Journal;
-use pair_lines::Lines;
 use shared_disk::{SectorStore, SharedDisk};
 
 /// What a generation on threads begins with.
@@ -31,8 +29,8 @@ pub struct Workers<B: Drop, D: SectorStore> {
 #[derive(Drop)]
 pub struct GenerationEnd<B: Drop, D: SectorStore> {
     /// The lists of entries.
-    pub primary: Journal,
-    pub backup: Journal,
+    pub primary: Vec<Entry>,
+    pub backup: Vec<Entry>,
     pub primary_board: B,
     pub backup_board: B,
     /// The entry of the last move of the primary's guest, if it is not in the list yet.
@@ -47,6 +45,4 @@ pub struct GenerationEnd<B: Drop, D: SectorStore> {
     /// What the terminal of each port has accepted.
     pub accepted: [Vec<u8>; 2],
     pub disk: SharedDisk<D>,
-    /// The lines over which it was told and told.
-    pub lines: Lines,
 }

@@ -1,7 +1,5 @@
 //! What no contract says: that a pair on threads comes to its end, and that its threads run at once.
 mod gates;
-mod lines;
 mod pairs;
 mod rows;
-mod silence;
 mod turns;

@@ -71,7 +71,7 @@ fn run_with<
     let (primary, backup) = boards(alloc, &case.given.setup, sent, sector, written)?;
     let workers = workers_of(alloc, case, primary, backup)?;
     match run_generation(rt, alloc, workers, gate, case.how.turns) {
-        Ok(end) => without_boards(alloc, end),
+        Ok(end) => Ok(without_boards(end)),
         Err(fault) => Err(fault),
     }
 }
@@ -149,10 +149,7 @@ fn workers_of<B: Lockstep + Drop>(
 }
 
 // Lets the boards go.
-fn without_boards<B: Lockstep + Drop>(
-    alloc: Global,
-    end: GenerationEnd<B, MemoryStore>,
-) -> R<PairEnd> {
+fn without_boards<B: Lockstep + Drop>(end: GenerationEnd<B, MemoryStore>) -> PairEnd {
     let steps = end.primary_board.count();
     let GenerationEnd {
         primary,
@@ -163,15 +160,15 @@ fn without_boards<B: Lockstep + Drop>(
         disk,
         ..
     } = end;
-    Ok(PairEnd {
+    PairEnd {
         steps,
-        primary: primary.kept(alloc)?,
-        backup: backup.kept(alloc)?,
+        primary,
+        backup,
         held,
         winner,
         accepted,
         disk,
-    })
+    }
 }
 
 // The disk at boot.

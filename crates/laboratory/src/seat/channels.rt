@@ -3,7 +3,7 @@ ghost use Rattle.std.specs.Thread.{IsSync};
 
 use crossbeam_channel::{Receiver, Sender, bounded};
 use log_entry::Entry;
-use pair_rule::{Carried, Packet};
+use pair_rule::Packet;
 use std::alloc::{AllocError, Global};
 use std::sync::Wait;
 use std::thread::{self, Threads};
@@ -47,7 +47,7 @@ pub fn packet(index: u64) -> Packet {
     Packet {
         generation: 1,
         index,
-        carried: Carried::Whole(Entry::Mark { count: 6 }),
+        entry: Entry::Mark { count: 6 },
     }
 }
 

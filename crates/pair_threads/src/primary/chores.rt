@@ -1,5 +1,5 @@
 //! The chores of a primary's worker at its guest, the link and the terminals.
-ghost use Rattle.std.specs.Prelude.{◌≡◌, ◌⊎◌, ◌≢◌, ◌+◌, ◌<◌, ◌≤◌, ◌↔◌, ◌&&◌, ◌==◌, cond, not, ◌||◌, false, true, nat_lt, if◌then◌else◌, is_some, IfErr, IfSome, IsSome, IsTrue, None, OnOk, Some, length, slice_get};
+ghost use Rattle.std.specs.Prelude.{◌≡◌, ◌⊎◌, ◌≢◌, ◌+◌, ◌<◌, ◌≤◌, ◌↔◌, ◌&&◌, ◌==◌, cond, ◌||◌, false, true, nat_lt, if◌then◌else◌, is_some, IfErr, IfSome, IsSome, IsTrue, None, OnOk, Some, length, slice_get};
 ghost use Rattle.event_callbacks.specs.declared.devices.TheConstants.{PORTS};
 ghost use Rattle.event_callbacks.specs.declared.operations.OpId.TheVariants as id;
 ghost use Rattle.event_callbacks.specs.declared.operations.Operation.TheVariants.{Byte};
@@ -13,18 +13,15 @@ ghost use Rattle.pair_threads.specs.Choosing.{accepted_of, at_other, counted_of,
 ghost use Rattle.pair_threads.specs.Patience.{guest_is_held_up};
 ghost use Rattle.pair_threads.specs.Ending.{IsEnding};
 ghost use Rattle.pair_threads.specs.Primary.{Emits, HasTakenKeys, IsAtRest, Works};
-ghost use Rattle.pair_threads.specs.Naming.{name_for, packet_of, track_at};
 ghost use Rattle.pair_threads.specs.Turns.{RunsFor};
 
 use super::{KEY_STEPS, PrimaryWorker};
 use crate::lag::{Lead, is_too_far};
-use crate::plan::first_kept;
 use crate::port_inputs::PortInputs;
 use crate::signals::Signals;
-use guest_lockstep::{Lockstep, Reads};
+use guest_lockstep::Lockstep;
 use i8080_words::{Fault, R};
-use log_entry::Entry;
-use pair_rule::{Fabric, NamedSector};
+use pair_rule::Fabric;
 
 /// How many steps a guest makes at most in a turn while one of its operations is outstanding; while several are, each has a
 /// share of them. So its bytes leave soon, and a guest that waits for its window does not wait for its own turns.
@@ -66,7 +63,7 @@ impl<B: Lockstep> PrimaryWorker<B> {
         }
     }
 
-    // Posts the entry of this index: of a sector only its name, if the backup reads it from the disk itself.
+    // Posts the entry of this index.
     fn send(&mut self, fabric: &Fabric, index: u64)
         requires table { self.old.seat.table ≡ fabric.now }
         requires before { self.old.seat.core.known.primary.winner ≡ 0 }
@@ -76,28 +73,14 @@ impl<B: Lockstep> PrimaryWorker<B> {
         ensures same { (self.new.next ≡ self.old.next) × (self.new.seen ≡ self.old.seen) × (self.new.posted ≡ self.old.posted)
             × (self.new.list ≡ self.old.list) }
         ensures posted { (e : Entry) × (slice_get self.old.list.items index ≡ Some e)
-            × Fills Outbox (Log (packet_of self.old.seat.core.known.generation index
-            (name_for self.old.plan.reads (track_at self.old.tracks.tracks index) e) e)) self.old.seat.core self.new.seat.core }
+            × Fills Outbox (Log (record { generation = self.old.seat.core.known.generation; index = index; entry = e }))
+            self.old.seat.core self.new.seat.core }
     {
-        let entry = *self.list.entry(index as usize);
-        match self.name_of(index, &entry) {
-            Some(sector) => self.seat.post_named(fabric, index, sector),
-            None => self.seat.post(fabric, index, &entry),
-        }
+        let entry = self.list[index as usize];
+        self.seat.post(fabric, index, &entry);
     }
 
-    // What the packet of an entry has in place of it: the name of a sector, if the backup reads it itself.
-    fn name_of(&self, index: u64, entry: &Entry) -> Option<NamedSector>
-        ensures { result ≡ name_for self.now.plan.reads (track_at self.now.tracks.tracks index) entry.now }
-    {
-        match self.plan.reads {
-            Reads::Logged => None,
-            Reads::Shared => self.tracks.named(index, entry),
-        }
-    }
-
-    // Sees how many entries are acknowledged. Nobody needs these again.
-    #[tactic(auto, using(crate::proofs::Naming::more_seen))]
+    // Sees how many entries are acknowledged.
     pub(super) fn see(&mut self, fabric: &Fabric) -> bool
         requires table { self.old.seat.table ≡ fabric.now }
         requires before { self.old.seat.core.known.primary.winner ≡ 0 }
@@ -107,13 +90,11 @@ impl<B: Lockstep> PrimaryWorker<B> {
     {
         let before = self.seen;
         self.seen = self.seat.see(fabric);
-        self.list
-            .forget_before(first_kept(self.plan.keeps, self.seen as usize));
         self.full = false;
         self.seen != before
     }
 
-    // Lets the guest run, if it may, and says how far it is, unless the lists are kept whole.
+    // Lets the guest run, if it may, and says how far it is, unless its backup is to be exact.
     pub(super) fn lead(&mut self, signals: &Signals) -> R<bool>
         ensures works { OnOk result (Works B.state B.machine self.old self.new) }
         ensures seat { self.new.seat ≡ self.old.seat }
@@ -121,7 +102,7 @@ impl<B: Lockstep> PrimaryWorker<B> {
         ensures refused { IfErr result IsEnding }
     {
         let moved = self.run(signals.follower())?;
-        if !self.plan.keeps {
+        if !self.plan.exact {
             signals.leads(self.place());
         }
         Ok(moved)
@@ -143,12 +124,11 @@ impl<B: Lockstep> PrimaryWorker<B> {
     fn waits_for_backup(&self, follower: u64) -> bool
         ensures { result ≡ waits_for_backup B.state B.machine follower self.now }
     {
-        !self.plan.keeps && is_too_far(follower, self.guest.board.count())
+        !self.plan.exact && is_too_far(follower, self.guest.board.count())
     }
 
     // Lets the guest run, unless one of its entries waits, or its backup is too far behind. While several of its operations are
     // outstanding it may do nothing but poll, so only a new one is a change then.
-    #[tactic(auto, using(crate::proofs::Naming::none_waits))]
     pub(super) fn run(&mut self, follower: u64) -> R<bool>
         ensures works { OnOk result (Works B.state B.machine self.old self.new) }
         ensures seat { self.new.seat ≡ self.old.seat }
@@ -237,7 +217,6 @@ impl<B: Lockstep> PrimaryWorker<B> {
     }
 
     // Takes the next key of a port.
-    #[tactic(auto, using(crate::proofs::Naming::none_waits))]
     fn next_key(&mut self, port: u8) -> bool
         requires free { self.old.guest.waiting ≡ None }
         requires port { port < PORTS }
@@ -382,7 +361,6 @@ impl<B: Lockstep> PrimaryWorker<B> {
     }
 
     // Takes an acceptance at a port, if its terminal has accepted more bytes than the guest was told.
-    #[tactic(auto, using(crate::proofs::Naming::none_waits))]
     fn take_acceptance(&mut self, port: u8) -> bool
         requires port { port < PORTS }
         requires free { self.old.guest.waiting ≡ None }
@@ -406,17 +384,15 @@ impl<B: Lockstep> PrimaryWorker<B> {
         true
     }
 
-    // Whether a run that may end where its guest is at rest is at its end.
+    // Whether a run in which nobody is planned to go on alone is at its end.
     pub(super) fn is_at_its_end(&self) -> bool
-        ensures { IsTrue result ↔ (((not self.now.plan.contested || self.now.plan.watched) ≡ true)
-            × IsAtRest B.state B.machine self.now) }
+        ensures { IsTrue result ↔ ((self.now.plan.contested ≡ false) × IsAtRest B.state B.machine self.now) }
     {
-        self.plan.may_rest() && self.is_at_rest()
+        !self.plan.contested && self.is_at_rest()
     }
 
-    /// Whether the guest idles with all keys taken and no more to come, nothing is outstanding, in flight or due, and all is
-    /// acknowledged.
-    pub(crate) fn is_at_rest(&self) -> bool
+    // Whether the guest idles with all keys taken, nothing is outstanding, in flight or due, and all is acknowledged.
+    fn is_at_rest(&self) -> bool
         ensures { IsTrue result ↔ IsAtRest B.state B.machine self.now }
     {
         self.guest.given.is_empty()
@@ -425,8 +401,6 @@ impl<B: Lockstep> PrimaryWorker<B> {
             && self.answer.is_none()
             && self.port0.is_taken()
             && self.port1.is_taken()
-            && self.port0.is_closed()
-            && self.port1.is_closed()
             && self.guest.idle
             && self.no_sector_is_due()
     }

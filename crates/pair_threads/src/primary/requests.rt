@@ -5,9 +5,8 @@ ghost use Rattle.disk_dcdd.specs.declared.sector.TheConstants.{SECTORS};
 ghost use Rattle.event_callbacks.specs.declared.operations.OpId.TheVariants as id;
 ghost use Rattle.event_callbacks.specs.declared.operations.Operation.TheVariants.{Write};
 ghost use Rattle.pair_rule.specs.Seats.{HasSwapsLeft};
-ghost use Rattle.pair_threads.specs.Choosing.{due_sector, due_write, is_write, next_sector};
+ghost use Rattle.pair_threads.specs.Choosing.{due_sector, due_write, is_write, next_sector, no_sector_waits};
 ghost use Rattle.pair_threads.specs.Ending.{NoSectorIsDue};
-ghost use Rattle.pair_threads.specs.Naming.{no_sector_waits};
 ghost use Rattle.pair_threads.specs.Primary.{MayAsk, Works};
 ghost use Rattle.std.specs.List.{find};
 
@@ -162,7 +161,6 @@ impl<B: Lockstep> PrimaryWorker<B> {
     }
 
     // Takes the disk's answer. A sector that is no longer under the head is dropped.
-    #[tactic(auto, using(crate::proofs::Naming::none_waits, crate::proofs::Naming::sector_waits, crate::proofs::Views::is_among))]
     pub(super) fn complete(&mut self) -> bool
         ensures works { Works B.state B.machine self.old self.new }
         ensures taken { result ≡ true → self.new.answer ≢ self.old.answer }
@@ -180,7 +178,6 @@ impl<B: Lockstep> PrimaryWorker<B> {
             DiskAnswer::Written(number) => self.guest.written(number),
             DiskAnswer::Read(read) => {
                 if self.guest.sector(&read) {
-                    self.track = read.track;
                     self.pass_sector();
                 }
                 true

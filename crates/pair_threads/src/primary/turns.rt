@@ -8,27 +8,21 @@ ghost use Rattle.pair_threads.specs.Ending.{IsEnding};
 ghost use Rattle.pair_threads.specs.Primary.{Does, HasAppended, HasDone, IsAtRest, WorkerKeeps, WorkerLeads, Works, has_work_at_1, second_after};
 ghost use Rattle.pair_threads.specs.Screens.{port_of};
 ghost use Rattle.pair_threads.specs.Turns.{Leaves};
-ghost use Rattle.pair_threads.specs.Typing.{HasListened};
-ghost use Rattle.pair_threads.specs.declared.primary.PrimaryWorker.{PrimaryWorker};
 
 use super::PrimaryWorker;
 use crate::chore::{Chore, ROTATION};
-use crate::gate::Progress;
 use crate::plan::Plan;
 use crate::port_inputs::PortInputs;
 use crate::recording::Recording;
 use crate::signals::{Signals, Told};
-use crate::tracks::Tracks;
 use crate::worker::{Turn, Worker};
 use guest_lockstep::Lockstep;
 use i8080_words::{Fault, R};
 use log_entry::Entry;
-use log_journal::Journal;
 use pair_rule::{Fabric, PrimarySeat};
 use std::alloc::Global;
 
 impl<B: Lockstep> PrimaryWorker<B> {
-    #[tactic(auto, using(crate::proofs::Naming::none_left, crate::proofs::Naming::none_waits))]
     pub(crate) fn new(
         alloc: Global,
         seat: PrimarySeat,
@@ -52,7 +46,7 @@ impl<B: Lockstep> PrimaryWorker<B> {
         let (port0, port1) = ports;
         PrimaryWorker {
             seat,
-            list: Journal::new(alloc),
+            list: Vec::new(alloc),
             guest: Recording::new(alloc, board),
             port0,
             port1,
@@ -66,8 +60,6 @@ impl<B: Lockstep> PrimaryWorker<B> {
             emitted1: 0,
             asked: false,
             answer: None,
-            tracks: Tracks::new(),
-            track: 0,
             sector: 0,
             key_count: 0,
             chore: Chore::Post,
@@ -79,7 +71,6 @@ impl<B: Lockstep> PrimaryWorker<B> {
     }
 
     // Appends the entry that waits, unless the log is full.
-    #[tactic(auto, using(crate::proofs::Naming::noted, crate::proofs::Naming::none_waits))]
     pub(super) fn append(&mut self, fabric: &Fabric, entry: Entry) -> R<Turn>
         requires table { self.old.seat.table ≡ fabric.now }
         requires before { self.old.seat.core.known.primary.winner ≡ 0 }
@@ -90,11 +81,10 @@ impl<B: Lockstep> PrimaryWorker<B> {
         ensures turn { IfOk result (HasAppended self.old self.new) }
         ensures refused { IfErr result IsEnding }
     {
-        self.list.reserve()?;
+        self.list.reserve(1)?;
         match self.seat.append(fabric, entry) {
-            Ok(index) => {
+            Ok(_) => {
                 self.list.push_reserved(entry);
-                self.tracks.note(index, self.track);
                 self.guest.waiting = None;
                 Ok(Turn::Moved)
             }
@@ -104,37 +94,6 @@ impl<B: Lockstep> PrimaryWorker<B> {
             }
             Err(_) => Err(Fault::Stalled),
         }
-    }
-
-    // Notes the keys that have come, before the guest may take one.
-    #[tactic(auto, using(crate::proofs::Typing::listened_same, crate::proofs::Typing::notes_same))]
-    fn listen(&mut self) -> R<()>
-        ensures listens { OnOk result (HasListened self.old self.new) }
-        ensures seat { self.new.seat ≡ self.old.seat }
-        ensures refused { IfErr result IsEnding }
-    {
-        if self.chore == Chore::Key {
-            self.port0.listen()?;
-            self.port1.listen()?;
-        }
-        Ok(())
-    }
-
-    // Notes the keys that have come, and does the next chore.
-    fn listen_and_work(&mut self, fabric: &Fabric, signals: &Signals) -> R<Turn>
-        requires table { self.old.seat.table ≡ fabric.now }
-        requires before { self.old.seat.core.known.primary.winner ≡ 0 }
-        requires swaps { HasSwapsLeft self.old.seat.core }
-        ensures works { OnOk result ((heard : PrimaryWorker B) × HasListened self.old heard
-            × Works B.state B.machine heard self.new) }
-        ensures table { self.new.seat.table ≡ self.old.seat.table }
-        ensures leaves { Leaves result (Unit {0}) (IsAtRest B.state B.machine self.new) }
-        ensures turn { IfOk result (λ turn. (heard : PrimaryWorker B) × HasListened self.old heard
-            × HasDone B.state B.machine heard self.new turn) }
-        ensures refused { IfErr result IsEnding }
-    {
-        self.listen()?;
-        self.work(fabric, signals)
     }
 
     // The entry to append.
@@ -266,50 +225,43 @@ fn fruitless_after(moved: bool, fruitless: u8) -> u8
 }
 
 impl<B: Lockstep> Worker for PrimaryWorker<B> {
-    ghost use Rattle.std.specs.Prelude.{◌≡◌, ◌&&◌, false, Some, length};
+    ghost use Rattle.std.specs.Prelude.{◌≡◌, ◌&&◌, false};
     ghost use Rattle.pair_threads.specs.Asking.{AsksAt, HasAsked};
     ghost use Rattle.pair_threads.specs.Patience.{is_held_up};
     ghost use Rattle.pair_threads.specs.Primary.{HasHadTurn, IsAtRest, WorkerKeeps, WorkerLeads};
-    ghost use Rattle.pair_threads.specs.Typing.{HasHeard};
 
     ghost table = { λ w. w.seat.table };
 
     ghost ready = { λ w. w.seat.core.known.primary.winner ≡ 0 };
 
-    ghost came = { λ first w. (w.plan ≡ first.plan) × HasHeard first.port0 w.port0
-        × HasHeard first.port1 w.port1 × HasAsked w.plan.asking w.seat.core.known.primary.winner
+    ghost came = { λ first w. (w.plan ≡ first.plan) × (w.port0.typed ≡ first.port0.typed)
+        × (w.port1.typed ≡ first.port1.typed) × HasAsked w.plan.contests_at w.seat.core.known.primary.winner
         × ((boot : B.State) → WorkerLeads B.state B.machine boot first → WorkerLeads B.state B.machine boot w)
         × ((boot : B.State) → WorkerLeads B.state B.machine boot first → WorkerKeeps B.machine boot first
         → WorkerKeeps B.machine boot w) };
 
     ghost ended = { λ w. w.plan.contested ≡ false → IsAtRest B.state B.machine w };
 
-    ghost asks = { λ old number told new.
-        AsksAt old.plan.asking number told old.seat.core.known.primary.winner new.seat.core.known.primary.winner };
+    ghost asks = { λ old number new.
+        AsksAt old.plan.contests_at number old.seat.core.known.primary.winner new.seat.core.known.primary.winner };
 
-    ghost turned = { λ old number told new turn. HasHadTurn B.state B.machine old number told new turn };
+    ghost turned = { λ old number new turn. HasHadTurn B.state B.machine old number new turn };
 
     ghost ends_by = { λ w told. w.plan.contested && told.backup_ended };
 
     ghost needs_others = { λ w. is_held_up w };
 
-    ghost stands = { λ w. Some (record {
-      entries = length w.list.items;
-      passed = w.seen;
-      steps = B.machine.count (B.state w.guest.board);
-    }) };
-
-    fn turn(&mut self, fabric: &Fabric, signals: &Signals, number: u64, told: bool) -> R<Turn> {
+    fn turn(&mut self, fabric: &Fabric, signals: &Signals, number: u64) -> R<Turn> {
         if !self.seat.has_swaps_left() {
             return Err(Fault::Stalled);
         }
-        if self.plan.asks_at(number, told) {
+        if self.plan.asks_at(number) {
             let _ = self.seat.contest(fabric);
             return Ok(Turn::Ends);
         }
         match self.to_append() {
             Some(entry) => self.append(fabric, entry),
-            None => self.listen_and_work(fabric, signals),
+            None => self.work(fabric, signals),
         }
     }
 
@@ -319,13 +271,5 @@ impl<B: Lockstep> Worker for PrimaryWorker<B> {
 
     fn is_held_up(&self) -> bool {
         self.held_up || !self.port0.is_taken() || !self.port1.is_taken()
-    }
-
-    fn progress(&self) -> Option<Progress> {
-        Some(Progress {
-            entries: self.list.len() as u64,
-            passed: self.seen,
-            steps: self.guest.board.count(),
-        })
     }
 }

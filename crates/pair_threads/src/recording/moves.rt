@@ -12,11 +12,9 @@ ghost use Rattle.pair_rule.specs.declared.payload.DiskAnswer.TheVariants.{Read, 
 ghost use Rattle.log_entry.specs.Entries.{entry_of};
 ghost use Rattle.guest_lockstep.specs.declared.reads.Reads.TheVariants.{Logged};
 ghost use Rattle.shared_disk.specs.Arrivals.{read_address};
-ghost use Rattle.pair_rule.specs.Knowledge.{sector_entry};
-ghost use Rattle.pair_threads.specs.Choosing.{byte_at};
+ghost use Rattle.pair_threads.specs.Choosing.{byte_at, is_sector, no_sector_waits};
 ghost use Rattle.pair_threads.specs.Leading.{HeardOn, LeadsOn, TakesOn};
 ghost use Rattle.pair_threads.specs.Patience.{guest_is_held_up};
-ghost use Rattle.pair_threads.specs.Naming.{is_sector, no_sector_waits};
 ghost use Rattle.pair_threads.specs.Turns.{RunsFor};
 ghost use Rattle.i8080_words.specs.declared.refusal.Fault.TheVariants.{OutOfMemory};
 ghost use Rattle.std.specs.Prelude.{IfErr, IfSome};
@@ -161,8 +159,8 @@ impl<B: Lockstep> Recording<B> {
         requires free { self.old.waiting ≡ None }
         ensures refused { result ≡ false → self.new ≡ self.old }
         ensures onward { result ≡ true → HeardOn B.state B.machine (Read read.now) self.old self.new }
-        ensures waits { result ≡ true
-            → self.new.waiting ≡ Some (sector_entry (B.machine.count (B.state self.old.board)) read.now) }
+        ensures waits { result ≡ true → self.new.waiting ≡ Some (entry_of Logged (B.machine.count (B.state self.old.board))
+            (input.Sector read.now.drive read.now.sector read.now.number read.now.bytes)) }
     {
         if usize::from(read.drive) >= DRIVES || read.sector >= SECTORS {
             return false;

@@ -1,34 +1,30 @@
 //! How a backup's guest repeats the entries of its list.
-ghost use Rattle.std.specs.Prelude.{◌≡◌, ◌⊎◌, Bool, ◌↔◌, ◌++◌, [], ◌∷◌, false, true, nat_lt, length, IfErr, IfOk, IsTrue, OnOk};
+ghost use Rattle.std.specs.Prelude.{◌≡◌, ◌⊎◌, ◌↔◌, ◌<◌, ◌++◌, [], ◌∷◌, false, true, nat_lt, length, vec_len, vec_capacity, IfErr, IfOk, IsTrue, OnOk};
 ghost use Rattle.i8080_words.specs.declared.refusal.Fault.TheVariants.{OutOfMemory, Stalled};
-ghost use Rattle.pair_rule.specs.Knowledge.{with_carried};
 ghost use Rattle.pair_threads.specs.Repeating.{FollowsFor, GoesOn, IsAt, IsStuck, RunsAhead, has_all, is_far_behind, may_run_ahead, ran_ahead, steps_ahead};
 
 use super::Repeater;
 use crate::lag::{Lead, is_too_far};
-use crate::plan::first_kept;
 use guest_lockstep::{Lockstep, StopReason, Stopped, run};
 use i8080_words::{Fault, R};
 use log_entry::Entry;
-use log_journal::Journal;
-use pair_rule::Carried;
 use replayer::{Followed, follow};
 use std::alloc::Global;
 
 impl<B: Lockstep> Repeater<B> {
-    /// A guest at boot, with an empty list; `keeps` says whether it keeps the entries that it has repeated.
-    pub(crate) fn new(alloc: Global, board: B, keeps: bool) -> Repeater<B>
+    /// A guest at boot, with an empty list; `exact` says whether it never makes steps past its last entry.
+    pub(crate) fn new(alloc: Global, board: B, exact: bool) -> Repeater<B>
         ensures board { result.board ≡ board }
-        ensures keeps { result.keeps ≡ keeps }
+        ensures exact { result.exact ≡ exact }
         ensures list { result.list.items ≡ [] }
-        ensures at { (exact : Bool) → IsAt B.state B.machine exact (B.state board) result }
+        ensures at { IsAt B.state B.machine (B.state board) result }
     {
         Repeater {
-            list: Journal::new(alloc),
+            list: Vec::new(alloc),
             board,
             replayed: 0,
             between: false,
-            keeps,
+            exact,
         }
     }
 
@@ -48,36 +44,24 @@ impl<B: Lockstep> Repeater<B> {
         if self.has_replayed_all() {
             return false;
         }
-        let last = self.list.entry(self.list.len() - 1);
+        let last = &self.list[self.list.len() - 1];
         is_too_far(self.board.count(), last.count())
     }
 
     /// An entry arrives.
     pub(crate) fn hear(&mut self, entry: Entry)
-        requires room { self.old.list.ready ≡ true }
+        requires room { vec_len self.old.list < vec_capacity self.old.list }
         ensures list { self.new.list.items ≡ self.old.list.items ++ entry ∷ [] }
-        ensures keeps { self.new.keeps ≡ self.old.keeps }
+        ensures exact { self.new.exact ≡ self.old.exact }
         ensures goes_on { GoesOn B.state B.machine self.old self.new }
     {
         self.list.push_reserved(entry);
     }
 
-    /// What the next packet carries arrives. Of a sector that it only names there is nothing to hear yet.
-    pub(crate) fn receive(&mut self, carried: Carried)
-        requires room { self.old.list.ready ≡ true }
-        ensures list { self.new.list.items ≡ with_carried self.old.list.items carried }
-        ensures keeps { self.new.keeps ≡ self.old.keeps }
-        ensures goes_on { GoesOn B.state B.machine self.old self.new }
-    {
-        if let Carried::Whole(entry) = carried {
-            self.hear(entry);
-        }
-    }
-
     /// Makes at most `steps` steps towards the next entry, or that entry's move. `Stalled` if it cannot.
     pub(crate) fn replay(&mut self, steps: u64) -> R<()>
-        ensures list { self.new.list.items ≡ self.old.list.items }
-        ensures keeps { self.new.keeps ≡ self.old.keeps }
+        ensures list { self.new.list ≡ self.old.list }
+        ensures exact { self.new.exact ≡ self.old.exact }
         ensures goes_on { OnOk result (GoesOn B.state B.machine self.old self.new) }
         ensures steps { OnOk result (FollowsFor B.state B.machine steps self.old self.new) }
         ensures refused { IfErr result (λ fault. (fault ≡ OutOfMemory)
@@ -86,7 +70,7 @@ impl<B: Lockstep> Repeater<B> {
         if self.replayed >= self.list.len() {
             return Ok(());
         }
-        let entry = *self.list.entry(self.replayed);
+        let entry = self.list[self.replayed];
         match follow(&mut self.board, &entry, steps) {
             Ok(Followed::Stepped(_)) => {
                 self.between = true;
@@ -95,8 +79,6 @@ impl<B: Lockstep> Repeater<B> {
             Ok(Followed::Done) => {
                 self.between = false;
                 self.replayed += 1;
-                self.list
-                    .forget_before(first_kept(self.keeps, self.replayed));
                 Ok(())
             }
             Err(Fault::OutOfMemory) => Err(Fault::OutOfMemory),
@@ -107,7 +89,7 @@ impl<B: Lockstep> Repeater<B> {
     /// Makes at most `steps` steps past its last entry, up to where the primary's guest is, and returns whether it has made any.
     /// `Stalled` if the primary was wrong, and its guest has given an operation there.
     pub(crate) fn run_ahead(&mut self, lead: Lead, steps: u64) -> R<bool>
-        ensures same { (self.new.list ≡ self.old.list) × (self.new.replayed ≡ self.old.replayed) × (self.new.keeps ≡ self.old.keeps) }
+        ensures same { (self.new.list ≡ self.old.list) × (self.new.replayed ≡ self.old.replayed) × (self.new.exact ≡ self.old.exact) }
         ensures goes_on { OnOk result (GoesOn B.state B.machine self.old self.new) }
         ensures ahead { RunsAhead B.state B.machine lead steps self.old self.new result }
         ensures between { result ≡ Ok true → self.new.between ≡ true }
@@ -136,12 +118,12 @@ impl<B: Lockstep> Repeater<B> {
         lead.steps.saturating_sub(self.board.count())
     }
 
-    // Whether it may run past its last entry: it has repeated all entries, among them those that the primary had, and does not keep
-    // its list.
+    // Whether it may run past its last entry: it is not to be exact, and has repeated all entries, among them those that the primary
+    // had.
     fn may_run_ahead(&self, lead: Lead) -> bool
         ensures { result ≡ may_run_ahead lead self.now }
     {
-        !self.keeps && self.has_replayed_all() && lead.entries <= self.list.len() as u64
+        !self.exact && self.has_replayed_all() && lead.entries <= self.list.len() as u64
     }
 }
 

@@ -176,9 +176,9 @@ fn expect_heard<R: Abort + Clock + Copy>(
         },
     };
     let (listener, ending) = listen(&rt, listener, signs);
-    assert_eq!(rt; ending, case.ending);
+    assert!(rt; ending == case.ending);
     assert!(rt; !listener.desk.is_open());
-    assert_eq!(rt; listener.interpreter.commands.as_slice(), case.commands);
+    assert!(rt; listener.interpreter.commands.as_slice() == case.commands);
     assert!(rt; come_out(&mut first_out, case.first));
     assert!(rt; come_out(&mut second_out, case.second));
     Ok(())

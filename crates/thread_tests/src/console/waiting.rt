@@ -59,7 +59,7 @@ fn a_display_waits_until_nothing_more_can_come(rt: HostRuntime) -> Result<(), Fa
     };
     let (_, end) = show_all(&ticks, display, &signs);
     end?;
-    assert_eq!(rt; ticks.sleeps.load(Ordering::SeqCst), 2);
+    assert!(rt; ticks.sleeps.load(Ordering::SeqCst) == 2);
     assert!(rt; signs.is_stopped() && signs.moved() == 0);
     Ok(())
 }
@@ -92,7 +92,7 @@ fn a_listener_waits_for_room(rt: HostRuntime) -> Result<(), Fail> {
     };
     let (listener, ending) = listen(&ticks, listener, &signs);
     assert!(rt; ending == Ending::Stopped && listener.source.bytes == b"b".as_slice());
-    assert_eq!(rt; ticks.sleeps.load(Ordering::SeqCst), 3);
+    assert!(rt; ticks.sleeps.load(Ordering::SeqCst) == 3);
     assert!(rt; come_out(&mut first_out, &[Stroke::Key(b'a')]));
     Ok(())
 }

@@ -1,5 +1,5 @@
 //! How a pair of Altairs is run on threads.
-ghost use Rattle.std.specs.Prelude.{◌≡◌, IfOk, None, true};
+ghost use Rattle.std.specs.Prelude.{◌≡◌, IfOk};
 ghost use Rattle.event_callbacks.specs.declared.devices.TheConstants.{SENT, SECTOR, WRITTEN};
 ghost use Rattle.event_callbacks.specs.Keeping.{Keeps};
 ghost use Rattle.guest_board.specs.Guest.{guest_at_boot};
@@ -9,11 +9,9 @@ use altair_laws::altairs_are_lawful;
 use disk_dcdd::SectorAddress;
 use event_callbacks::{Callbacks, Completes, plain_completions};
 use guest_board::{Board, Setup};
-use guest_lockstep::{Lockstep, Reads, StopReason, run};
+use guest_lockstep::{Lockstep, Reads};
 use i8080_words::{Fault, R};
-use log_entry::Entry;
-use pair_lines::Lines;
-use pair_threads::{Gate, GenerationEnd, Who, Workers, run_generation_over};
+use pair_threads::{Gate, GenerationEnd, Who, Workers, run_generation};
 use shared_disk::{FailOnce, MemoryStore, SectorRead, SharedDisk};
 use std::alloc::Global;
 use std::thread::Threads;
@@ -22,94 +20,43 @@ use std::time::Clock;
 // Records on a device whose read or write fails once if a case says so.
 type Store = FailOnce<MemoryStore>;
 
-/// What a pair runs: a program at 0000, with so many steps in each turn; what the log has of sectors; which access of the disk fails
-/// (0 if none), when the backup asks to go on alone, and how many turns there are; and how many steps the backup's guest then makes by
-/// itself, at most.
+/// What a pair runs: a program at 0000, which access of the disk fails (0 if none), and when the backup asks to go on alone.
 #[derive(Clone, Copy)]
 pub(super) struct Case<'a> {
     pub(super) program: &'a [u8],
-    pub(super) steps: u64,
-    pub(super) reads: Reads,
     pub(super) fails: u64,
     pub(super) backup_contests: Option<u64>,
-    pub(super) turns: u64,
-    pub(super) later: u64,
 }
 
-/// A program alone, a million turns of one step.
+/// A program alone.
 pub(super) fn alone(program: &[u8]) -> Case<'_> {
     Case {
         program,
-        steps: 1,
-        reads: Reads::Logged,
         fails: 0,
         backup_contests: None,
-        turns: 1_000_000,
-        later: 0,
     }
 }
 
-/// How a pair has ended: who goes on alone, the counts of the primary's guest and of the backup's, at which count the latter then
-/// gave an operation, how many entries the primary's list has, the first two that are kept, whether the backup's list is the same,
-/// how many entries are acknowledged, what port 0 has accepted first, how many bytes each port has, and sector 0 of track 0.
+/// How a pair has ended: who goes on alone, how many entries the primary's list has, and sector 0 of track 0.
 #[derive(Clone, Copy)]
 pub(super) struct Outcome {
     pub(super) winner: Option<Who>,
-    pub(super) count: u64,
-    pub(super) backup_count: u64,
-    pub(super) gave_at: Option<u64>,
     pub(super) entries: usize,
-    pub(super) listed: [Option<Entry>; 2],
-    pub(super) is_repeated: bool,
-    pub(super) held: u64,
-    pub(super) first: Option<u8>,
-    pub(super) accepted: [usize; 2],
     pub(super) sector: SectorRead,
 }
 
-// At which count a guest gives an operation that makes so many steps by itself at most, if it gives one.
-fn gives_at<B: Lockstep>(board: &mut B, steps: u64) -> Option<u64> {
-    match run(board, steps).reason {
-        StopReason::Operation(_) => Some(board.count()),
-        StopReason::Turns | StopReason::Refused(_) => None,
-    }
-}
-
-// What has come of a pair that is kept, whose backup's guest then makes so many steps.
-fn look_at<B: Lockstep + Drop>(
-    alloc: Global,
-    end: &mut GenerationEnd<B, Store>,
-    later: u64,
-) -> R<Outcome> {
+// What has come of a pair.
+fn outcome_of<B: Lockstep + Drop>(mut end: GenerationEnd<B, Store>) -> R<Outcome> {
     let sector = end.disk.get(SectorAddress {
         drive: 0,
         track: 0,
         sector: 0,
     })?;
-    let [first, second] = &end.accepted;
-    let (primary, backup) = (end.primary.kept(alloc)?, end.backup.kept(alloc)?);
     Ok(Outcome {
         winner: end.winner,
-        count: end.primary_board.count(),
-        backup_count: end.backup_board.count(),
-        gave_at: gives_at(&mut end.backup_board, later),
         entries: end.primary.len(),
-        listed: [primary.first().copied(), primary.get(1).copied()],
-        is_repeated: end.primary.len() == end.backup.len() && primary == backup,
-        held: end.held,
-        first: first.first().copied(),
-        accepted: [first.len(), second.len()],
         sector,
     })
-}
-
-// What has come of a pair.
-fn outcome_of<B: Lockstep + Drop>(
-    alloc: Global,
-    mut end: GenerationEnd<B, Store>,
-    later: u64,
-) -> R<Outcome> {
-    look_at(alloc, &mut end, later)
 }
 
 // A guest with one drive, whose memory begins with this program.
@@ -150,25 +97,13 @@ fn unwritten_disk(alloc: Global, fails: u64) -> R<SharedDisk<Store>>
     Ok(SharedDisk::new(FailOnce::new(store, fails)))
 }
 
-// At which turn a host is to ask: at none if the pair is watched.
-fn planned(watched: bool, turn: Option<u64>) -> Option<u64>
-    ensures { watched ≡ true → result ≡ None }
-{
-    if watched {
-        return None;
-    }
-    turn
-}
-
 // The workers of these guests.
 fn workers_of<B: Lockstep + Drop>(
     alloc: Global,
     case: &Case,
-    watched: bool,
     primary: B,
     backup: B,
 ) -> R<Workers<B, Store>>
-    ensures unplanned { watched ≡ true → IfOk result (λ workers. (workers.primary_contests ≡ None) × (workers.backup_contests ≡ None)) }
     ensures guests { IfOk result (λ workers. (workers.primary ≡ primary) × (workers.backup ≡ backup)) }
     ensures unwritten { IfOk result (λ workers. IsUnwritten workers.disk.store) }
 {
@@ -181,12 +116,33 @@ fn workers_of<B: Lockstep + Drop>(
         typed1: Vec::new(alloc),
         fates: Vec::new(alloc),
         primary_contests: None,
-        backup_contests: planned(watched, case.backup_contests),
-        steps: case.steps,
+        backup_contests: case.backup_contests,
+        steps: 1,
     })
 }
 
-// Runs a pair of Altairs of a setup over lines, with these closures as completions.
+// The workers of Altairs of a setup, with these closures as completions.
+fn altairs_of<T: Completes + Drop + Copy, S: Completes + Drop + Copy, W: Completes + Drop + Copy>(
+    alloc: Global,
+    setup: &Setup,
+    case: &Case,
+    sent: T,
+    sector: S,
+    written: W,
+) -> R<Workers<Board<T, S, W>, Store>>
+    requires sent { Keeps (T.may sent) (T.gives sent) SENT }
+    requires sector { Keeps (S.may sector) (S.gives sector) SECTOR }
+    requires written { Keeps (W.may written) (W.gives written) WRITTEN }
+    ensures guests { IfOk result (λ workers. (workers.primary.guest ≡ guest_at_boot setup.now)
+        × (workers.backup.guest ≡ guest_at_boot setup.now)) }
+    ensures unwritten { IfOk result (λ workers. IsUnwritten workers.disk.store) }
+{
+    let primary = boot(alloc, setup, Callbacks::of(sent, sector, written))?;
+    let backup = boot(alloc, setup, Callbacks::of(sent, sector, written))?;
+    workers_of(alloc, case, primary, backup)
+}
+
+// Runs a pair of Altairs of a setup, a million turns of one step, with these closures as completions.
 fn run_with<
     T: Completes + Drop + Copy + Send,
     S: Completes + Drop + Copy + Send,
@@ -198,8 +154,6 @@ fn run_with<
     alloc: Global,
     setup: &Setup,
     case: &Case,
-    lines: Lines,
-    watched: bool,
     gate: &G,
     sent: T,
     sector: S,
@@ -210,34 +164,18 @@ fn run_with<
     requires written { Keeps (W.may written) (W.gives written) WRITTEN }
 {
     altairs_are_lawful();
-    let primary = boot(alloc, setup, Callbacks::of(sent, sector, written))?;
-    let backup = boot(alloc, setup, Callbacks::of(sent, sector, written))?;
-    let workers = workers_of(alloc, case, watched, primary, backup)?;
-    match run_generation_over(
-        rt, alloc, workers, lines, watched, case.reads, gate, case.turns,
-    ) {
-        Ok(end) => outcome_of(alloc, end, case.later),
+    let workers = altairs_of(alloc, setup, case, sent, sector, written)?;
+    match run_generation(rt, alloc, workers, gate, 1_000_000) {
+        Ok(end) => outcome_of(end),
         Err(fault) => Err(fault),
     }
 }
 
-/// Runs a case without lines, in which hosts ask at the turns that are planned.
+/// Runs a case on Altairs with one drive, with the plain completions.
 pub(super) fn run_case<G: Gate + Sync, H: Threads + Clock + Sync>(
     rt: &H,
     alloc: Global,
     case: &Case,
-    gate: &G,
-) -> R<Outcome> {
-    run_case_over(rt, alloc, case, Lines::none(), false, gate)
-}
-
-/// Runs a case over lines, watched or not, on Altairs with one drive, with the plain completions.
-pub(super) fn run_case_over<G: Gate + Sync, H: Threads + Clock + Sync>(
-    rt: &H,
-    alloc: Global,
-    case: &Case,
-    lines: Lines,
-    watched: bool,
     gate: &G,
 ) -> R<Outcome> {
     let setup = setup_of(alloc, case.program)?;
@@ -246,8 +184,6 @@ pub(super) fn run_case_over<G: Gate + Sync, H: Threads + Clock + Sync>(
         alloc,
         &setup,
         case,
-        lines,
-        watched,
         gate,
         plain_completions::sent,
         plain_completions::sector,

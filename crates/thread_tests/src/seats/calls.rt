@@ -1,14 +1,9 @@
-//! Each call on one thread: what it does to a full box and to an empty one, and where it ends.
+//! Calls on one thread: what they do to a full box and to an empty one. Requests and answers of the disk, and both ports, are in
+//! tests/transcripts/live.txt.
 ghost use Rattle.std.specs.Prelude.{◌≡◌};
 
-use super::steps::{
-    answer_once, append, ask, carry_once, emit_once, mark, post_once, read, read_once, serve_once,
-    show_once, take_once, write,
-};
-use pair_rule::{
-    BackupSeat, Carried, DiskAnswer, DiskRequest, Fabric, LinkSeat, Packet, PortByte, PrimarySeat,
-    TerminalSeat,
-};
+use super::steps::{append, carry_once, emit_once, mark, post_once, show_once, take_once};
+use pair_rule::{BackupSeat, Fabric, LinkSeat, Packet, PortByte, PrimarySeat, TerminalSeat};
 use std::process::Abort;
 use std::test::Fail;
 
@@ -58,7 +53,7 @@ fn packets_are_lost_and_repeated(rt: HostRuntime) -> Result<(), Fail> {
     let packet = Packet {
         generation: 1,
         index: 1,
-        carried: Carried::Whole(mark()),
+        entry: mark(),
     };
     expect_packet(&rt, &fabric, &mut seats.backup, Some(packet));
     Ok(())
@@ -116,91 +111,5 @@ fn bytes_come_in_order(rt: HostRuntime) -> Result<(), Fail> {
         &mut seats.primary,
         [0, 1],
     );
-    Ok(())
-}
-
-fn emit_at_0(fabric: &Fabric, seat: &mut PrimarySeat)
-    requires ready { (seat.old.table ≡ fabric.now) × (seat.old.core.known.primary.winner ≡ 0) }
-    ensures ready { (seat.new.table ≡ fabric.now) × (seat.new.core.known.primary.winner ≡ 0) }
-{
-    if seat.has_swaps_left() {
-        seat.emit(fabric, 0, 1, 0x43);
-    }
-}
-
-fn take_at_0(fabric: &Fabric, seat: &mut TerminalSeat) -> Option<PortByte>
-    requires ready { seat.old.table ≡ fabric.now }
-    ensures ready { seat.new.table ≡ fabric.now }
-{
-    if !seat.has_swaps_left() {
-        return None;
-    }
-    seat.take_byte(fabric, 0)
-}
-
-// The bytes of port 0 have a box of their own.
-#[test]
-fn both_ports_have_boxes(rt: HostRuntime) -> Result<(), Fail> {
-    let (fabric, mut seats) = Fabric::open(rt.alloc(), 1)?;
-    emit_at_0(&fabric, &mut seats.primary);
-    expect_byte(&rt, &fabric, &mut seats.terminal, None);
-    let byte = PortByte {
-        number: 1,
-        byte: 0x43,
-    };
-    assert!(rt; take_at_0(&fabric, &mut seats.terminal) == Some(byte));
-    expect_counts(
-        &rt,
-        &fabric,
-        &mut seats.terminal,
-        &mut seats.primary,
-        [1, 0],
-    );
-    Ok(())
-}
-
-// This answer is there, or none, and no second one.
-fn expect_answer(
-    rt: &impl Abort,
-    fabric: &Fabric,
-    seat: &mut PrimarySeat,
-    answer: Option<DiskAnswer>,
-)
-    requires ready { (seat.old.table ≡ fabric.now) × (seat.old.core.known.primary.winner ≡ 0) }
-    ensures ready { (seat.new.table ≡ fabric.now) × (seat.new.core.known.primary.winner ≡ 0) }
-{
-    assert!(rt; answer_once(fabric, seat) == answer);
-    assert!(rt; answer_once(fabric, seat) == None);
-}
-
-#[test]
-fn the_disk_answers(rt: HostRuntime) -> Result<(), Fail> {
-    let (fabric, mut seats) = Fabric::open(rt.alloc(), 1)?;
-    expect_answer(&rt, &fabric, &mut seats.primary, None);
-    assert!(rt; !serve_once(&fabric, &mut seats.disk));
-    ask(&fabric, &mut seats.primary, DiskRequest::Write(write()));
-    assert!(rt; serve_once(&fabric, &mut seats.disk));
-    let answer = DiskAnswer::Written(1);
-    expect_answer(&rt, &fabric, &mut seats.primary, Some(answer));
-    Ok(())
-}
-
-// Asks for a write, and over that for a read of its sector.
-fn ask_twice(fabric: &Fabric, seat: &mut PrimarySeat)
-    requires ready { (seat.old.table ≡ fabric.now) × (seat.old.core.known.primary.winner ≡ 0) }
-    ensures ready { (seat.new.table ≡ fabric.now) × (seat.new.core.known.primary.winner ≡ 0) }
-{
-    ask(fabric, seat, DiskRequest::Write(write()));
-    ask(fabric, seat, DiskRequest::Read(write().address()));
-}
-
-// A request is lost if another one is made over it.
-#[test]
-fn a_sector_is_read(rt: HostRuntime) -> Result<(), Fail> {
-    let (fabric, mut seats) = Fabric::open(rt.alloc(), 1)?;
-    ask_twice(&fabric, &mut seats.primary);
-    assert!(rt; read_once(&fabric, &mut seats.disk));
-    let answer = DiskAnswer::Read(read());
-    expect_answer(&rt, &fabric, &mut seats.primary, Some(answer));
     Ok(())
 }

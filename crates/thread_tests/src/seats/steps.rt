@@ -1,42 +1,16 @@
 //! Single calls of the seats, while their tables have numbers left.
-ghost use Rattle.std.specs.Prelude.{◌≡◌, IfSome, []};
+ghost use Rattle.std.specs.Prelude.{◌≡◌, IfSome};
 ghost use mathlib.Core.Option.{some};
 ghost use lib.ListN.{get_elem?};
 ghost use Rattle.log_entry.specs.declared.entry.Entry.TheVariants.{Mark};
 
-use disk_dcdd::SectorWrite;
 use log_entry::Entry;
-use pair_rule::{
-    BackupSeat, DiskAnswer, DiskRequest, DiskSeat, Fabric, LinkSeat, Packet, PortByte, PrimarySeat,
-    TerminalSeat,
-};
-use shared_disk::SectorRead;
+use pair_rule::{BackupSeat, Fabric, LinkSeat, Packet, PortByte, PrimarySeat, TerminalSeat};
 
 pub(super) fn mark() -> Entry
     ensures { result ≡ Mark 6 }
 {
     Entry::Mark { count: 6 }
-}
-
-pub(super) fn write() -> SectorWrite {
-    SectorWrite {
-        number: 1,
-        drive: 0,
-        track: 2,
-        sector: 5,
-        bytes: [0x37; 137],
-    }
-}
-
-// What is read there before it was ever written.
-pub(super) fn read() -> SectorRead {
-    SectorRead {
-        number: 0,
-        drive: 0,
-        track: 2,
-        sector: 5,
-        bytes: [0xe5; 137],
-    }
 }
 
 // ---- the primary
@@ -76,25 +50,6 @@ pub(super) fn emit_once(fabric: &Fabric, seat: &mut PrimarySeat, byte: u8) -> u6
     seat.counted(fabric, 1)
 }
 
-pub(super) fn ask(fabric: &Fabric, seat: &mut PrimarySeat, request: DiskRequest)
-    requires ready { (seat.old.table ≡ fabric.now) × (seat.old.core.known.primary.winner ≡ 0) }
-    ensures ready { (seat.new.table ≡ fabric.now) × (seat.new.core.known.primary.winner ≡ 0) }
-{
-    if seat.has_swaps_left() {
-        seat.request(fabric, request);
-    }
-}
-
-pub(super) fn answer_once(fabric: &Fabric, seat: &mut PrimarySeat) -> Option<DiskAnswer>
-    requires ready { (seat.old.table ≡ fabric.now) × (seat.old.core.known.primary.winner ≡ 0) }
-    ensures ready { (seat.new.table ≡ fabric.now) × (seat.new.core.known.primary.winner ≡ 0) }
-{
-    if !seat.has_swaps_left() {
-        return None;
-    }
-    seat.answer(fabric)
-}
-
 // ---- the other seats
 
 pub(super) fn carry_once(fabric: &Fabric, seat: &mut LinkSeat, keep: bool) -> bool
@@ -130,52 +85,4 @@ pub(super) fn show_once(fabric: &Fabric, seat: &mut TerminalSeat) -> Option<Port
         seat.count(fabric, 1);
     }
     byte
-}
-
-pub(super) fn serve_once(fabric: &Fabric, seat: &mut DiskSeat) -> bool
-    requires ready { seat.old.table ≡ fabric.now }
-    ensures ready { seat.new.table ≡ fabric.now }
-{
-    if !seat.has_swaps_left() {
-        return false;
-    }
-    let request = seat.take_request(fabric);
-    if !seat.has_swaps_left() {
-        return false;
-    }
-    match request {
-        Some(DiskRequest::Write(write)) => {
-            seat.reply(fabric, DiskAnswer::Written(write.number));
-            true
-        }
-        _ => false,
-    }
-}
-
-// Answers a read, the first thing that the disk does.
-#[tactic(auto, using(crate::proofs::FirstReads::agrees_with_none))]
-pub(super) fn read_once(fabric: &Fabric, seat: &mut DiskSeat) -> bool
-    requires ready { seat.old.table ≡ fabric.now }
-    requires unwritten { seat.old.core.known.disk.puts ≡ [] }
-    requires unread { (seat.old.core.known.disk.given ≡ []) × (seat.old.core.known.disk.found ≡ []) }
-    ensures ready { seat.new.table ≡ fabric.now }
-{
-    if !seat.has_swaps_left() {
-        return false;
-    }
-    let Some(DiskRequest::Read(address)) = seat.take_request(fabric) else {
-        return false;
-    };
-    let read = SectorRead {
-        number: 0,
-        drive: address.drive,
-        track: address.track,
-        sector: address.sector,
-        bytes: [0xe5; 137],
-    };
-    if !seat.has_swaps_left() {
-        return false;
-    }
-    seat.reply(fabric, DiskAnswer::Read(read));
-    true
 }

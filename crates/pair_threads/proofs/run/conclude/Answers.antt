@@ -1,25 +1,21 @@
 -- What the workers are taken apart into, and who goes on alone.
-use Rattle.std.proofs.Common.{ap, sym, ◌∙◌, not, subst, Vec, Global, ℕ, false, map, take, arith}
+use Rattle.std.proofs.Common.{ap, sym, ◌∙◌, not, subst, Vec, Global, ℕ, arith}
 use Rattle.std.proofs.lemmas.Bool.{false≢true}
 use Rattle.std.specs.Option.{is_some}
-use Rattle.log_journal.specs.Written.{Written}
+use Rattle.log_entry.specs.declared.entry.Entry.{Entry}
 use Rattle.pair_rule.specs.Seats.{Seat}
 use Rattle.guest_lockstep.specs.Machine.{booted_from}
-use Rattle.pair_lines.specs.Lines.{HasShown, IsSameStart}
-use Rattle.pair_lines.specs.declared.screen.Screen.{Screen}
-use Rattle.pair_threads.specs.Ending.{EachScreen, KeepsSectors}
+use Rattle.pair_threads.specs.Ending.{KeepsSectors}
 use Rattle.pair_threads.specs.Left.{LeavesBy}
 use Rattle.pair_threads.specs.Shown.{IsOfRun}
 use Rattle.shared_disk.specs.Records.{bytes_in}
-use Rattle.pair_threads.specs.Typing.{IsTyped}
 use Rattle.pair_threads.proofs.Ending.{all_came, ends, ends_so, left, settled_so}
-use Rattle.pair_threads.proofs.Repeating.{loosely}
 use Rattle.pair_threads.proofs.Shown.{all_so, of_run}
 use Rattle.pair_threads.proofs.run.conclude.Goals as goal
-use Rattle.pair_threads.proofs.run.conclude.Goals.{else-undecided-via-then-undecided+else-is_none, else-undecided-via-else-undecided}
+use Rattle.pair_threads.proofs.run.conclude.Goals.{else-contested-via-then-contested+else-is_none, else-contested-via-else-contested}
 
 pub returns-clause-ends : goal.returns-clause-ends
-returns-clause-ends g c = λ boot first exact lawful leads at keeps store.
+returns-clause-ends g c = λ boot first lawful leads at stays store.
     let p = c.args.primary in
     let b = c.args.backup in
     let parts = c.take_apart-parts.ensures in
@@ -32,23 +28,23 @@ returns-clause-ends g c = λ boot first exact lawful leads at keeps store.
     (ap (λ (x : Seat). x.core.known.terminal) parts.seats.2) (ap (λ (x : Seat). x.core.known.disk) parts.seats.3)
     c.close-closed.ensures in
     let goes = c.winner_of-winner.result in
-    ends_so _ exact parts_typed0 parts_typed1 p.port0.typed.items p.port1.typed.items goes closed.held _ _ _ _ _ _ _ _ _ _ _ _
+    ends_so _ parts_typed0 parts_typed1 p.port0.typed.items p.port1.typed.items goes closed.held _ _ _ _ _ _ _ _ _ _ _ _
     (sym (ap (λ (v : Vec ℕ Global). v.items) parts.typed.0)) (sym (ap (λ (v : Vec ℕ Global). v.items) parts.typed.1))
-    (ap (λ (v : Written). v.items) parts.lists.0) (ap (λ (v : Written). v.items) parts.lists.1)
+    (ap (λ (v : Vec Entry Global). v.items) parts.lists.0) (ap (λ (v : Vec Entry Global). v.items) parts.lists.1)
     parts.screens (ap g.D.SectorStore.records parts.disk) (ap g.B.Lockstep.state parts.boards.0)
     (ap g.B.Lockstep.state parts.boards.1)
-    (ends g.B.Lockstep.state g.B.Lockstep.machine g.met.B.Lockstep.counts g.met.B.Lockstep.operations exact boot first lawful p b
+    (ends g.B.Lockstep.state g.B.Lockstep.machine g.met.B.Lockstep.counts g.met.B.Lockstep.operations boot first lawful p b
     c.args.terminal.seat.core.known.terminal c.args.disk.seat.core.known.disk closed.tail closed.held closed.winner settled
-    (g.D.SectorStore.records c.args.disk.disk) leads at keeps store c.args.undecided c.requires.rests c.requires.repeated
-    goes c.winner_of-winner.ensures
-    (λ none. elim c.else-undecided.branch [
-      | else-undecided-via-then-undecided+else-is_none w ↦
+    (g.D.SectorStore.records c.args.disk.disk) leads at store c.args.contested c.requires.rests c.requires.repeated
+    stays goes c.winner_of-winner.ensures
+    (λ none. elim c.else-contested.branch [
+      | else-contested-via-then-contested+else-is_none w ↦
           absurd (false≢true (sym (ap is_some none) ∙ w.is_none.ensures ∙ ap not w.if-is_none.false))
-      | else-undecided-via-else-undecided w ↦ w.if-undecided.false
+      | else-contested-via-else-contested w ↦ w.if-contested.false
     ]))
 
 pub returns-clause-left : goal.returns-clause-left
-returns-clause-left g c = λ boot first exact lawful leads at store.
+returns-clause-left g c = λ boot first lawful leads at store.
     let p = c.args.primary in
     let b = c.args.backup in
     let parts = c.take_apart-parts.ensures in
@@ -65,23 +61,21 @@ returns-clause-left g c = λ boot first exact lawful leads at store.
     c.take_apart-parts.result.waiting n k x y)
     parts_typed0 parts_typed1 p.port0.typed.items p.port1.typed.items _ _ _ _ _ _ _ _ _ _ _ _
     (sym (ap (λ (v : Vec ℕ Global). v.items) parts.typed.0)) (sym (ap (λ (v : Vec ℕ Global). v.items) parts.typed.1))
-    (ap (λ (v : Written). v.items) parts.lists.0) (ap (λ (v : Written). v.items) parts.lists.1)
+    (ap (λ (v : Vec Entry Global). v.items) parts.lists.0) (ap (λ (v : Vec Entry Global). v.items) parts.lists.1)
     parts.screens (ap g.D.SectorStore.records parts.disk) (ap g.B.Lockstep.state parts.boards.0)
     (ap g.B.Lockstep.state parts.boards.1)
-    (left g.B.Lockstep.state g.B.Lockstep.machine g.met.B.Lockstep.counts g.met.B.Lockstep.operations false boot first lawful p b
+    (left g.B.Lockstep.state g.B.Lockstep.machine g.met.B.Lockstep.counts g.met.B.Lockstep.operations boot first lawful p b
     c.args.terminal.seat.core.known.terminal c.args.disk.seat.core.known.disk closed.tail closed.held closed.winner settled
-    (g.D.SectorStore.records c.args.disk.disk) leads
-    (loosely g.B.Lockstep.machine exact boot (g.B.Lockstep.state b.guest.board) (take b.guest.replayed b.guest.list.items)
-    b.guest.between at) (λ stands. absurd (false≢true stands)) store c.args.undecided c.requires.rests c.requires.repeated
+    (g.D.SectorStore.records c.args.disk.disk) leads at store c.args.contested c.requires.rests c.requires.repeated
     goes c.winner_of-winner.ensures
-    (λ none. elim c.else-undecided.branch [
-      | else-undecided-via-then-undecided+else-is_none w ↦
+    (λ none. elim c.else-contested.branch [
+      | else-contested-via-then-contested+else-is_none w ↦
           absurd (false≢true (sym (ap is_some none) ∙ w.is_none.ensures ∙ ap not w.if-is_none.false))
-      | else-undecided-via-else-undecided w ↦ w.if-undecided.false
+      | else-contested-via-else-contested w ↦ w.if-contested.false
     ]) c.take_apart-parts.result.waiting parts.waiting)
 
 pub returns-clause-ran : goal.returns-clause-ran
-returns-clause-ran g c = λ boot first exact lawful leads kept at store.
+returns-clause-ran g c = λ boot first lawful leads kept at store.
     let p = c.args.primary in
     let b = c.args.backup in
     let parts = c.take_apart-parts.ensures in
@@ -98,37 +92,19 @@ returns-clause-ran g c = λ boot first exact lawful leads kept at store.
     c.take_apart-parts.result.waiting n k x y)
     parts_typed0 parts_typed1 p.port0.typed.items p.port1.typed.items _ _ _ _ _ _ _ _ _ _ _ _
     (sym (ap (λ (v : Vec ℕ Global). v.items) parts.typed.0)) (sym (ap (λ (v : Vec ℕ Global). v.items) parts.typed.1))
-    (ap (λ (v : Written). v.items) parts.lists.0) (ap (λ (v : Written). v.items) parts.lists.1)
+    (ap (λ (v : Vec Entry Global). v.items) parts.lists.0) (ap (λ (v : Vec Entry Global). v.items) parts.lists.1)
     parts.screens (ap g.D.SectorStore.records parts.disk) (ap g.B.Lockstep.state parts.boards.0)
     (ap g.B.Lockstep.state parts.boards.1)
-    (of_run g.B.Lockstep.state g.B.Lockstep.machine exact boot first lawful p b c.args.terminal.seat.core.known.terminal
+    (of_run g.B.Lockstep.state g.B.Lockstep.machine boot first lawful p b c.args.terminal.seat.core.known.terminal
     c.args.disk.seat.core.known.disk closed.tail closed.held closed.winner settled (g.D.SectorStore.records c.args.disk.disk)
     leads kept at store goes c.winner_of-winner.ensures
-    (λ none. all_came p (c.requires.rests (elim c.else-undecided.branch [
-      | else-undecided-via-then-undecided+else-is_none w ↦
+    (λ none. all_came p (c.requires.rests (elim c.else-contested.branch [
+      | else-contested-via-then-contested+else-is_none w ↦
           absurd (false≢true (sym (ap is_some none) ∙ w.is_none.ensures ∙ ap not w.if-is_none.false))
-      | else-undecided-via-else-undecided w ↦ w.if-undecided.false
+      | else-contested-via-else-contested w ↦ w.if-contested.false
     ])).asks_nothing)
     (let few = c.args.disk.requests in omega (arith, few)) c.take_apart-parts.result.waiting parts.waiting)
 
 pub returns-clause-there : goal.returns-clause-there
 returns-clause-there g c = λ first there.
     subst (KeepsSectors first) (sym (ap g.D.SectorStore.records c.take_apart-parts.ensures.disk)) there
-
-pub returns-clause-over : goal.returns-clause-over
-returns-clause-over g c = λ typed0 typed1 lines screens keys0 keys1 same shown.
-    let p = c.args.primary in
-    let parts = c.take_apart-parts.ensures in
-    let made = c.take_apart-parts.result in record {
-      keys0 = subst (λ k. IsTyped (typed0, lines.keyboard0) (made.typed0.items, k)) (sym parts.lines.0)
-          (subst (λ (v : Vec ℕ Global). IsTyped (typed0, lines.keyboard0) (v.items, p.port0.keyboard)) (sym parts.typed.0)
-          keys0);
-      keys1 = subst (λ k. IsTyped (typed1, lines.keyboard1) (made.typed1.items, k)) (sym parts.lines.1)
-          (subst (λ (v : Vec ℕ Global). IsTyped (typed1, lines.keyboard1) (v.items, p.port1.keyboard)) (sym parts.typed.1)
-          keys1);
-      same = subst (λ (s : Screen). IsSameStart lines.screen.ring s.ring) (sym parts.lines.2) same;
-      shown = λ before. subst (λ (s : Screen). EachScreen (HasShown s) 0 (map (λ v. v.items) made.accepted))
-          (sym parts.lines.2)
-          (subst (EachScreen (HasShown c.args.terminal.screen) 0) (sym parts.accepted)
-          ((shown before).0, ((shown before).1, tt)));
-    }

@@ -5,4 +5,4 @@ use Rattle.pair_threads.proofs.worker.serve.Goals as goal
 pub returns-in-Ok-Ends-clause-turns : goal.returns-in-Ok-Ends-clause-turns
 returns-in-Ok-Ends-clause-turns g c =
     let had = c.in-Ok-Ends.ensures.turned in
-    (suc c.loop-number.number, (c.loop-number.worker, had.0, had.1, c.loop-number.invariant.3, had.3))
+    (suc c.loop-number.number, (c.loop-number.worker, had.0, c.loop-number.invariant.3, had.2))

@@ -22,7 +22,7 @@ returns-then-asks_at-clause-came g c = λ first came.
     let M = g.B.Lockstep.machine in
     let same = c.contest.ensures.same.0 in
     comes_on state M first old new same came
-    (asks_now state M first old new same came c.args.number c.args.told (c.asks_at.ensures.0 c.if-asks_at.true))
+    (asks_now state M first old new same came c.args.number (c.asks_at.ensures.0 c.if-asks_at.true))
     (goes_same state M old.guest new.guest c.contest.ensures.same.1)
 
 pub returns-clause-came : goal.returns-clause-came

@@ -1,18 +1,11 @@
 -- The disk's worker answers the request that it took.
-use Rattle.pair_threads.proofs.Serving.{firsts_agree_of, replied}
+use Rattle.pair_threads.proofs.Serving.{replied}
 use Rattle.pair_threads.proofs.disk.DiskWorker.serve.Goals as goal
 
 pub reply-requires-clause-answers : goal.reply-requires-clause-answers
 reply-requires-clause-answers g c =
     (c.in-Ok.ensures.serves c.requires.store.0 c.args.self.now.seat.core.known.disk
     (c.args.self.now.taken c.args.request c.requires.has) c.requires.store.1.kept).0
-
-pub reply-requires-clause-firsts : goal.reply-requires-clause-firsts
-reply-requires-clause-firsts g c =
-    firsts_agree_of c.requires.store.0 (g.D.SectorStore.records c.args.self.now.disk) c.args.self.now.seat.core.known.disk
-    c.requires.store.1 c.in-Ok.answer
-    (c.in-Ok.ensures.serves c.requires.store.0 c.args.self.now.seat.core.known.disk
-    (c.args.self.now.taken c.args.request c.requires.has) c.requires.store.1.kept).1
 
 pub returns-clause-store : goal.returns-clause-store
 returns-clause-store g c = λ boots store.

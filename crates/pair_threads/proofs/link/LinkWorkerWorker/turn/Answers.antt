@@ -6,5 +6,5 @@ use Rattle.pair_threads.proofs.link.LinkWorkerWorker.turn.Goals as goal
 
 pub returns-in-Some-clause-leaves : goal.returns-in-Some-clause-leaves
 returns-in-Some-clause-leaves c =
-    dealt-agrees c.fate_told.result c.args.self.now.seat c.deal.new.self.seat c.deal.new.self.fate c.deal.ensures.dealt
+    dealt-agrees c.in-Some.fate c.args.self.now.seat c.deal.new.self.seat c.deal.new.self.fate c.deal.ensures.dealt
     (sym c.requires.ready ∙ ap is_some c.in-Some.is)

@@ -1,10 +1,8 @@
 -- What the disk answers is one more of its answers.
-use Rattle.std.proofs.Common.{◌≡◌, Some, ap, length, refl, subst, sym, ◌∙◌}
+use Rattle.std.proofs.Common.{◌≡◌, Some, ap, length, refl, subst, sym}
 use Rattle.std.specs.Prelude.{◌-◌, slice_get}
 use Rattle.pair_rule.specs.declared.view.Core.{Core}
 use Rattle.pair_rule.specs.declared.view.PrimaryView.{PrimaryView}
-use Rattle.pair_threads.specs.Naming.{HasTracks, waits_on_track}
-use Rattle.pair_threads.proofs.Naming.{more_answers, waits_still}
 use Rattle.pair_threads.proofs.Views.{came_last, heard_one, hears, with_answer, works_on}
 use Rattle.pair_threads.proofs.primary.PrimaryWorker.hear.Goals as goal
 
@@ -25,22 +23,6 @@ returns-in-None-clause-works g c =
     works_on g.B.Lockstep.state g.B.Lockstep.machine old c.answer.new.self old.seat.core.known.primary
     c.answer.ensures.same (ap (λ (k : Core). k.known.primary) c.in-None.ensures.taken.0.1) refl
     (λ boot taken accepted leads. leads) (λ boot leads kept. kept)
-
-pub invariant_of-self-clause-tracked : goal.invariant_of-self-clause-tracked
-invariant_of-self-clause-tracked g c =
-    let old = c.args.self.now in
-    let a = c.in-Some.answer in
-    subst (λ (v : PrimaryView). HasTracks v.answers old.seen old.tracks.tracks old.list.items)
-    (sym (heard_one old.seat.core c.answer.new.self.core a c.in-Some.ensures.taken))
-    (more_answers old.seat.core.known.primary.answers a old.seen old.tracks.tracks old.list.items old.tracked)
-
-pub invariant_of-self-clause-waits : goal.invariant_of-self-clause-waits
-invariant_of-self-clause-waits g c =
-    let old = c.args.self.now in
-    let a = c.in-Some.answer in
-    ap (λ (v : PrimaryView). waits_on_track v.answers old.track old.guest.waiting)
-    (heard_one old.seat.core c.answer.new.self.core a c.in-Some.ensures.taken)
-    ∙ waits_still old.seat.core.known.primary.answers a old.track old.guest.waiting old.waits
 
 pub invariant_of-self-clause-answered : goal.invariant_of-self-clause-answered
 invariant_of-self-clause-answered g c = λ b same.

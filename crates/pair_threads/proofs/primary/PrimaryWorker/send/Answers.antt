@@ -1,36 +1,27 @@
--- A packet that is posted changes nothing that the seat knows; a name is posted of a sector that the disk answered.
-use Rattle.std.proofs.Common.{ap, refl, sym, ◌∙◌}
+-- A packet that is posted changes nothing that the seat knows.
+use Rattle.std.proofs.Common.{ap, refl}
+use Rattle.std.proofs.lemmas.Option.{slice_get_read}
 use Rattle.pair_rule.specs.declared.view.Core.{Core}
 use Rattle.pair_threads.proofs.Leading.{at_index}
-use Rattle.pair_threads.proofs.Naming.{carries}
 use Rattle.pair_threads.proofs.Views.{works_on}
 use Rattle.pair_threads.proofs.primary.PrimaryWorker.send.Goals as goal
 
-pub returns-in-Some-clause-works : goal.returns-in-Some-clause-works
-returns-in-Some-clause-works g c =
-    let old = c.args.self.now in
-    works_on g.B.Lockstep.state g.B.Lockstep.machine old c.post_named.new.self old.seat.core.known.primary
-    c.post_named.ensures.same (ap (λ (k : Core). k.known.primary) c.post_named.ensures.posted.0.1) refl
-    (λ boot taken accepted leads. leads) (λ boot leads kept. kept)
-
-pub returns-in-None-clause-works : goal.returns-in-None-clause-works
-returns-in-None-clause-works g c =
+pub returns-clause-works : goal.returns-clause-works
+returns-clause-works g c =
     let old = c.args.self.now in
     works_on g.B.Lockstep.state g.B.Lockstep.machine old c.post.new.self old.seat.core.known.primary
     c.post.ensures.same (ap (λ (k : Core). k.known.primary) c.post.ensures.posted.0.1) refl
     (λ boot taken accepted leads. leads) (λ boot leads kept. kept)
 
-pub post_named-requires-clause-stands : goal.post_named-requires-clause-stands
-post_named-requires-clause-stands g c =
-    let old = c.args.self.now in
-    let e = c.entry.result.now in (
-      e,
-      at_index old.list.items old.seat.core.known.primary.list old.same _ e c.entry.ensures,
-      carries old.plan.reads old.seat.core.known.primary.answers old.seen old.tracks.tracks old.list.items c.args.index e
-          c.in-Some.sector old.tracked c.requires.there.0 c.entry.ensures (sym c.name_of.ensures ∙ c.in-Some.is),
-    )
+pub returns-clause-posted : goal.returns-clause-posted
+returns-clause-posted g c = (
+  c.index.result.now,
+  slice_get_read c.args.self.now.list.items _ c.args.index c.index.result.now refl c.requires.there.1 c.index.ensures,
+  c.post.ensures.posted,
+)
 
 pub post-requires-clause-stands : goal.post-requires-clause-stands
 post-requires-clause-stands g c =
     let old = c.args.self.now in
-    at_index old.list.items old.seat.core.known.primary.list old.same _ c.entry.result.now c.entry.ensures
+    at_index old.list.items old.seat.core.known.primary.list old.same _ c.index.result.now
+    (slice_get_read old.list.items _ c.args.index c.index.result.now refl c.requires.there.1 c.index.ensures)

@@ -4,11 +4,11 @@ use Rattle.pair_threads.proofs.Repeating.{ran_quietly, risen, runs_on}
 use Rattle.pair_threads.proofs.repeater.Repeater.run_ahead.Goals as goal
 
 pub returns-clause-goes_on : goal.returns-clause-goes_on
-returns-clause-goes_on g c = λ exact boot at.
+returns-clause-goes_on g c = λ boot at.
     let old = c.args.self.now in
     let s = g.B.Lockstep.state old.board in
     let t = g.B.Lockstep.state c.run-stopped.new.guest in
-    runs_on g.B.Lockstep.machine exact boot s (take old.replayed old.list.items) old.between g.met.B.Lockstep.counts
+    runs_on g.B.Lockstep.machine boot s (take old.replayed old.list.items) old.between g.met.B.Lockstep.counts
     c.run-stopped.result.steps t at
     (ran_quietly g.B.Lockstep.machine s t c.min-most.result c.run-stopped.result c.in_ok-ran.ran c.run-stopped.ensures.runs
     (sym c.in_ok-ran.ensures.is))

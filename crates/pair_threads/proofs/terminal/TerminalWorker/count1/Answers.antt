@@ -12,7 +12,7 @@ invariant_of-self-2 c =
     record {
       screen1 = screen_after true c.args.byte c.args.self.now.seat.core c.count.new.self.core c.reserve.new.self.items
           c.accept.new.accepted.items hand (c.in_ok-reserve.ensures.items ∙ c.args.self.now.screen1)
-          c.count.ensures.counted.1 c.accept.ensures.accepted;
+          c.count.ensures.counted.1 c.accept.ensures;
       screen0 = other_screen true c.args.self.now.seat.core c.count.new.self.core c.args.self.now.accepted0.items
           c.args.self.now.screen0 c.count.ensures.counted.1;
       in_hand = λ byte none. absurd cc;
