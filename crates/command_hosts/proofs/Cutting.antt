@@ -1,6 +1,8 @@
 -- Who is cut off stays so, and whoever has sent too much is.
 use Rattle.std.proofs.Common.{ℕ, zero, suc, ◌≡◌, ◌⊎◌, Bool, true, false, cond, Some, List, [], ◌∷◌, refl, sym, ap, ◌∙◌, subst, eqb-true, eq-eqb, inl, inr}
-use Rattle.std.specs.Prelude.{◌==◌, is_none, nat_lt, not, slice_get, slice_index_or, slice_set}
+use Rattle.std.proofs.Math.Nat.{le_refl, lt_of_lt_of_le, sub-le, sub_self}
+use Rattle.std.proofs.lemmas.Bool.{lt-ltb, ltb-true}
+use Rattle.std.specs.Prelude.{◌-◌, ◌≤◌, ◌==◌, is_none, nat_lt, not, slice_get, slice_index_or, slice_set}
 use Rattle.std.specs.Global.{Vec}
 use Rattle.pair_protocol.proofs.Traces.Lists.{get_set, get_set_other}
 use Rattle.outside_switch.proofs.Lines.{closed_now, others_open, still_open, took_none-same}
@@ -11,7 +13,7 @@ use Rattle.outside_switch.specs.Lines.{AtPlace, IsClosed, IsNamed, LineGoes, One
 use Rattle.outside_switch.specs.Meets.{Seen, seen}
 use Rattle.outside_switch.specs.Passing.{Passed}
 use Rattle.outside_switch.specs.declared.line.HostLine.{HostLine}
-use Rattle.command_hosts.specs.Floods.{count_at, counted_one, has_flooded, refused_one, sent_one}
+use Rattle.command_hosts.specs.Floods.{accepted_one, count_at, counted_one, has_flooded, refused_one, sent_one}
 use Rattle.command_hosts.specs.Judging.{FloodersAreCut, IsCounted, IsCutOff, TakesOne, is_open}
 use Rattle.command_hosts.specs.declared.flood.Flood.{Flood}
 use Rattle.command_hosts.specs.declared.session.Session.{Session}
@@ -92,6 +94,14 @@ none_there [] i = refl
 none_there (y ∷ ys) zero = refl
 none_there (y ∷ ys) (suc i) = none_there ys i
 
+set_at_most : (xs : List ℕ) (i x : ℕ) → slice_index_or (slice_set xs i x) i 0 ≤ x
+set_at_most [] i x = subst (λ (k : ℕ). k ≤ x) (sub_self x) (sub-le x x)
+set_at_most (y ∷ ys) zero x = le_refl x
+set_at_most (y ∷ ys) (suc i) x = set_at_most ys i x
+
+more_before : (m a b : ℕ) → a ≤ b → nat_lt m a ≡ true → nat_lt m b ≡ true
+more_before m a b fewer more = lt-ltb m b (lt_of_lt_of_le (ltb-true m a more) fewer)
+
 module _ {D S : Type 0} where
   -- nothing was counted
   pub cut_on : (a b : Session D S) (passed : List Passed) → GoesWith passed (seen a.switch) (seen b.switch) →
@@ -136,6 +146,18 @@ module _ {D S : Type 0} where
       one_on a b place 0 goes set (λ much. absurd (never (sym much
       ∙ ap (λ counts. nat_lt 32768 (count_at counts place)) set ∙ ap (λ c. nat_lt 32768 c) (none_there a.flood.sent place))))
   cut_rested false a b place goes is = cut_on a b [] goes (ap (λ (f : Flood). f.sent) is)
+
+  -- what one brought was accepted, and the count is no greater
+  pub cut_paid : (a b : Session D S) (place : ℕ) → GoesWith [] (seen a.switch) (seen b.switch) →
+      b.flood ≡ accepted_one place a.flood → FloodersAreCut a → FloodersAreCut b
+  cut_paid a b place goes is all =
+      let count = count_at a.flood.sent place - 8 in
+      let set : b.flood.sent ≡ slice_set a.flood.sent place count = ap (λ (f : Flood). f.sent) is in
+      one_on a b place count goes set (λ much.
+      let fewer : nat_lt 32768 count ≡ true =
+      more_before 32768 _ count (set_at_most a.flood.sent place count)
+      (sym (ap (λ counts. nat_lt 32768 (count_at counts place)) set) ∙ much) in
+      shut_on (seen a.switch) (seen b.switch) goes.way place (all place (more_before 32768 count _ (sub-le _ 8) fewer))) all
 
   -- ---- whether one is too many
 

@@ -11,11 +11,11 @@ use Rattle.outside_switch.specs.declared.heard.Heard.{Heard}
 use Rattle.outside_switch.specs.declared.heard.Heard.TheVariants as heard
 use Rattle.pair_lines.specs.Lines.{HasRoom, HasShown, IsSameStart, with_byte}
 use Rattle.pair_lines.specs.declared.screen.Screen.{Screen}
-use Rattle.command_hosts.proofs.Cutting.{cut_on, cut_rested, cut_taken}
+use Rattle.command_hosts.proofs.Cutting.{cut_on, cut_paid, cut_rested, cut_taken}
 use Rattle.command_hosts.proofs.Passing.{looked, shows_both, shows_byte, shows_none, shows_typings, typed_here, typed_there}
 use Rattle.command_hosts.proofs.Typing.{types_both, types_rest}
 use Rattle.command_hosts.specs.Floods as floods
-use Rattle.command_hosts.specs.Floods.{has_flooded, rested, sent_one}
+use Rattle.command_hosts.specs.Floods.{accepted_one, has_flooded, rested, sent_one}
 use Rattle.command_hosts.specs.Judging.{FloodersAreCut, HearsOne, TakesOne}
 use Rattle.command_hosts.specs.Ports.{Rests, Types, TypesKeys, typings}
 use Rattle.command_hosts.specs.Runs.{IsTold, MayShow, Shows, Went}
@@ -117,6 +117,13 @@ module _ {D S : Type 0} where
   rested_one a b place flood is first second screen =
       silently a b (stood a b is) (unchanged a.first b.first first) (unchanged a.second b.second second) screen
       (cut_rested a.flood.has_ticked a b place (stood a b is) flood)
+
+  -- what one brought was accepted
+  pub paid_one : (a b : Session D S) (place : ℕ) → b.flood ≡ accepted_one place a.flood → b.switch ≡ a.switch →
+      b.first ≡ a.first → b.second ≡ a.second → b.screen ≡ a.screen → Went a b
+  paid_one a b place flood is first second screen =
+      silently a b (stood a b is) (unchanged a.first b.first first) (unchanged a.second b.second second) screen
+      (cut_paid a b place (stood a b is) flood)
 
   -- one was refused
   pub refused_one : (a b : Session D S) (place : ℕ) → b.flood ≡ floods.refused_one place a.flood → b.switch ≡ a.switch →

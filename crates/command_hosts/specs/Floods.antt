@@ -3,16 +3,21 @@ use Rattle.std.specs.Prelude.{ℕ, ◌+◌, ◌-◌, ◌^◌, min, nat_lt, Bool,
 use Rattle.outside_switch.specs.declared.heard.Heard.{Heard}
 use Rattle.outside_switch.specs.declared.heard.Heard.TheVariants as heard
 use Rattle.command_hosts.specs.declared.flood.Came.{Came}
-use Rattle.command_hosts.specs.declared.flood.Came.TheVariants.{Nothing, Refused, Taken}
+use Rattle.command_hosts.specs.declared.flood.Came.TheVariants.{Accepted, Nothing, Refused, Taken}
 use Rattle.command_hosts.specs.declared.flood.Flood.{Flood}
 
 -- what a host is cut off for is refused, and so is what comes after that
 abbrev pub taken_if : Bool → Came
 taken_if is_open = if is_open then Taken else Refused
 
+abbrev pub accepted_if : Bool → Came
+accepted_if is_open = if is_open then Accepted else Refused
+
 abbrev pub came_of : Heard → Bool → Came
 came_of heard.Nothing is_open = Nothing
 came_of heard.Failed is_open = Refused
+came_of (heard.Shown port byte) is_open = accepted_if is_open
+came_of heard.Written is_open = accepted_if is_open
 came_of _ is_open = taken_if is_open
 
 -- ---- counts by places
@@ -35,6 +40,10 @@ sent_one place flood = record flood { sent = counted_one flood.sent place }
 
 abbrev pub refused_one : ℕ → Flood → Flood
 refused_one place flood = record flood { refused = counted_one flood.refused place }
+
+-- what a body brought was accepted: that pays for eight others
+abbrev pub accepted_one : ℕ → Flood → Flood
+accepted_one place flood = record flood { sent = slice_set flood.sent place (count_at flood.sent place - 8) }
 
 -- none of its bodies waits: in the turn after a tick it is counted anew
 abbrev pub rested : ℕ → Flood → Flood

@@ -5,9 +5,9 @@ use Rattle.outside_switch.specs.Heeds.{OthersStay, open_in}
 use Rattle.outside_switch.specs.Meets.{seen}
 use Rattle.outside_switch.specs.declared.heard.Heard.{Heard}
 use Rattle.outside_switch.specs.declared.switch.Switch.{Switch}
-use Rattle.command_hosts.specs.Floods.{came_of, has_flooded, refused_one, rested, sent_one}
+use Rattle.command_hosts.specs.Floods.{accepted_one, came_of, has_flooded, refused_one, rested, sent_one}
 use Rattle.command_hosts.specs.declared.flood.Came.{Came}
-use Rattle.command_hosts.specs.declared.flood.Came.TheVariants.{Nothing, Refused, Taken}
+use Rattle.command_hosts.specs.declared.flood.Came.TheVariants.{Accepted, Nothing, Refused, Taken}
 use Rattle.command_hosts.specs.declared.flood.Flood.{Flood}
 use Rattle.command_hosts.specs.declared.session.Session.{Session}
 
@@ -40,6 +40,7 @@ abbrev pub Judges : {D S : Type 0} → Came → ℕ → Session D S → Session 
 Judges Nothing place old new = IsCounted (rested place old.flood) old new
 Judges Refused place old new = IsCounted (refused_one place old.flood) old new
 Judges Taken place old new = TakesOne (has_flooded (sent_one place old.flood) place) place old new
+Judges Accepted place old new = IsCounted (accepted_one place old.flood) old new
 
 -- it was heard
 pub record HearsOne {D S : Type 0} (place : ℕ) (heard : Heard) (old new : Session D S) : Type 0 where

@@ -1,13 +1,16 @@
 //! How many bodies of each host were taken lately, and how many were refused.
 ghost use Rattle.std.specs.Prelude.{◌≡◌};
-ghost use Rattle.command_hosts.specs.Floods.{came_of, count_at, has_flooded, one_more, refused_one, rested, sent_one, taken_if, ticked, unheard};
+ghost use Rattle.command_hosts.specs.Floods.{accepted_if, accepted_one, came_of, count_at, has_flooded, one_more, refused_one, rested, sent_one, taken_if, ticked, unheard};
 
 use outside_switch::Heard;
 
 /// How many bodies of a host are taken at most until its count is set to 0. For an outside that was stopped some 15,000 wait: 10,922
-/// of the smallest frames in a pipe, and 4,096 bodies in a ring. A primary that prints as fast as it can sends fewer than 10,000 more
-/// until the next tick.
+/// of the smallest frames in a pipe, and 4,096 bodies in a ring.
 pub(crate) const MOST_BODIES: u64 = 32_768;
+
+// By how many bodies an accepted one lowers the count of its host: a byte has an entry or two in the log, and an acceptance another.
+// So a host whose guest prints without end is never far from 0, however fast both are.
+const PAID: u64 = 8;
 
 // At how many places there may be hosts.
 const PLACES: usize = 256;
@@ -20,6 +23,8 @@ pub(crate) enum Came {
     /// It is no frame or means nothing where it comes from, or its host was cut off before.
     Refused,
     Taken,
+    /// It was taken, and a terminal or the disk has accepted what it brought.
+    Accepted,
 }
 
 /// What became of the next body of a host, by what was heard, and whether the host was open before.
@@ -30,8 +35,8 @@ pub(crate) fn came_of(heard: Heard, is_open: bool) -> Came
         Heard::Nothing => Came::Nothing,
         Heard::Failed => Came::Refused,
         Heard::Met => taken_if(is_open),
-        Heard::Shown { .. } => taken_if(is_open),
-        Heard::Written => taken_if(is_open),
+        Heard::Shown { .. } => accepted_if(is_open),
+        Heard::Written => accepted_if(is_open),
         Heard::Unwritten => taken_if(is_open),
         Heard::Became(_) => taken_if(is_open),
         Heard::Won(_) => taken_if(is_open),
@@ -43,6 +48,16 @@ fn taken_if(is_open: bool) -> Came
     ensures { result ≡ taken_if is_open }
 {
     if is_open { Came::Taken } else { Came::Refused }
+}
+
+fn accepted_if(is_open: bool) -> Came
+    ensures { result ≡ accepted_if is_open }
+{
+    if is_open {
+        Came::Accepted
+    } else {
+        Came::Refused
+    }
 }
 
 /// Two counts of the host at each place, neither of which goes past the greatest number that there is.
@@ -92,6 +107,14 @@ impl Flood {
         let sent = one_more(self.sent[usize::from(place)]);
         self.sent[usize::from(place)] = sent;
         sent > MOST_BODIES
+    }
+
+    /// What a body of the host at a place brought was accepted.
+    pub(crate) fn accept(&mut self, place: u8)
+        ensures { self.new ≡ accepted_one place self.old }
+    {
+        let sent = self.sent[usize::from(place)];
+        self.sent[usize::from(place)] = sent.saturating_sub(PAID);
     }
 
     /// One body more of the host at a place was refused.

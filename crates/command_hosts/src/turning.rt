@@ -180,7 +180,7 @@ impl<D: SectorStore, S: Steward + Drop> Session<D, S> {
     }
 
     // Counts what became of the next body of a host.
-    #[tactic(auto, using(crate::proofs::Going::rested_one, crate::proofs::Going::refused_one))]
+    #[tactic(auto, using(crate::proofs::Going::rested_one, crate::proofs::Going::refused_one, crate::proofs::Going::paid_one))]
     fn judge(&mut self, alloc: Global, place: u8, came: Came)
         ensures went { Went self.old self.new }
         ensures judges { Judges came place self.old self.new }
@@ -189,6 +189,7 @@ impl<D: SectorStore, S: Steward + Drop> Session<D, S> {
             Came::Nothing => self.flood.rest(place),
             Came::Refused => self.flood.refuse(place),
             Came::Taken => self.take(alloc, place),
+            Came::Accepted => self.flood.accept(place),
         }
     }
 

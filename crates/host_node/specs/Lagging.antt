@@ -13,9 +13,9 @@ use Rattle.pair_events.specs.declared.reply.Role.TheVariants as shown_as
 use Rattle.pair_protocol.specs.Copying.{Copying}
 use Rattle.pair_protocol.specs.Node.{Node, Role, Primary}
 
--- it has more than four million steps to make up to this count
+-- it has more than eight million steps to make up to this count
 abbrev pub is_too_far : (steps count : ℕ) → Bool
-is_too_far steps count = nat_lt 4_000_000 (count - steps)
+is_too_far steps count = nat_lt 8_000_000 (count - steps)
 
 -- who said this last is so far behind a guest of this count; who has said nothing has only begun
 abbrev pub is_far_behind : Option Lead → (count : ℕ) → Bool
@@ -27,19 +27,19 @@ abbrev pub behind : Option Lead → (count : ℕ) → ℕ
 behind None count = 0
 behind (Some lead) count = lead.count - count
 
--- more than a million of them
+-- more than two million of them
 abbrev pub is_late : Option Lead → (count : ℕ) → Bool
-is_late heard count = nat_lt 1_000_000 (behind heard count)
+is_late heard count = nat_lt 2_000_000 (behind heard count)
 
 -- only a backup lags
 abbrev pub lag_of : Option shown.Role → (behind : ℕ) → ℕ
 lag_of (Some shown_as.Backup) steps = steps
 lag_of role steps = 0
 
--- a count is said at first, and again a million steps after it was said last
+-- a count is said at first, and again two million steps after it was said last
 abbrev pub is_due : Option ℕ → (count : ℕ) → Bool
 is_due None count = true
-is_due (Some said) count = nat_le 1_000_000 (count - said)
+is_due (Some said) count = nat_le 2_000_000 (count - said)
 
 -- a node waits for a backup that is behind: a primary whose backup is whole
 abbrev pub waits_for : Option shown.Role → (is_copying is_behind : Bool) → Bool

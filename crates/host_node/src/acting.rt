@@ -12,12 +12,16 @@ use event_callbacks::OpId;
 use guest_lockstep::{ReplayEnd, StopReason};
 use i8080_words::{Fault, R};
 use key_room::{KeyRoom, OutstandingWrites, Snapshots};
+use pair_events::Role;
 
 // How many steps a guest makes before it is offered its next key, unless it idles.
 const BETWEEN_KEYS: u64 = 300;
 
 // How many keys of a port are taken in a turn at most.
 const KEYS: u64 = 8;
+
+// How many entries are on their way to the backup at most when a key is taken: what a guest prints waits for those before it.
+const ON_THEIR_WAY: u64 = 48;
 
 // How many steps are made in a turn at most while somebody waits for the guest, so that its loop soon looks for what comes.
 const FEW_STEPS: u64 = 500;
@@ -139,13 +143,14 @@ impl<B: Copies<H> + KeyRoom + OutstandingWrites + Snapshots + Drop, H: Drop> Ser
         self.read()
     }
 
-    // Takes a key of each port, if the guest had time for the one before.
+    // Takes a key of each port, if the guest had time for the one before, and the backup for the log.
     #[tactic(auto, using(crate::proofs::Going::stays, crate::proofs::Going::and_then))]
     fn take_keys(&mut self) -> R<bool>
         ensures { Goes B.state B.machine B.copied self.old.host self.new.host }
     {
         let count = self.host.count();
-        if !self.pace.is_idle && count.saturating_sub(self.pace.key_at) < BETWEEN_KEYS {
+        let has_time = self.pace.is_idle || count.saturating_sub(self.pace.key_at) >= BETWEEN_KEYS;
+        if !has_time || self.is_log_busy() {
             return Ok(false);
         }
         let first = self.take_key(0)?;
@@ -157,6 +162,12 @@ impl<B: Copies<H> + KeyRoom + OutstandingWrites + Snapshots + Drop, H: Drop> Ser
             self.pace.is_idle = false;
         }
         Ok(has_taken)
+    }
+
+    // Whether so many entries are on their way to the backup that keys wait.
+    fn is_log_busy(&self) -> bool {
+        let on_their_way = self.pace.next_entry.saturating_sub(self.pace.acknowledged);
+        self.host.role() == Some(Role::Primary) && on_their_way > ON_THEIR_WAY
     }
 
     // Takes a key of a port, if the guest may be offered one.

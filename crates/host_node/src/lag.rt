@@ -7,10 +7,10 @@ use pair_events::Role;
 
 // How many steps a backup may be behind: about those of a hundredth of a second. If it is further behind, its primary's guest
 // makes no step (VMware FT, section 3.2.2).
-const MOST_BEHIND: u64 = 4_000_000;
+const MOST_BEHIND: u64 = 8_000_000;
 
 // After how many steps a host says again how far it is.
-const STEPS: u64 = 1_000_000;
+const STEPS: u64 = 2_000_000;
 
 /// How far the peer said last that it is, and how far this host said last that it is itself.
 #[derive(Clone, Copy)]

@@ -14,7 +14,7 @@ use key_room::{KeyRoom, OutstandingWrites, Snapshots};
 use pair_events::Role;
 use std::sync::Wait;
 use std::thread::Parker;
-use std::time::Clock;
+use std::time::{Clock, Duration};
 
 // How many frames are taken in one turn at most.
 const FRAMES: u32 = 512;
@@ -71,6 +71,9 @@ impl<B: Copies<H> + KeyRoom + OutstandingWrites + Snapshots + Drop, H: Drop> Ser
             };
             if is_busy {
                 rests.find(self.pace.now);
+            } else if self.is_held_back() {
+                // Only a frame of its backup lets the guest go on.
+                wake.park_timeout(rt, Duration::from_micros(REST));
             } else {
                 rests.rest(rt, self.pace.now, wake, REST);
             }

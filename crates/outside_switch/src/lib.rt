@@ -8,8 +8,6 @@ mod link;
 mod meeting;
 mod places;
 mod switch;
-#[cfg(test)]
-mod tests;
 
 pub use heard::Heard;
 pub use laws::{numbers_stay_apart, switch_runs};
