@@ -5,6 +5,7 @@ pub mod Pages
 pub mod AnyNode
 pub mod Due
 pub mod Guests
+pub mod Standings
 pub mod Calls
 pub mod Ahead
 pub mod Noting

@@ -18,9 +18,10 @@ ghost use Rattle.ft_node.specs.Calls as calls;
 ghost use Rattle.ft_node.specs.Checked as checked;
 ghost use Rattle.ft_node.specs.Noting as noting;
 ghost use Rattle.ft_node.specs.Roles.{HasImage, IsPrimary};
+ghost use Rattle.ft_node.specs.Standings.{logged_by};
 
 use crate::kept_image::KeptImage;
-use crate::ran::{Lead, Ran};
+use crate::ran::{Lead, Ran, Standing};
 use clone_state::Copies;
 use event_callbacks::{OpId, Operation, PORTS};
 use guest_lockstep::{Input, Lockstep, Reads, StopReason, Stopped};
@@ -84,6 +85,19 @@ impl<B: Lockstep + Drop> Primary<B> {
         Lead {
             entries: self.recorder.log().next(),
             count: self.recorder.board().count(),
+        }
+    }
+
+    /// How many entries it has logged, and how many of them are acknowledged.
+    pub(crate) fn standing(&self) -> Standing
+        ensures { (C : Copying B.State) (x : Node B.State)
+            → IsPrimary B.machine (HasImage C self.now.sender.generation self.now.image) self.now.recorder.reads
+            (B.state self.now.recorder.board) self.now.recorder.log self.now.sender self.now.coverage x
+            → result ≡ logged_by x }
+    {
+        Standing {
+            entries: self.recorder.log().next(),
+            done: self.recorder.log().first(),
         }
     }
 

@@ -24,6 +24,14 @@ pub struct Lead {
     pub count: u64,
 }
 
+/// How many entries a primary has logged, and how many of them are acknowledged; or how many a node that repeats holds,
+/// and how many of them it has replayed.
+#[derive(Clone, Copy)]
+pub struct Standing {
+    pub entries: u64,
+    pub done: u64,
+}
+
 /// The generation that an alone node may begin, how many drives its machine has, and how its log will carry sectors.
 #[derive(Clone, Copy)]
 pub struct NextGeneration {

@@ -5,6 +5,7 @@ pub mod Stations
 pub mod Inputs
 pub mod Holding
 pub mod AtHosts
+pub mod Asking
 pub mod Agreeing
 pub mod Statuses
 pub mod Applying

@@ -4,7 +4,7 @@ ghost use Rattle.std.specs.Prelude.{◌≡◌, ℕ, IfErr, IfOk, List, Some, opt
 ghost use Rattle.std.specs.Borrow.{LendsSoOk, sem};
 ghost use Rattle.i8080_words.specs.declared.refusal.Fault.TheVariants.{Unknown};
 ghost use Rattle.pair_protocol.specs.Node as protocol;
-ghost use Rattle.ft_world.specs.Guests.{machine_at};
+ghost use Rattle.ft_world.specs.Guests.{machine_at, standing_at};
 ghost use Rattle.ft_world.specs.Lending.{HasNoNode, WithStation, hosts_row};
 ghost use Rattle.ft_world.specs.Opening.{HasSpare, JoinsHosts, host_refusal};
 ghost use Rattle.ft_world.specs.Shows.{AreHosts, IsStatusAt};
@@ -16,6 +16,7 @@ use crate::host::Host;
 use crate::opening::Opening;
 use crate::station::Station;
 use clone_state::Copies;
+use ft_node::Standing;
 use guest_lockstep::Timed;
 use i8080_words::{Fault, R};
 use pair_events::Role;
@@ -86,6 +87,19 @@ pub(crate) fn guest<B: Copies<H> + Drop, H: Drop>(hosts: &Vec<Host<B, H>>, node:
 {
     let station = station(hosts, node).ok()?;
     station.node.guest()
+}
+
+/// How far a node is with the log of its generation; none if no node has this number, or if it has no log.
+pub(crate) fn standing<B: Copies<H> + Drop, H: Drop>(
+    hosts: &Vec<Host<B, H>>,
+    node: u64,
+) -> Option<Standing>
+    ensures { (C : Copying B.State) (drives : ℕ) (nodes : List (protocol.Node B.State))
+        → AreHosts B.state B.machine C drives hosts.now.items nodes
+        → result ≡ standing_at nodes node }
+{
+    let station = station(hosts, node).ok()?;
+    station.node.standing()
 }
 
 /// The inputs of a node, and the count up to which they settle it; no input and 0 if no node has this number.

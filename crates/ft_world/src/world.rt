@@ -7,6 +7,8 @@ use crate::room::Room;
 use crate::{devices, hosts};
 use clone_state::Copies;
 use disk_dcdd::SectorAddress;
+use event_callbacks::OpId;
+use ft_node::Standing;
 use guest_lockstep::{Reads, Timed};
 use i8080_words::{Fault, R};
 use pair_events::{Event, Reply};
@@ -34,12 +36,13 @@ impl<B: Copies<H> + Drop, D: SectorStore, H: Drop> Model for World<B, D, H> {
 }
 
 impl<B: Copies<H> + Drop, D: SectorStore, H: Drop> World<B, D, H> {
-    ghost use Rattle.std.specs.Prelude.{◌≡◌, [], ◌∷◌, ◌++◌, length, IfErr, IfOk, OnErr, OnOk, option_map, slice_get};
+    ghost use Rattle.std.specs.Prelude.{◌≡◌, [], ◌∷◌, ◌++◌, length, IfErr, IfOk, OnErr, OnOk, is_none, option_map, slice_get};
     ghost use Rattle.disk_dcdd.specs.declared.address.SectorAddress.{SectorAddress};
     ghost use Rattle.i8080_words.specs.declared.refusal.Fault.TheVariants.{OutOfMemory};
     ghost use Rattle.pair_protocol.specs.Copying.{Copying};
     ghost use Rattle.pair_protocol.specs.Grows.{Grows};
     ghost use Rattle.pair_protocol.specs.World.{accepted, terminal, winner_in, with_host};
+    ghost use Rattle.pair_protocol.specs.Refusals.{at_node, fetch_refusal, release_refusal};
     ghost use Rattle.pair_protocol.specs.Settled.{Settled, highest};
     ghost use Rattle.shared_disk.specs.Failing.{before_failures};
     ghost use Rattle.shared_disk.specs.Records.{faults_in, refusal_at};
@@ -48,7 +51,7 @@ impl<B: Copies<H> + Drop, D: SectorStore, H: Drop> World<B, D, H> {
     ghost use Rattle.ft_world.specs.Beginning.{MayBegin, MayBeginSome, beginning};
     ghost use Rattle.ft_world.specs.Chaining.{HaveApplied};
     ghost use Rattle.ft_world.specs.Freshened.{PagesAfter, TellsStale};
-    ghost use Rattle.ft_world.specs.Guests.{machine_at};
+    ghost use Rattle.ft_world.specs.Guests.{machine_at, standing_at};
     ghost use Rattle.ft_world.specs.Shows.{Agree, IsStatusAt};
     ghost use Rattle.ft_world.specs.Standing.{Course, machine_of};
     ghost use Rattle.ft_world.specs.Staying.{SparesAfter, SparesLeft, Stays};
@@ -198,6 +201,38 @@ impl<B: Copies<H> + Drop, D: SectorStore, H: Drop> World<B, D, H> {
             → option_map (λ guest. B.state guest.now) result ≡ machine_at c.world.nodes node }
     {
         hosts::guest(&self.pair.hosts, node)
+    }
+
+    /// How far a node is with the log of its generation: how many entries a primary has logged, and how many of them are
+    /// acknowledged; how many a backup or a draining node holds, and how many of them it has replayed. `None` at any other.
+    pub fn standing(&self, node: u64) -> Option<Standing>
+        ensures { (c : Course B.State) → Shows B.state B.copied B.machine D.records self.now c
+            → result ≡ standing_at c.world.nodes node }
+    {
+        hosts::standing(&self.pair.hosts, node)
+    }
+
+    /// Whether a node would release an operation: it is outstanding, and a primary's backup has acknowledged it. Nothing is
+    /// sent.
+    pub fn may_release(&self, node: u64, id: OpId) -> bool
+        ensures { (c : Course B.State) → Shows B.state B.copied B.machine D.records self.now c
+            → result ≡ is_none (at_node (slice_get c.world.nodes node) (release_refusal (machine_of B.machine c) id)) }
+    {
+        match hosts::station(&self.pair.hosts, node) {
+            Ok(station) => station.node.release(id).is_ok(),
+            Err(_) => false,
+        }
+    }
+
+    /// Whether a node would ask the disk for a sector: it repeats what it holds, and waits for one. Nothing is sent.
+    pub fn may_fetch(&self, node: u64) -> bool
+        ensures { (c : Course B.State) → Shows B.state B.copied B.machine D.records self.now c
+            → result ≡ is_none (at_node (slice_get c.world.nodes node) (fetch_refusal (machine_of B.machine c))) }
+    {
+        match hosts::station(&self.pair.hosts, node) {
+            Ok(station) => station.node.wanted().is_ok(),
+            Err(_) => false,
+        }
     }
 
     /// The message of this number, if it was sent.

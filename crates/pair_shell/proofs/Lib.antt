@@ -11,3 +11,4 @@ pub mod Refusing
 pub mod Same
 pub mod Tracing
 pub mod Finding
+pub mod RestLines

@@ -9,5 +9,7 @@ pub mod Lines
 pub mod Looking
 pub mod Playing
 pub mod Polling
+pub mod Resting
 pub mod Running
 pub mod Sessions
+pub mod Waits

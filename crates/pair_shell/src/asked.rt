@@ -34,7 +34,7 @@ pub fn left(
 }
 
 // How many parts the image of a machine with so many drives has.
-fn parts_of(drives: u8) -> u64
+pub(crate) fn parts_of(drives: u8) -> u64
     ensures { result ≡ part_count drives }
 {
     257 + 77 * u64::from(drives)

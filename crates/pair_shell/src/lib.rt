@@ -8,9 +8,11 @@ mod machine;
 mod notes;
 mod play;
 mod polling;
+mod resting;
 mod running;
 mod session;
 mod shell;
 mod showing;
+mod why;
 
 pub use shell::run_shell;

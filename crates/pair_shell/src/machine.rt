@@ -9,6 +9,7 @@ ghost use Rattle.pair_shell.specs.Sessions.{IsHeeded};
 
 use crate::notes::Notes;
 use crate::showing::{show_found, show_sector};
+use crate::why::print_why;
 use event_callbacks::Completes;
 use guest_board::Board;
 use i8080_words::Fault;
@@ -45,6 +46,8 @@ pub fn take_line<T: Completes + Drop, S: Completes + Drop, W: Completes + Drop>(
             notes.show_screen(port, is_new, world.accepted(port), printed)
         }
         ShellLine::Sector(address) => show_sector(world, address, printed),
+        ShellLine::Rest => notes.rest(alloc, opening, world, printed),
+        ShellLine::Why => print_why(alloc, opening, world, &notes.book, printed),
         line => notes.take(alloc, opening, world, line, printed),
     }
 }

@@ -115,7 +115,7 @@ pub fn play_one<B: Copies<H> + Drop, H: Drop>(
 
 // One more event happens, unless memory for it is refused; the book notes it then.
 #[tactic(auto, using(crate::proofs::Playing::lengthens, crate::proofs::Playing::lengthens_not, crate::proofs::Books::notes))]
-fn play_next<B: Copies<H> + Drop, H: Drop>(
+pub(crate) fn play_next<B: Copies<H> + Drop, H: Drop>(
     alloc: Global,
     world: &mut World<B, Disk, H>,
     book: &mut Book,

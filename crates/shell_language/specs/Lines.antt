@@ -18,7 +18,8 @@ abbrev pub own_words : List (List ℕ × OwnWord)
 own_words =
     (codes "load", own.Load) ∷ (codes "send", own.Send) ∷ (codes "log", own.Log)
     ∷ (codes "sendpart", own.SendPart) ∷ (codes "part", own.Part) ∷ (codes "arrive", own.Arrive)
-    ∷ (codes "type", own.Type) ∷ (codes "run", own.Run) ∷ (codes "screen", own.Screen) ∷ (codes "sector", own.Sector)
+    ∷ (codes "type", own.Type) ∷ (codes "run", own.Run) ∷ (codes "rest", own.Rest) ∷ (codes "why", own.Why)
+    ∷ (codes "screen", own.Screen) ∷ (codes "sector", own.Sector)
     ∷ (codes "regs", own.Registers) ∷ (codes "look", own.Memory) ∷ (codes "dis", own.Listing)
     ∷ (codes "last", own.Last) ∷ (codes "check", own.Check) ∷ (codes "picture", own.Picture) ∷ (codes "trace", own.Trace)
     ∷ (codes "help", own.Help) ∷ (codes "quit", own.Quit) ∷ []
@@ -78,6 +79,8 @@ helped (word ∷ words) = if bytes_eq word (codes "refusals") then Some (shell.R
 abbrev pub shown_of : OwnWord → Reader ShellLine
 shown_of own.Screen = small (λ port. screen_by port)
 shown_of own.Sector = λ words. address words >>= λ place. Some (shell.Sector place.0, place.1)
+shown_of own.Rest = says shell.Rest
+shown_of own.Why = says shell.Why
 shown_of own.Last = says shell.Last
 shown_of own.Check = says shell.Check
 shown_of own.Picture = pictured

@@ -29,7 +29,7 @@ macro_rules! forms {
 
 // All forms.
 #[rattlefmt::skip]
-static FORMS: [Form; 63] = forms![
+static FORMS: [Form; 65] = forms![
     ["mem", [Address, Bytes(65_536)], "mem AAAA HH ..", "setup: these bytes from this address on"],
     ["load", [Record], "load :LLAAAATTDD..CC", "setup: a record of Intel HEX; the word load may be left out"],
     ["drives", [Within(1, 4)], "drives N", "setup: 1 to 4 drives"],
@@ -73,6 +73,8 @@ static FORMS: [Form; 63] = forms![
     ["stop", [Number], "stop N", "node N halts for good"],
     ["run", [Number, Number], "run N K", "the pair's ordinary day, for K turns of node N"],
     ["run", [Number, Number, Exactly("loss"), Within(0, 100), Number], "run N K loss P SEED", "the same; of 100 messages P are lost, repeated or overtaken"],
+    ["rest", [], "rest", "brings the pair to rest, and says in how many events"],
+    ["why", [], "why", "what is outstanding, what it waits for, and what brings it on"],
     ["show", [Number], "show P", "the bytes that terminal P has accepted"],
     ["screen", [Number], "screen P", "the same as text"],
     ["screen", [Number, Exactly("new")], "screen P new", "what of it was not shown as text before"],

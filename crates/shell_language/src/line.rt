@@ -70,6 +70,10 @@ pub enum ShellLine<'a> {
     ArriveAll,
     /// The pair's ordinary day.
     Run(Turns),
+    /// The pair is brought to rest.
+    Rest,
+    /// What is outstanding, what it waits for, and what would bring it on.
+    Why,
     /// Text is typed at the terminal of a port.
     TypeText {
         port: u8,

@@ -13,6 +13,8 @@ pub enum OwnWord {
     Arrive,
     Type,
     Run,
+    Rest,
+    Why,
     Screen,
     Sector,
     Registers,
@@ -27,7 +29,7 @@ pub enum OwnWord {
 }
 
 // Each with its word.
-static OWN_WORDS: [(&[u8], OwnWord); 19] = [
+static OWN_WORDS: [(&[u8], OwnWord); 21] = [
     (b"load", OwnWord::Load),
     (b"send", OwnWord::Send),
     (b"log", OwnWord::Log),
@@ -36,6 +38,8 @@ static OWN_WORDS: [(&[u8], OwnWord); 19] = [
     (b"arrive", OwnWord::Arrive),
     (b"type", OwnWord::Type),
     (b"run", OwnWord::Run),
+    (b"rest", OwnWord::Rest),
+    (b"why", OwnWord::Why),
     (b"screen", OwnWord::Screen),
     (b"sector", OwnWord::Sector),
     (b"regs", OwnWord::Registers),

@@ -64,6 +64,8 @@ fn line_shown<'a>(own: OwnWord, words: &mut Words<'a>) -> Option<ShellLine<'a>>
             let sector = sector_address(words)?;
             Some(ShellLine::Sector(sector))
         }
+        OwnWord::Rest => Some(ShellLine::Rest),
+        OwnWord::Why => Some(ShellLine::Why),
         OwnWord::Last => Some(ShellLine::Last),
         OwnWord::Check => Some(ShellLine::Check),
         OwnWord::Picture => picture(words),

@@ -1,0 +1,16 @@
+-- What is said of an event, if there is one.
+use Rattle.std.proofs.Common.{Option, Some, None, Result, Ok, Err}
+use Rattle.std.specs.Prelude.{IfOk, IfSome}
+
+pub each_some : {A : Type 0} (P Q : A → Type 0) (o : Option A) → ((a : A) → P a → Q a) → IfSome o P → IfSome o Q
+each_some P Q None goes is = tt
+each_some P Q (Some a) goes is = goes a is
+
+pub each_ok : {A E : Type 0} (P Q : A → Type 0) (r : Result (Option A) E) → ((a : A) → P a → Q a) →
+    IfOk r (λ o. IfSome o P) → IfOk r (λ o. IfSome o Q)
+each_ok P Q (Ok o) goes is = each_some P Q o goes is
+each_ok P Q (Err e) goes is = tt
+
+pub when_ok : {A E : Type 0} (P Q : A → Type 0) (r : Result A E) → ((a : A) → P a → Q a) → IfOk r P → IfOk r Q
+when_ok P Q (Ok a) goes is = goes a is
+when_ok P Q (Err e) goes is = tt

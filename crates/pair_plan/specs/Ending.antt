@@ -1,0 +1,35 @@
+-- What holds where no event is left.
+use Rattle.std.specs.Prelude.{◌≡◌, ℕ, ◌≤◌, Some, None, length}
+use Rattle.guest_lockstep.specs.Machine.{Machine}
+use Rattle.ft_world.specs.Guests.{machine_at}
+use Rattle.pair_protocol.specs.Node.{Node}
+use Rattle.pair_protocol.specs.World.{World}
+use Rattle.pair_progress.specs.CatchingUp.{IsPair}
+use Rattle.pair_plan.specs.First.{IsFirst}
+use Rattle.pair_plan.specs.Serves.{Serves}
+use Rattle.pair_plan.specs.declared.serving.Serving.{Serving}
+use Rattle.pair_plan.specs.declared.serving.Serving.TheVariants as serving
+
+-- no operation of a node is found that would be completed first: no byte is due
+abbrev pub IsStill : {S : Type 0} → Machine S → World S → ℕ → Type 0
+IsStill {S} M w n = (s : S) → Some s ≡ machine_at w.nodes n → IsFirst M s None
+
+-- all that a primary has logged is held by its backup, and acknowledged
+abbrev pub IsThrough : {S : Type 0} → Node S → Node S → Type 0
+IsThrough x y = (length x.log ≤ length y.held) × (length x.log ≤ x.covered)
+
+-- a node that is to go live has an event left; of one that waits for the parts of an image this says nothing
+abbrev pub MayRest : {S : Type 0} → Machine S → World S → ℕ → Serving → Type 0
+MayRest M w generation serving.Nobody = Unit {0}
+MayRest M w generation (serving.Primary n) = ⊥
+MayRest M w generation (serving.Backup n) = ⊥
+MayRest M w generation (serving.Draining n) = ⊥
+MayRest M w generation (serving.Alone n) = IsStill M w n
+MayRest M w generation (serving.Joining n host) = Unit {0}
+MayRest M w generation (serving.Pair n backup) = (pair : IsPair w n backup generation) → IsThrough pair.x pair.y
+
+-- those who serve in this generation may rest
+pub record Rests {S : Type 0} (M : Machine S) (w : World S) (generation : ℕ) : Type 0 where
+  pub who : Serving
+  pub serves : Serves w generation who
+  pub rests : MayRest M w generation who

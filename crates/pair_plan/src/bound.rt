@@ -1,0 +1,84 @@
+//! How many events there will be at most.
+
+use crate::plan::names_of;
+use crate::repeating::standing_of;
+use crate::serving::{Serving, who_serves};
+use clone_state::Copies;
+use ft_node::Standing;
+use ft_world::World;
+use key_room::OutstandingWrites;
+use shared_disk::SectorStore;
+use std::alloc::{AllocError, Global};
+
+// How many operations are outstanding at most.
+const OPERATIONS: u64 = 40;
+
+// What a host holds of the log that has just become the backup.
+const NOTHING_HELD: Standing = Standing {
+    entries: 0,
+    done: 0,
+};
+
+/// How many events at most bring a pair to rest, among so many hosts, if an image has so many parts: the bound of the law, with
+/// each entry that is not replayed counted as a read.
+pub fn most_events<B: Copies<H> + OutstandingWrites + Drop, D: SectorStore, H: Drop>(
+    alloc: Global,
+    world: &World<B, D, H>,
+    hosts: u64,
+    parts: u64,
+) -> Result<u64, AllocError> {
+    match who_serves(world, hosts) {
+        Serving::Nobody => Ok(0),
+        Serving::Primary { node } => Ok(completed(count_of(alloc, world, node)?).saturating_add(1)),
+        Serving::Alone { node } => Ok(completed(count_of(alloc, world, node)?)),
+        Serving::Backup { node } => Ok(drained(2, standing_of(world, node))),
+        Serving::Draining { node } => Ok(drained(1, standing_of(world, node))),
+        Serving::Joining { node, .. } => {
+            let names = count_of(alloc, world, node)?;
+            Ok(joined(parts, paired(standing_of(world, node), NOTHING_HELD, names)))
+        }
+        Serving::Pair { node, backup } => {
+            let names = count_of(alloc, world, node)?;
+            Ok(paired(standing_of(world, node), standing_of(world, backup), names))
+        }
+    }
+}
+
+// How many operations are outstanding at a node.
+fn count_of<B: Copies<H> + OutstandingWrites + Drop, D: SectorStore, H: Drop>(
+    alloc: Global,
+    world: &World<B, D, H>,
+    node: u64,
+) -> Result<u64, AllocError> {
+    Ok(names_of(alloc, world, node)?.len() as u64)
+}
+
+// Three events for each operation that is outstanding.
+fn completed(names: u64) -> u64 {
+    names.saturating_mul(3)
+}
+
+// Two events for each part of an image, and then those of a pair.
+fn joined(parts: u64, paired: u64) -> u64 {
+    parts.saturating_mul(2).saturating_add(paired)
+}
+
+// A node that repeats what it holds, and completes what is outstanding then.
+fn drained(first: u64, held: Standing) -> u64 {
+    let reads = held.entries.saturating_sub(held.done);
+    reads
+        .saturating_mul(3)
+        .saturating_add(first)
+        .saturating_add(completed(OPERATIONS))
+}
+
+// A pair: two events for each entry that the backup lacks, three for each that it has not replayed, five for each operation, and five.
+fn paired(log: Standing, held: Standing, names: u64) -> u64 {
+    let lacks = log.entries.saturating_sub(held.entries);
+    let reads = log.entries.saturating_sub(held.done);
+    lacks
+        .saturating_mul(2)
+        .saturating_add(reads.saturating_mul(3))
+        .saturating_add(names.saturating_mul(5))
+        .saturating_add(5)
+}
