@@ -87,9 +87,11 @@ class Pair(BetweenPipes):
         return found + (self.spares() if "spare" in roles else [])
 
     def spares(self):
-        """The hosts that the last status names as spares, but for those of which something else is told since."""
+        """The hosts that the last status names as spares, but for those of which something else is told since, and those of the pair, which may
+        not have reported yet that they are no spares any more."""
         last = self.said.rfind(b"pair> status")
         told = {int(host) for it in TOLD.finditer(self.said, max(last, 0)) for host in it.groups() if host is not None}
+        told.update(self.having("primary", "backup", "joining", "alone"))
         return [host for host in map(int, re.findall(rb"host (\d+) \(process \d+(?:, ssh to \S+)?\): a spare", self.said[last:])) if host not in told]
 
     def await_spares(self, *hosts):

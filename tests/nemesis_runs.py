@@ -22,8 +22,9 @@ Plan = namedtuple("Plan", "guest deeds patience is_relayed hosts later")
 # does, which takes memory), and whether a host that was slow, and suspected for it, was the peer of the next one to be killed, and so all ended.
 Outcome = namedtuple("Outcome", "shown ended grew is_cut_short")
 
-# The most kB by which the outside's memory grows once the pair is whole: what its threads touch for the first time.
-MOST_GROWTH = 2_048
+# The most kB by which the outside's memory grows once the pair is whole: what its threads touch for the first time, and what it keeps for
+# each host that has come since, its rings and the blocks that its streams have carried.
+MOST_GROWTH, GROWTH_BY_HOST = 1_536, 256
 
 # How hosts may end to which nothing was done: as all end, and in a hasty run also suspected by mistake.
 AT_THE_END = "its stream has ended", "the pair has ended"
@@ -91,7 +92,7 @@ def go(plan, seat):
     if seat.run.poll() is not None:
         return None
     seat.count_shown(plan.guest.length)
-    grew = growth(before, memory_of(seat.outside()))
+    grew = growth(before, memory_of(seat.outside()), len(seat.processes()) - plan.hosts)
     seat.end()
     return grew
 
@@ -110,10 +111,10 @@ def memory_of(process):
     return resident if size < 1 << 30 else None
 
 
-def growth(before, after):
-    """By how many kB the memory grew; raises if it does not stay as it is."""
+def growth(before, after, came):
+    """By how many kB the memory grew while so many hosts came; raises if it is more than they need."""
     if before is None or after is None:
         return None
-    if after - before > MOST_GROWTH:
+    if after - before > MOST_GROWTH + GROWTH_BY_HOST * came:
         raise Differs(f"the memory of the outside grew from {before} kB to {after} kB")
     return after - before

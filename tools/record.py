@@ -3,14 +3,17 @@
 
 usage: tools/record.py FILE.cast [PROGRAM]     PROGRAM is ./pair, if it is not said, or crates/pair_main/out/pair_main
 
-A machine boots the monitor, fills and prints memory, and goes on while two of its hosts fail and the link between them is cut. `asciinema play FILE.cast` shows it again.
+A machine boots the monitor, fills and prints memory, and goes on while one of its hosts is killed by `kill -9` as from another window, the link
+between its hosts is cut, and another one is stopped. `asciinema play FILE.cast` shows it again.
 """
 
 import fcntl
 import json
 import os
 import pty
+import re
 import select
+import signal
 import struct
 import subprocess
 import sys
@@ -20,13 +23,15 @@ import time
 TOP = os.path.dirname(os.path.dirname(os.path.realpath(__file__)))
 COLUMNS, ROWS = 80, 24
 ESCAPE = "\x05"
+# In place of keys: host 0 is killed, whose process the last status has named.
+KILL = None
 # What is waited for, and what is typed then. While the link is cut nothing appears.
 SESSION = [
     ("MONITOR\r\n*", "D 0000"),
     ("\r\n*", f"{ESCAPE}status\r"),
     ("of 100 packets", "F 2000 200F 55"),
     ("\r\n*", "D 2000"),
-    ("\r\n2000 55", f"{ESCAPE}stop 0\r"),
+    ("\r\n2000 55", KILL),
     ("generation 2", "D 2000"),
     ("55\r\n*", f"{ESCAPE}cut\r"),
     ("100 packets", "D 2000"),
@@ -41,10 +46,10 @@ PATIENCE_SECONDS = 60
 
 
 class Recording:
-    """A program in a terminal of its own, and what it has shown so far."""
+    """A program in a terminal of its own, what it has shown so far, and what since it was last waited for."""
 
     def __init__(self, command):
-        self.began, self.events, self.shown = time.time(), [], ""
+        self.began, self.events, self.shown, self.all = time.time(), [], "", ""
         master, slave = pty.openpty()
         self.master = master
         fcntl.ioctl(slave, termios.TIOCSWINSZ, struct.pack("4H", ROWS, COLUMNS, 0, 0))
@@ -67,6 +72,7 @@ class Recording:
             text = some.decode("latin-1")
             self.events.append([round(time.time() - self.began, 3), "o", text])
             self.shown += text
+            self.all += text
         return True
 
     def wait_for(self, text):
@@ -79,8 +85,11 @@ class Recording:
                 sys.exit(f"record.py: {text!r} was not shown; this was: {self.shown[-400:]!r}")
         self.shown = self.shown.partition(text)[2]
 
-    def type(self, keys):
-        """Types as a person does."""
+    def do(self, keys):
+        """Types as a person does, or kills host 0."""
+        if keys is KILL:
+            os.kill(int(re.findall(r"host 0 \(process (\d+)\)", self.all)[-1]), signal.SIGKILL)
+            return
         for key in keys:
             os.write(self.master, key.encode("latin-1"))
             self.look(KEY_SECONDS)
@@ -92,7 +101,7 @@ def main(path, program=None):
     for text, keys in SESSION:
         recording.wait_for(text)
         recording.look(PAUSE_SECONDS)
-        recording.type(keys)
+        recording.do(keys)
     while recording.look(1):
         pass
     if recording.program.wait():
