@@ -93,7 +93,8 @@ def a_line_is_on_the_last_row_and_the_guest_above_it(command):
             lines += ["*" * (number > 0) + DUMP[0], DUMP[1]]
             console.await_that(lambda: console.shown_above().count(b" 00 00\r\n*") == number + 1, "a dump")
         expect(console.texts(), [*lines, "*"][1 - SIZE[0] :], "the rows above, after they have scrolled")
-        console.await_row("^generation 2: ")
+        # Either may be said last: that the pair is whole, or how the process has ended.
+        console.await_row("^generation 2: |^host 0 has ended: killed by signal 9$")
         expect(console.quit(), 0, "the status")
         expect((console.screen.all_scroll(), console.screen.texts()[-1]), (True, ""), "that all rows scroll, and the last one")
         expect(console.texts(), [*lines, "*", "pair> quit"][2 - SIZE[0] :], "the rows above, at the end")
