@@ -20,3 +20,12 @@ pub mod Few
 pub mod Inputs
 pub mod OnDisk
 pub mod Lawful
+pub mod AfterMoves
+pub mod Reached
+pub mod Halted
+pub mod Sizes
+pub mod Owned
+pub mod Copies
+pub mod Responding
+pub mod ImageParts
+pub mod Always

@@ -4,12 +4,12 @@ use Rattle.command_console.specs.Rings.{ComesOutOf, GoesInto, IsKeyboardOf, IsSc
 use Rattle.console_terminal.specs.Listening.{last_strokes}
 use Rattle.console_terminal.specs.declared.listener.Ending.{Ending}
 use Rattle.console_terminal.proofs.Seen.{shown_both}
-use Rattle.pair_lines.specs.Lines.{HasGone, HasShown, IsSameEnd, IsSameStart, came_by, gone_by, heard, keys_in, shown_at}
-use Rattle.pair_lines.specs.declared.keyboard.Keyboard.{Keyboard}
-use Rattle.pair_lines.specs.declared.keyboard.Stroke.{Stroke}
-use Rattle.pair_lines.specs.declared.screen.Screen.{Screen}
-use Rattle.pair_lines.specs.declared.screen.Shown.{Shown}
-use Rattle.pair_lines.proofs.Joined.{keys_in_both}
+use Rattle.console_terminal.specs.Lines.{HasGone, HasShown, IsSameEnd, IsSameStart, came_by, gone_by, heard, keys_in, shown_at}
+use Rattle.console_terminal.specs.declared.keyboard.Keyboard.{Keyboard}
+use Rattle.console_terminal.specs.declared.keyboard.Stroke.{Stroke}
+use Rattle.console_terminal.specs.declared.screen.Screen.{Screen}
+use Rattle.console_terminal.specs.declared.screen.Shown.{Shown}
+use Rattle.console_terminal.proofs.Joined.{keys_in_both}
 use Rattle.pair_protocol.specs.Faithful.{IsPrefix}
 use Rattle.rtrb.specs.Ring.{IsPair, SameConsumer, SameProducer, received, sent}
 use Rattle.std.specs.Global.{Global}

@@ -4,9 +4,9 @@ use Rattle.std.specs.Prelude.{IfSome}
 use Rattle.std.specs.Global.{Global}
 use Rattle.command_console.specs.Rings.{GoesInto}
 use Rattle.command_console.specs.Showing.{HasFinished}
-use Rattle.pair_lines.specs.Lines.{gone_by}
-use Rattle.pair_lines.specs.declared.screen.Screen.{Screen}
-use Rattle.pair_lines.specs.declared.screen.Shown.{Shown}
+use Rattle.console_terminal.specs.Lines.{gone_by}
+use Rattle.console_terminal.specs.declared.screen.Screen.{Screen}
+use Rattle.console_terminal.specs.declared.screen.Shown.{Shown}
 use Rattle.rtrb.specs.Ring.{Finishes, IsFinishedOf, IsPair, SameConsumer, all_sent, received}
 use Rattle.rtrb.specs.declared.AnyItems.{AnyItems}
 use Rattle.rtrb.specs.declared.consumer.Consumer.{Consumer}

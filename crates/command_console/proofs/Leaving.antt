@@ -7,7 +7,7 @@ use Rattle.command_console.specs.Hearing.{HasHeard}
 use Rattle.command_console.specs.declared.hearing.Hearing.{Hearing}
 use Rattle.console_terminal.specs.declared.command.Command.{Command}
 use Rattle.console_terminal.specs.declared.listener.Ending.{Ending}
-use Rattle.pair_lines.specs.declared.keyboard.Stroke.{Stroke}
+use Rattle.console_terminal.specs.declared.keyboard.Stroke.{Stroke}
 use Rattle.rtrb.specs.Ring.{SameProducer}
 use Rattle.rtrb.specs.declared.AnyItems.{AnyItems}
 use Rattle.rtrb.specs.declared.consumer.Consumer.{Consumer}

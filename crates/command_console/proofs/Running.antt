@@ -8,9 +8,9 @@ use Rattle.command_host.specs.Places.{AddsPlaces}
 use Rattle.command_hosts.specs.declared.port.PortEnd.{PortEnd}
 use Rattle.command_hosts.specs.declared.session.HostsEnd.{HostsEnd}
 use Rattle.command_hosts.specs.declared.session.Session.{Session}
-use Rattle.command_input.specs.declared.input.Input.{Input}
+use Rattle.command_io.specs.declared.input.Input.{Input}
 use Rattle.command_line.specs.declared.console_order.ConsoleOrder.{ConsoleOrder}
-use Rattle.command_saving.specs.Saving.{images_of}
+use Rattle.command_io.specs.Saving.{images_of}
 use Rattle.command_console.specs.Console.{HasRun, OpensFor}
 use Rattle.command_console.specs.Sitting.{AreOpen, HasSat}
 use Rattle.command_console.specs.declared.console.Streams.{Streams}

@@ -15,7 +15,7 @@ use Rattle.command_hosts.specs.declared.session.HostsEnd.{HostsEnd}
 use Rattle.command_hosts.specs.declared.session.HostsEnd.TheVariants.{NoHosts, Settled, Silent, Stopped, UserQuit}
 use Rattle.command_hosts.specs.declared.session.Session.{Session}
 use Rattle.command_hosts.specs.declared.session.SessionParts.{SessionParts}
-use Rattle.command_input.specs.Typed.{typed_in}
+use Rattle.command_io.specs.Typed.{typed_in}
 use Rattle.command_console.proofs.Typing.{keys_in_presses, same_ring}
 use Rattle.command_console.specs.Hearing.{LinesType, presses}
 use Rattle.command_console.specs.Leaving as leaving
@@ -41,11 +41,11 @@ use Rattle.console_terminal.specs.declared.port.Port.{Port}
 use Rattle.outside_switch.proofs.Passing.{typed_both}
 use Rattle.outside_switch.specs.Passing as passing
 use Rattle.outside_switch.specs.Passing.{Passed, typed_at}
-use Rattle.pair_lines.specs.Lines.{HasGone, HasShown, IsSameEnd, IsSameStart, came_by, found, gone_by, heard, keys_in, shown_at}
-use Rattle.pair_lines.specs.declared.keyboard.Keyboard.{Keyboard}
-use Rattle.pair_lines.specs.declared.keyboard.Stroke.{Stroke}
-use Rattle.pair_lines.specs.declared.screen.Screen.{Screen}
-use Rattle.pair_lines.specs.declared.screen.Shown.{Shown}
+use Rattle.console_terminal.specs.Lines.{HasGone, HasShown, IsSameEnd, IsSameStart, came_by, found, gone_by, heard, keys_in, shown_at}
+use Rattle.console_terminal.specs.declared.keyboard.Keyboard.{Keyboard}
+use Rattle.console_terminal.specs.declared.keyboard.Stroke.{Stroke}
+use Rattle.console_terminal.specs.declared.screen.Screen.{Screen}
+use Rattle.console_terminal.specs.declared.screen.Shown.{Shown}
 use Rattle.pair_protocol.specs.Faithful.{IsPrefix}
 use Rattle.rtrb.specs.Ring.{SameConsumer, received, sent}
 use Rattle.rtrb.specs.declared.AnyItems.{AnyItems}

@@ -3,10 +3,10 @@ use Rattle.std.proofs.Common.{ℕ, ◌≡◌, ◌≤◌, ◌<◌, ◌-◌, List,
 use Rattle.std.proofs.Math.ListN.{get_or}
 use Rattle.std.proofs.lemmas.List.{take_all}
 use Rattle.std.specs.Prelude.{drop, take}
-use Rattle.command_input.specs.Typed.{typed_by, typed_in, with_byte}
+use Rattle.command_io.specs.Typed.{typed_by, typed_in, with_byte}
 use Rattle.command_console.specs.Hearing.{HasPressed, LinesType, presses}
-use Rattle.pair_lines.specs.Lines.{found, keys_in}
-use Rattle.pair_lines.specs.declared.keyboard.Stroke.{Stroke}
+use Rattle.console_terminal.specs.Lines.{found, keys_in}
+use Rattle.console_terminal.specs.declared.keyboard.Stroke.{Stroke}
 use Rattle.rtrb.specs.Ring.{SameProducer, sent}
 use Rattle.rtrb.specs.declared.AnyItems.{AnyItems}
 use Rattle.rtrb.specs.declared.producer.Producer.{Producer}

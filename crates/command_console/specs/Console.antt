@@ -7,16 +7,16 @@ use Rattle.command_hosts.specs.Floods.{unheard}
 use Rattle.command_hosts.specs.Runs.{Ended}
 use Rattle.command_hosts.specs.declared.session.HostsEnd.{HostsEnd}
 use Rattle.command_hosts.specs.declared.session.Session.{Session}
-use Rattle.command_input.specs.Inputs.{IsInput}
-use Rattle.command_input.specs.declared.input.Input.{Input}
+use Rattle.command_io.specs.Inputs.{IsInput}
+use Rattle.command_io.specs.declared.input.Input.{Input}
 use Rattle.command_line.specs.declared.console_order.ConsoleOrder.{ConsoleOrder}
-use Rattle.command_saving.specs.Saving.{images_of}
+use Rattle.command_io.specs.Saving.{images_of}
 use Rattle.command_console.specs.Sitting.{HasAppeared, WasHeard, passed_to}
 use Rattle.command_console.specs.declared.console.Streams.{Streams}
 use Rattle.command_console.specs.declared.teller.Teller.{Teller}
 use Rattle.console_terminal.specs.Greeting.{greeting_of}
 use Rattle.console_terminal.specs.Screen.{Piece, bytes_of, texts_of}
-use Rattle.outside_devices.specs.Held.{at_boot}
+use Rattle.outside_switch.specs.Held.{at_boot}
 use Rattle.script_language.specs.Live.{live_script_of}
 use Rattle.shared_disk.specs.Records.{IsAtBoot}
 use Rattle.shared_disk.specs.declared.store.Record.{Record}

@@ -1,14 +1,14 @@
 -- What the thread that hears has handed on when it ends.
 use Rattle.std.specs.Prelude.{◌≡◌, ℕ, Bool, true, false, List, [], ◌∷◌, ◌++◌, map, Option, Some}
 use Rattle.std.specs.Global.{Global}
-use Rattle.command_input.specs.Typed.{typed_in}
+use Rattle.command_io.specs.Typed.{typed_in}
 use Rattle.command_console.specs.declared.hearing.Hearing.{Hearing}
 use Rattle.console_terminal.specs.Listening.{Listens}
 use Rattle.console_terminal.specs.declared.command.Command.{Command}
 use Rattle.console_terminal.specs.declared.listener.Ending.{Ending}
-use Rattle.pair_lines.specs.Lines.{found}
-use Rattle.pair_lines.specs.declared.keyboard.Stroke.{Stroke}
-use Rattle.pair_lines.specs.declared.keyboard.Stroke.TheVariants.{Key}
+use Rattle.console_terminal.specs.Lines.{found}
+use Rattle.console_terminal.specs.declared.keyboard.Stroke.{Stroke}
+use Rattle.console_terminal.specs.declared.keyboard.Stroke.TheVariants.{Key}
 use Rattle.rtrb.specs.Ring.{SameProducer, sent}
 use Rattle.rtrb.specs.declared.AnyItems.{AnyItems}
 use Rattle.rtrb.specs.declared.producer.Producer.{Producer}

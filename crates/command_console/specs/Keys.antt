@@ -2,7 +2,7 @@
 use Rattle.std.specs.Prelude.{ℕ, List, None}
 use Rattle.console_terminal.specs.Typing.{Place, strokes_at}
 use Rattle.console_terminal.specs.declared.port.Port.{Port}
-use Rattle.pair_lines.specs.Lines.{keys_in}
+use Rattle.console_terminal.specs.Lines.{keys_in}
 
 -- one begins at the terminal of port 0, with no command line open
 abbrev pub at_first : Place

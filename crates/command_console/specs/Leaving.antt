@@ -21,8 +21,8 @@ use Rattle.console_terminal.specs.declared.display.Display.{Display}
 use Rattle.console_terminal.specs.declared.keys.TerminalKeys.{TerminalKeys}
 use Rattle.console_terminal.specs.declared.listener.Ending.{Ending}
 use Rattle.console_terminal.specs.declared.port.Port.{Port}
-use Rattle.pair_lines.specs.Lines.{came_by, gone_by}
-use Rattle.pair_lines.specs.declared.keyboard.Keyboard.{Keyboard}
+use Rattle.console_terminal.specs.Lines.{came_by, gone_by}
+use Rattle.console_terminal.specs.declared.keyboard.Keyboard.{Keyboard}
 use Rattle.pair_protocol.specs.Faithful.{IsPrefix}
 use Rattle.rtrb.specs.Ring.{received, sent}
 

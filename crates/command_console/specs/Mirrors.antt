@@ -2,7 +2,7 @@
 use Rattle.std.specs.Prelude.{◌≡◌, ◌⊎◌, ℕ, IsTrue, List, [], ◌∷◌, ◌++◌}
 use Rattle.command_console.specs.declared.mirror.Mirror.{Mirror}
 use Rattle.command_console.specs.declared.mirror.Mirrored.{Mirrored}
-use Rattle.command_saving.specs.Saving.{images_of}
+use Rattle.command_io.specs.Saving.{images_of}
 use Rattle.disk_dcdd.specs.declared.address.SectorAddress.{SectorAddress}
 use Rattle.disk_dcdd.specs.declared.sector.SectorWrite.{SectorWrite}
 use Rattle.rtrb.specs.Ring.{known_free, known_items, received, sent}

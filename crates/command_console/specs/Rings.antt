@@ -1,9 +1,9 @@
 -- The rings of a console before anything has come through them.
 use Rattle.std.specs.Prelude.{◌≡◌, [], Option, Some, None}
-use Rattle.pair_lines.specs.declared.keyboard.Keyboard.{Keyboard}
-use Rattle.pair_lines.specs.declared.keyboard.Stroke.{Stroke}
-use Rattle.pair_lines.specs.declared.screen.Screen.{Screen}
-use Rattle.pair_lines.specs.declared.screen.Shown.{Shown}
+use Rattle.console_terminal.specs.declared.keyboard.Keyboard.{Keyboard}
+use Rattle.console_terminal.specs.declared.keyboard.Stroke.{Stroke}
+use Rattle.console_terminal.specs.declared.screen.Screen.{Screen}
+use Rattle.console_terminal.specs.declared.screen.Shown.{Shown}
 use Rattle.rtrb.specs.Ring.{IsPair, received, sent}
 use Rattle.std.specs.Global.{Global}
 use Rattle.rtrb.specs.declared.AnyItems.{AnyItems}

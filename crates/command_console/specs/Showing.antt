@@ -1,8 +1,8 @@
 -- What the thread that shows has written when it ends.
 use Rattle.std.specs.Prelude.{◌≡◌, Some}
 use Rattle.std.specs.Global.{Global}
-use Rattle.pair_lines.specs.declared.screen.Screen.{Screen}
-use Rattle.pair_lines.specs.declared.screen.Shown.{Shown}
+use Rattle.console_terminal.specs.declared.screen.Screen.{Screen}
+use Rattle.console_terminal.specs.declared.screen.Shown.{Shown}
 use Rattle.rtrb.specs.Ring.{Finishes}
 use Rattle.rtrb.specs.declared.AnyItems.{AnyItems}
 use Rattle.rtrb.specs.declared.finished.Finished.{Finished}

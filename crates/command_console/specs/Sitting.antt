@@ -8,7 +8,7 @@ use Rattle.command_hosts.specs.Runs.{Ended}
 use Rattle.command_hosts.specs.declared.session.HostsEnd.{HostsEnd}
 use Rattle.command_hosts.specs.declared.session.HostsEnd.TheVariants.{NoHosts, Settled, Silent, Stopped, UserQuit}
 use Rattle.command_hosts.specs.declared.session.Session.{Session}
-use Rattle.command_input.specs.Typed.{typed_in}
+use Rattle.command_io.specs.Typed.{typed_in}
 use Rattle.command_console.specs.declared.console.Streams.{Streams}
 use Rattle.command_console.specs.declared.session.Ends.{Ends}
 use Rattle.command_console.specs.declared.session.Left.{Left}
@@ -18,8 +18,8 @@ use Rattle.console_terminal.specs.Typing.{commands_at}
 use Rattle.console_terminal.specs.declared.port.Port.{Port}
 use Rattle.outside_switch.specs.Passing as passing
 use Rattle.outside_switch.specs.Passing.{Passed, typed_at}
-use Rattle.pair_lines.specs.Lines.{shown_at}
-use Rattle.pair_lines.specs.declared.screen.Shown.{Shown}
+use Rattle.console_terminal.specs.Lines.{shown_at}
+use Rattle.console_terminal.specs.declared.screen.Shown.{Shown}
 use Rattle.pair_protocol.specs.Faithful.{IsPrefix}
 use Rattle.rtrb.specs.Ring.{known_free}
 use Rattle.script_language.specs.declared.line.Line.{Line}

@@ -1,7 +1,7 @@
 //! A console whose hosts are processes, from the files that come first to the disks that are saved.
 ghost use Rattle.std.specs.Prelude.{◌≡◌, ◌⊎◌, IfErr, IfOk, OnOk};
 ghost use Rattle.std.specs.Io.KnownBytes.{Appends};
-ghost use Rattle.command_ending.specs.declared.failure.Failure.TheVariants.{InputOrOutput, OutOfMemory};
+ghost use Rattle.command_io.specs.declared.failure.Failure.TheVariants.{InputOrOutput, OutOfMemory};
 ghost use Rattle.console_terminal.specs.Greeting.{greeting_of};
 ghost use Rattle.command_console.specs.Console.{HasRun, HasServed, OpensFor};
 ghost use Rattle.command_console.specs.Sitting.{AreOpen};
@@ -12,15 +12,12 @@ use crate::session::{Desktop, Ends, Left, sit};
 use crate::store::mirrored_store;
 use crate::supervisor::Supervisor;
 use crate::teller::Teller;
-use command_ending::Failure;
 use command_host::{Pipes, add_places, read_opening};
 use command_hosts::{HostsEnd, PortEnd, Session};
-use command_input::{Input, Language, read_input};
+use command_io::{Failure, Input, Language, read_input, save_disks};
 use command_line::ConsoleOrder;
-use command_saving::save_disks;
-use console_terminal::{Signs, greeting};
+use console_terminal::{Keyboard, Screen, Signs, greeting};
 use i8080_words::R;
-use pair_lines::{Keyboard, Screen};
 use rtrb::RingBuffer;
 use script_language::Script;
 use std::alloc::{AllocError, Global};

@@ -1,14 +1,13 @@
 //! The thread that hears what is typed, from its start to its end.
 ghost use Rattle.std.specs.Prelude.{◌≡◌, ◌≤◌, ◌<◌, ◌∷◌, [], IfOk, IfSome, IsTrue};
-ghost use Rattle.command_input.specs.Typed.{typed_by};
+ghost use Rattle.command_io.specs.Typed.{typed_by};
 ghost use Rattle.command_console.specs.Hearing.{HasHeard, HasPressed, LinesType};
 ghost use Rattle.rtrb.specs.Ring.{ProducerLooked, known_free};
 
-use command_ending::Failure;
 use command_hosts::Quit;
-use console_terminal::{Ending, Interpreter, KeySource, Listener, Signs, listen};
+use command_io::Failure;
+use console_terminal::{Ending, Interpreter, KeySource, Listener, Signs, Stroke, listen};
 use pair_events::Event;
-use pair_lines::Stroke;
 use rtrb::Producer;
 use script_language::Line;
 use std::snapshot::Snapshot;

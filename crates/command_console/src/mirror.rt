@@ -6,7 +6,7 @@ ghost use Rattle.shared_disk.specs.Arrivals.{after_put};
 ghost use Rattle.shared_disk.specs.Failing.{before_failures};
 ghost use Rattle.shared_disk.specs.Records as table;
 
-use command_saving::images_of;
+use command_io::images_of;
 use disk_dcdd::{SectorAddress, SectorWrite};
 use i8080_words::{Fault, R};
 use rtrb::{Consumer, Producer};

@@ -3,7 +3,7 @@ ghost use Rattle.std.specs.Prelude.{◌≡◌, ◌≤◌, IfOk, OnOk};
 ghost use Rattle.command_console.specs.Leaving.{HasLeft, HaveBegun, MayHear, MayLeave, WasHeard, WasHeardIf};
 ghost use Rattle.command_console.specs.Rings.{ComesOutOf};
 ghost use Rattle.command_console.specs.Sitting.{AreOpen, HasSat};
-ghost use Rattle.pair_lines.specs.Lines.{came_by};
+ghost use Rattle.console_terminal.specs.Lines.{came_by};
 ghost use Rattle.pair_protocol.specs.Faithful.{IsPrefix};
 ghost use Rattle.rtrb.specs.Ring.{IsPair, SameConsumer, SameProducer, known_free, received, sent};
 
@@ -14,12 +14,12 @@ use crate::showing::{Showing, finish, is_all, start_showing};
 use crate::supervisor::Supervisor;
 use crate::teller::Teller;
 use crate::waking::WakingKeys;
-use command_ending::Failure;
 use command_hosts::{HostsEnd, Quit, Session, SessionParts, run_hosts};
+use command_io::Failure;
 use console_terminal::{
-    Desk, Display, Ending, Interpreter, KeySource, Listener, Note, Port, Signs, TerminalKeys,
+    Desk, Display, Ending, Interpreter, KeySource, Keyboard, Listener, Note, Port, Shown, Signs,
+    Stroke, TerminalKeys,
 };
-use pair_lines::{Keyboard, Shown, Stroke};
 use rtrb::{Consumer, Producer};
 use script_language::Line;
 use shared_disk::SharedDisk;

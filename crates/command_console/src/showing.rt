@@ -4,9 +4,8 @@ ghost use Rattle.command_console.specs.Showing.{HasFinished};
 ghost use Rattle.console_terminal.specs.Screen.{IsClear, Wrote};
 ghost use Rattle.rtrb.specs.Ring.{IsFinishedOf, all_sent, received};
 
-use command_ending::Failure;
-use console_terminal::{Display, Signs, show_all};
-use pair_lines::{Screen, Shown};
+use command_io::Failure;
+use console_terminal::{Display, Screen, Shown, Signs, show_all};
 use rtrb::{Consumer, Finished};
 use std::io::{self, Write};
 use std::snapshot::Snapshot;

@@ -3,7 +3,7 @@ ghost use Rattle.std.specs.Prelude.{IfOk};
 ghost use Rattle.shared_disk.specs.Records.{HasWholeSectors, IsAtBoot, IsUnwritten};
 
 use crate::mirror::{Mirror, Mirrored, Shelf};
-use command_input::Input;
+use command_io::Input;
 use i8080_words::R;
 use rtrb::RingBuffer;
 use shared_disk::{MemoryStore, SectorStore, SharedDisk};

@@ -12,8 +12,7 @@ ghost use Rattle.rtrb.specs.Ring.{received};
 use crate::booting::{Booted, board_of, host_of};
 use crate::opening::read_opening;
 use clone_state::Copies;
-use command_ending::Failure;
-use command_input::{Language, read_input};
+use command_io::{Failure, Language, read_input};
 use command_line::{HostOrder, HostRole};
 use event_callbacks::{Callbacks, Completes, plain_completions};
 use frame_streams::{

@@ -3,7 +3,7 @@
 ghost use Rattle.std.specs.Prelude.{◌≡◌, IfOk, length};
 ghost use Rattle.std.specs.Io.KnownBytes.{Consumes};
 
-use command_ending::Failure;
+use command_io::Failure;
 use std::alloc::Global;
 use std::io::Read;
 

@@ -9,8 +9,8 @@ use Rattle.outside_switch.specs.Heeds.{HasRoomFor}
 use Rattle.outside_switch.specs.Passing.{Passed, Shown, passed_of, typed_at}
 use Rattle.outside_switch.specs.declared.heard.Heard.{Heard}
 use Rattle.outside_switch.specs.declared.heard.Heard.TheVariants as heard
-use Rattle.pair_lines.specs.Lines.{HasRoom, HasShown, IsSameStart, with_byte}
-use Rattle.pair_lines.specs.declared.screen.Screen.{Screen}
+use Rattle.console_terminal.specs.Lines.{HasRoom, HasShown, IsSameStart, with_byte}
+use Rattle.console_terminal.specs.declared.screen.Screen.{Screen}
 use Rattle.command_hosts.proofs.Cutting.{cut_on, cut_paid, cut_rested, cut_taken}
 use Rattle.command_hosts.proofs.Passing.{looked, shows_both, shows_byte, shows_none, shows_typings, typed_here, typed_there}
 use Rattle.command_hosts.proofs.Typing.{types_both, types_rest}

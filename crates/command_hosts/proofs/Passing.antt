@@ -3,9 +3,9 @@ use Rattle.std.proofs.Common.{ℕ, ◌≡◌, Bool, true, false, List, [], ◌�
 use Rattle.std.specs.Prelude.{◌==◌}
 use Rattle.outside_switch.proofs.Passing.{shown_both}
 use Rattle.outside_switch.specs.Passing.{Passed, Shown, shown_at, typed_at}
-use Rattle.pair_lines.proofs.Same.{same_start, same_start_on}
-use Rattle.pair_lines.specs.Lines.{HasShown, IsSameStart, with_byte}
-use Rattle.pair_lines.specs.declared.screen.Screen.{Screen}
+use Rattle.console_terminal.proofs.Same.{same_start, same_start_on}
+use Rattle.console_terminal.specs.Lines.{HasShown, IsSameStart, with_byte}
+use Rattle.console_terminal.specs.declared.screen.Screen.{Screen}
 use Rattle.command_hosts.specs.Ports.{typings}
 use Rattle.command_hosts.specs.Runs.{Shows}
 

@@ -4,9 +4,9 @@ use Rattle.outside_switch.proofs.Going.{still, then_with}
 use Rattle.outside_switch.specs.Goes.{GoesWith}
 use Rattle.outside_switch.specs.Meets.{Seen}
 use Rattle.outside_switch.specs.Passing.{Typed}
-use Rattle.pair_lines.proofs.Same.{same_end, same_end_on}
-use Rattle.pair_lines.specs.Lines.{Hears, IsSameEnd, found, heard}
-use Rattle.pair_lines.specs.declared.keyboard.Keyboard.{Keyboard}
+use Rattle.console_terminal.proofs.Same.{same_end, same_end_on}
+use Rattle.console_terminal.specs.Lines.{Hears, IsSameEnd, found, heard}
+use Rattle.console_terminal.specs.declared.keyboard.Keyboard.{Keyboard}
 use Rattle.command_hosts.specs.Ports.{Rests, Types, TypesKeys, typings}
 use Rattle.command_hosts.specs.declared.port.PortEnd.{PortEnd}
 

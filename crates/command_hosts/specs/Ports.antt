@@ -1,11 +1,11 @@
 -- What a user has typed at one port, and which keys go to the live host.
 use Rattle.std.specs.Prelude.{◌≡◌, ◌⊎◌, ◌<◌, ◌≤◌, ◌+◌, max, ℕ, true, false, List, [], ◌∷◌, ◌++◌, None}
-use Rattle.outside_devices.specs.Calls.{key_answer}
+use Rattle.outside_switch.specs.DeviceCalls.{key_answer}
 use Rattle.outside_switch.specs.Goes.{GoesWith, SendsKey}
 use Rattle.outside_switch.specs.Meets.{Seen}
 use Rattle.outside_switch.specs.Passing.{Passed, Typed}
-use Rattle.pair_lines.specs.Lines.{IsSameEnd, found, heard}
-use Rattle.pair_lines.specs.declared.keyboard.Keyboard.{Keyboard}
+use Rattle.console_terminal.specs.Lines.{IsSameEnd, found, heard}
+use Rattle.console_terminal.specs.declared.keyboard.Keyboard.{Keyboard}
 use Rattle.command_hosts.specs.declared.port.PortEnd.{PortEnd}
 
 -- the keys that were typed at the terminal are those that came from the keyboard, in order and each once: one may wait, since

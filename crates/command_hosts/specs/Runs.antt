@@ -8,8 +8,8 @@ use Rattle.outside_switch.specs.Passing.{Passed, shown_at, typed_at}
 use Rattle.outside_switch.specs.declared.heard.Heard.{Heard}
 use Rattle.outside_switch.specs.declared.heard.Heard.TheVariants.{Shown}
 use Rattle.outside_switch.specs.declared.line.HostLine.{HostLine}
-use Rattle.pair_lines.specs.Lines.{HasRoom, HasShown, IsSameStart}
-use Rattle.pair_lines.specs.declared.screen.Screen.{Screen}
+use Rattle.console_terminal.specs.Lines.{HasRoom, HasShown, IsSameStart}
+use Rattle.console_terminal.specs.declared.screen.Screen.{Screen}
 use Rattle.command_hosts.specs.Judging.{FloodersAreCut}
 use Rattle.command_hosts.specs.Ports.{BeginsAt, IsOver, Types}
 use Rattle.command_hosts.specs.declared.live.Live.{Live}

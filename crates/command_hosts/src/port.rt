@@ -4,8 +4,8 @@ ghost use Rattle.outside_switch.specs.Goes.{GoesWith};
 ghost use Rattle.outside_switch.specs.Meets.{seen};
 ghost use Rattle.command_hosts.specs.Ports.{BeginsAt, HearsTaken, IsOver, Rests, SendsNext, Types, TypesKeys};
 
+use console_terminal::Keyboard;
 use outside_switch::Switch;
-use pair_lines::Keyboard;
 use shared_disk::SectorStore;
 use std::alloc::Global;
 

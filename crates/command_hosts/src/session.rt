@@ -1,7 +1,7 @@
 //! The outside of a pair: its switch, the user's ends of both ports, the screen, and what the turns remember.
 ghost use Rattle.std.specs.Prelude.{◌≡◌, [], IfErr, IfOk, IsOkUnless, OnErr, OnOk, Some, if◌then◌else◌, length, nat_lt};
 ghost use Rattle.i8080_words.specs.declared.refusal.Fault.TheVariants.{OutOfMemory, Unknown};
-ghost use Rattle.outside_devices.specs.Held.{at_boot};
+ghost use Rattle.outside_switch.specs.Held.{at_boot};
 ghost use Rattle.outside_switch.specs.Goes.{Adds};
 ghost use Rattle.outside_switch.specs.declared.line.HostLine.{HostLine};
 ghost use Rattle.outside_switch.specs.Meets.{seen};
@@ -10,9 +10,9 @@ ghost use Rattle.command_hosts.specs.Floods.{count_at, unheard};
 use crate::flood::Flood;
 use crate::port::PortEnd;
 use crate::steward::Steward;
+use console_terminal::{Keyboard, Screen};
 use i8080_words::R;
 use outside_switch::Switch;
-use pair_lines::{Keyboard, Screen};
 use rtrb::{Consumer, Producer};
 use shared_disk::{SectorStore, SharedDisk};
 use std::alloc::Global;

@@ -14,9 +14,9 @@ use Rattle.clap.specs.declared.error.kind.ErrorKind.TheVariants as kind
 use Rattle.clap.specs.declared.parser.matches.ArgMatches.{ArgMatches}
 use Rattle.clap.specs.declared.parser.matches.ArgMatches.TheViews.{out-ArgMatches, out-SubCommand}
 use Rattle.clap.specs.declared.parser.matches.SubCommand.{SubCommand}
-use Rattle.command_ending.specs.Statuses.{is_of_command_line}
-use Rattle.command_ending.specs.declared.failure.Failure.{Failure}
-use Rattle.command_ending.specs.declared.failure.Failure.TheVariants as failure
+use Rattle.command_io.specs.Statuses.{is_of_command_line}
+use Rattle.command_io.specs.declared.failure.Failure.{Failure}
+use Rattle.command_io.specs.declared.failure.Failure.TheVariants as failure
 use Rattle.command_line.proofs.Table.{is_free-pair, is_simple-pair}
 use Rattle.command_line.specs.Commands.{IsCommand, pair_app}
 use Rattle.command_line.specs.Lists.{lists_hold}

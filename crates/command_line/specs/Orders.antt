@@ -4,9 +4,9 @@ use Rattle.std.specs.Option.{option_map_or}
 use Rattle.std.specs.Str.Parse.{IsNumeral, digits_value, without_leading_plus}
 use Rattle.clap.specs.Words.{IsAmong, Row, Text, fault_of, first_of, one_of, subcommand_of}
 use Rattle.clap.specs.declared.error.kind.ErrorKind.TheVariants as kind
-use Rattle.command_ending.specs.Statuses.{is_of_command_line}
-use Rattle.command_ending.specs.declared.failure.Failure.{Failure}
-use Rattle.command_ending.specs.declared.failure.Failure.TheVariants as failure
+use Rattle.command_io.specs.Statuses.{is_of_command_line}
+use Rattle.command_io.specs.declared.failure.Failure.{Failure}
+use Rattle.command_io.specs.declared.failure.Failure.TheVariants as failure
 use Rattle.command_line.specs.Commands.{pair_app}
 use Rattle.command_line.specs.Lists.{lists_hold, pieces_in}
 use Rattle.command_line.specs.declared.console_order.ConsoleOrder.{ConsoleOrder}

@@ -1,7 +1,7 @@
 //! The command line.
 ghost use Rattle.std.specs.Prelude.{◌≡◌, ◌≢◌, [], IfErr, IfOk, Some, codes, map, string_bytes, true, false};
 ghost use Rattle.clap.specs.Words.{HasKind, fault_of, found_of, kind_of, one_of, rows_of, subcommand_of, subcommand_rows_of};
-ghost use Rattle.command_ending.specs.Statuses.{is_of_command_line};
+ghost use Rattle.command_io.specs.Statuses.{is_of_command_line};
 ghost use Rattle.command_line.specs.Commands.{pair_app};
 ghost use Rattle.command_line.specs.Lists.{pieces_in};
 ghost use Rattle.command_line.specs.Orders.{Asks, AsksHelp, HasFound, IsAsked, IsConsoleOrdered, IsFlag, IsGiven, IsHostOrdered, IsOrdered, IsRefused, command_word, drive_of, drives_in, fate_of, role_of, text_given};
@@ -13,7 +13,7 @@ use crate::lists::{given_in, lists_hold, pieces_in};
 use crate::live_order::LiveOrder;
 use clap::error::ErrorKind;
 use clap::{ArgMatches, Error};
-use command_ending::Failure;
+use command_io::Failure;
 use pair_threads::Fate;
 use std::alloc::{AllocError, Global};
 

@@ -13,12 +13,12 @@ use Rattle.guest_board.specs.Inputs.{some_altair}
 use Rattle.guest_lockstep.specs.Machine.{Machine, booted_from}
 use Rattle.log_entry.specs.declared.entry.Entry.{Entry}
 use Rattle.command_live.specs.Living.{AreBooted, AreTyped, BeginsAs, EndsOf, HasEnded, PrintsLive, PrintsNone, PrintsScreens, Tells, TellsEnd, TellsScreens, end_text}
-use Rattle.command_input.specs.Typed.{typed_by, typed_in, with_byte}
-use Rattle.command_saving.specs.Saving.{AreWhole, are_attached, images_of}
-use Rattle.command_ending.specs.Reports.{AddsLine}
-use Rattle.command_ending.specs.declared.failure.Failure.{Failure}
-use Rattle.command_ending.specs.declared.failure.Failure.TheVariants as failure
-use Rattle.command_ending.proofs.Handing.{settled_kept, settled_line}
+use Rattle.command_io.specs.Typed.{typed_by, typed_in, with_byte}
+use Rattle.command_io.specs.Saving.{AreWhole, are_attached, images_of}
+use Rattle.command_io.specs.Reports.{AddsLine}
+use Rattle.command_io.specs.declared.failure.Failure.{Failure}
+use Rattle.command_io.specs.declared.failure.Failure.TheVariants as failure
+use Rattle.command_io.proofs.Handing.{settled_kept, settled_line}
 use Rattle.command_line.specs.declared.live_order.LiveOrder.{LiveOrder}
 use Rattle.pair_threads.specs.Ending.{EndsBy, WonBy}
 use Rattle.pair_threads.specs.declared.gate.Who.{Who}

@@ -12,11 +12,11 @@ use Rattle.i8080_words.specs.declared.refusal.Fault.{Fault}
 use Rattle.i8080_words.specs.declared.refusal.Fault.TheVariants as fault
 use Rattle.log_entry.specs.declared.entry.Entry.{Entry}
 use Rattle.pair_events.specs.Printed.{accepted_text}
-use Rattle.command_ending.specs.Reports.{AddsLine}
-use Rattle.command_ending.specs.declared.failure.Failure.{Failure}
-use Rattle.command_ending.specs.declared.failure.Failure.TheVariants.{OutOfMemory, InputOrOutput, Stalled}
-use Rattle.command_saving.specs.Saving.{AreWhole, are_attached, images_of}
-use Rattle.command_input.specs.Typed.{typed_in}
+use Rattle.command_io.specs.Reports.{AddsLine}
+use Rattle.command_io.specs.declared.failure.Failure.{Failure}
+use Rattle.command_io.specs.declared.failure.Failure.TheVariants.{OutOfMemory, InputOrOutput, Stalled}
+use Rattle.command_io.specs.Saving.{AreWhole, are_attached, images_of}
+use Rattle.command_io.specs.Typed.{typed_in}
 use Rattle.command_line.specs.declared.live_order.LiveOrder.{LiveOrder}
 use Rattle.pair_threads.specs.Ending.{EndsBy, WonBy}
 use Rattle.pair_threads.specs.declared.gate.Who.{Who}

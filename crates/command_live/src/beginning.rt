@@ -3,11 +3,11 @@ ghost use Rattle.std.specs.Prelude.{◌≡◌, IfOk};
 ghost use Rattle.event_callbacks.specs.declared.devices.TheConstants.{SENT, SECTOR, WRITTEN};
 ghost use Rattle.event_callbacks.specs.Keeping.{Keeps};
 ghost use Rattle.guest_board.specs.Guest.{guest_at_boot};
-ghost use Rattle.command_input.specs.Typed.{typed_by, typed_in};
+ghost use Rattle.command_io.specs.Typed.{typed_by, typed_in};
 ghost use Rattle.command_live.specs.Living.{AreTyped, BeginsAs};
 ghost use Rattle.shared_disk.specs.Records.{HasWholeSectors, IsAtBoot, IsUnwritten};
 
-use command_input::Input;
+use command_io::Input;
 use event_callbacks::{Callbacks, Completes};
 use guest_board::{Board, Setup};
 use i8080_words::R;

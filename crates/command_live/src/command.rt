@@ -1,16 +1,14 @@
 //! A pair on threads that is run, and printed.
 ghost use Rattle.std.specs.Prelude.{◌≡◌, IfErr, IsTrue, OnOk};
 ghost use Rattle.std.specs.Io.KnownBytes.{Appends};
-ghost use Rattle.command_ending.specs.declared.failure.Failure.TheVariants as failure;
-ghost use Rattle.command_input.specs.Typed.{typed_in};
+ghost use Rattle.command_io.specs.declared.failure.Failure.TheVariants as failure;
+ghost use Rattle.command_io.specs.Typed.{typed_in};
 ghost use Rattle.command_live.specs.Living.{PrintsLive};
-ghost use Rattle.command_saving.specs.Saving.{are_attached};
+ghost use Rattle.command_io.specs.Saving.{are_attached};
 
 use crate::live;
-use command_ending::{Failure, Report};
-use command_input::Input;
+use command_io::{Failure, Input, Report, are_attached};
 use command_line::LiveOrder;
-use command_saving::are_attached;
 use event_callbacks::plain_completions;
 use std::alloc::Global;
 use std::io::Write;

@@ -2,17 +2,15 @@
 ghost use Rattle.std.specs.Prelude.{◌≡◌, ◌∷◌, [], ℕ, IfOk, List, Option, map};
 ghost use Rattle.event_callbacks.specs.declared.devices.TheConstants.{SENT, SECTOR, WRITTEN};
 ghost use Rattle.event_callbacks.specs.Keeping.{Keeps};
-ghost use Rattle.command_ending.specs.Reports.{handed};
-ghost use Rattle.command_input.specs.Typed.{typed_in};
+ghost use Rattle.command_io.specs.Reports.{handed};
+ghost use Rattle.command_io.specs.Typed.{typed_in};
 ghost use Rattle.command_live.specs.Living.{HasEnded, PrintsNone, Tells, TellsScreens, end_text, failure_of};
 ghost use Rattle.pair_threads.specs.Ending.{WonBy};
 
 use crate::beginning::{Asked, STEPS, workers_of};
 use altair_laws::altairs_are_lawful;
-use command_ending::{Failure, Report};
-use command_input::Input;
+use command_io::{Failure, Input, Report, images_of};
 use command_line::LiveOrder;
-use command_saving::images_of;
 use event_callbacks::Completes;
 use guest_board::Board;
 use guest_lockstep::Lockstep;

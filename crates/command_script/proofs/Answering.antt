@@ -4,23 +4,23 @@ use Rattle.std.specs.Prelude.{◌⊎◌, IfErr, take}
 use Rattle.std.specs.Result.{IsErrAnd}
 use Rattle.std.specs.Io.KnownBytes.{Appends, Keeps, append_known}
 use Rattle.std.proofs.KnownBytes.{Appends-trans}
-use Rattle.altair_copies.specs.Copies.{image_copy}
+use Rattle.altair_laws.specs.Copies.{image_copy}
 use Rattle.disk_dcdd.specs.declared.sector.SectorWrite.{SectorWrite}
 use Rattle.guest_board.specs.Guest.{altair}
 use Rattle.ft_world.specs.Applies.{failures_told}
 use Rattle.guest_lockstep.specs.Machine.{Machine}
 use Rattle.pair_protocol.specs.Copying.{Copying}
 use Rattle.pair_protocol.specs.World.{World}
-use Rattle.command_ending.proofs.Handing.{keeps-appends, settled, settled_kept, settled_line}
+use Rattle.command_io.proofs.Handing.{keeps-appends, settled, settled_kept, settled_line}
 use Rattle.command_script.specs.Answering.{AddsAnswers, Answered, AnswersAll, Asks, Booted, ByRow, Happen, NoLine, Nothing, Replies, Tells, text_of}
 use Rattle.command_script.specs.Printing.{AnswersBut, AnswersLines, HandsNone, IsSameAfter, Prints, PrintsBut, PrintsVerdict}
-use Rattle.command_ending.specs.Reports.{AddsLine}
-use Rattle.command_ending.specs.declared.failure.Failure.{Failure}
-use Rattle.command_ending.specs.declared.failure.Failure.TheVariants as failure
+use Rattle.command_io.specs.Reports.{AddsLine}
+use Rattle.command_io.specs.declared.failure.Failure.{Failure}
+use Rattle.command_io.specs.declared.failure.Failure.TheVariants as failure
 use Rattle.command_script.specs.declared.order.Order.{Order}
 use Rattle.command_script.specs.declared.order.Order.TheVariants.{Script, Check}
-use Rattle.pair_check.specs.declared.verdict.Verdict.{Verdict}
-use Rattle.pair_check.specs.declared.verdict.Verdict.TheVariants as verdict
+use Rattle.altair_pair.specs.declared.verdict.Verdict.{Verdict}
+use Rattle.altair_pair.specs.declared.verdict.Verdict.TheVariants as verdict
 use Rattle.script_language.specs.declared.line.Line.{Line}
 use Rattle.shared_disk.specs.Failing.{failures_of}
 use Rattle.script_language.specs.declared.setup.ScriptSetup.{ScriptSetup}

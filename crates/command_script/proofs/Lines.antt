@@ -20,11 +20,11 @@ use Rattle.pair_events.specs.declared.reply.Reply.{Reply}
 use Rattle.pair_protocol.specs.Node.{Alone, Backup, Draining, Joining, Node, Primary, Role, Spare}
 use Rattle.pair_protocol.specs.World.{World}
 use Rattle.command_script.specs.Answering.{AddsAnswers, Answered, AnswersAll, Asks, ByRow, Happen, NoLine, Nothing, Replies, Tells}
-use Rattle.command_ending.specs.Reports.{AddsLine}
+use Rattle.command_io.specs.Reports.{AddsLine}
 use Rattle.command_script.specs.Running.{HasHappened, HaveAnswers, HaveHappened, HasFailed}
-use Rattle.command_ending.specs.declared.failure.Failure.{Failure}
+use Rattle.command_io.specs.declared.failure.Failure.{Failure}
 use Rattle.command_script.proofs.Answering.{adds_more, adds_none, adds_one, happen-append}
-use Rattle.pair_setup.specs.Queries.{Finds}
+use Rattle.altair_pair.specs.Queries.{Finds}
 use Rattle.script_language.specs.declared.line.Line.{Line}
 use Rattle.script_language.specs.declared.line.Line.TheVariants as line
 use Rattle.script_language.specs.declared.line.Query.{Query}

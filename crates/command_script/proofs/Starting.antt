@@ -2,7 +2,7 @@
 use Rattle.std.proofs.Common.{◌≡◌, ◌≤◌, ℕ, zero, suc, ◌+◌, ◌-◌, List, [], Option, Some, ap, arith, refl, subst, sym, ◌∙◌}
 use Rattle.std.specs.Prelude.{replicate, if◌then◌else◌, None}
 use Rattle.std.specs.Option.{option_map_or}
-use Rattle.altair_copies.specs.Copies.{image_copy}
+use Rattle.altair_laws.specs.Copies.{image_copy}
 use Rattle.disk_dcdd.specs.Address.{bytes_with_all}
 use Rattle.disk_dcdd.specs.declared.sector.SectorWrite.{SectorWrite}
 use Rattle.disk_dcdd.specs.declared.sector.TheConstants.{SECTOR_BYTES}
@@ -10,13 +10,13 @@ use Rattle.std.specs.Prelude.{Result}
 use Rattle.ft_world.specs.Applies.{Shows}
 use Rattle.ft_world.specs.Beginning.{beginning}
 use Rattle.ft_world.specs.Standing.{Course, machine_of}
-use Rattle.pair_check.specs.Alike.{ShownIsSame}
-use Rattle.pair_check.specs.Comparing.{IsVerdictOn}
+use Rattle.altair_pair.specs.Alike.{ShownIsSame}
+use Rattle.altair_pair.specs.Comparing.{IsVerdictOn}
 use Rattle.command_script.specs.Answering.{Happen}
 use Rattle.command_script.specs.Printing.{AnswersLines, IsSameAfter, Prints, PrintsVerdict}
 use Rattle.command_script.specs.Running.{HasFailed, HaveHappened}
 use Rattle.command_script.specs.Telling.{HaveTold, IsToldOf, Told, failures_in_all}
-use Rattle.command_ending.specs.declared.failure.Failure.{Failure}
+use Rattle.command_io.specs.declared.failure.Failure.{Failure}
 use Rattle.command_script.specs.declared.order.Order.TheVariants.{Script, Check}
 use Rattle.command_script.proofs.Answering.{says_more}
 use Rattle.command_script.proofs.Lines.{fails_within}
@@ -26,11 +26,11 @@ use Rattle.guest_parts.specs.Guest.{Guest}
 use Rattle.guest_board.specs.Guest.{altair, guest_at_boot}
 use Rattle.guest_board.specs.Inputs.{some_altair}
 use Rattle.guest_lockstep.specs.Machine.{Machine}
-use Rattle.pair_check.specs.Alike.{BeginAlike}
+use Rattle.altair_pair.specs.Alike.{BeginAlike}
 use Rattle.shared_disk.specs.Failing.{Disk, failures_of, records_in}
 use Rattle.pair_protocol.specs.World.{World, opening, with_host}
 use Rattle.command_script.specs.Answering.{Booted}
-use Rattle.pair_setup.specs.Booting.{HostsCome, IsBooted, Pair, Spare}
+use Rattle.altair_pair.specs.Booting.{HostsCome, IsBooted, Pair, Spare}
 use Rattle.plain_single.specs.Image.{boot_sectors, zero_sector}
 use Rattle.script_language.specs.declared.setup.ScriptSetup.{ScriptSetup}
 use Rattle.shared_disk.specs.Records.{IsAtBoot, boot_record, bytes_in}

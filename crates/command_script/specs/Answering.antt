@@ -9,15 +9,15 @@ use Rattle.guest_parts.specs.Guest.{Guest}
 use Rattle.guest_board.specs.Guest.{altair}
 use Rattle.guest_lockstep.specs.Machine.{Machine}
 use Rattle.i8080_words.specs.declared.refusal.Fault.{Fault}
-use Rattle.pair_check.specs.Alike.{BeginAlike}
+use Rattle.altair_pair.specs.Alike.{BeginAlike}
 use Rattle.pair_events.specs.Printed.{answer_line}
 use Rattle.pair_events.specs.declared.event.Event.{Event}
 use Rattle.pair_events.specs.declared.reply.Reply.{Reply}
 use Rattle.pair_protocol.specs.Copying.{Copying}
 use Rattle.pair_protocol.specs.Row.{Row}
 use Rattle.pair_protocol.specs.World.{World, opening}
-use Rattle.pair_setup.specs.Booting.{HostsCome}
-use Rattle.pair_setup.specs.Queries.{Finds}
+use Rattle.altair_pair.specs.Booting.{HostsCome}
+use Rattle.altair_pair.specs.Queries.{Finds}
 use Rattle.plain_single.specs.Image.{boot_sectors}
 use Rattle.script_language.specs.declared.line.Line.{Line}
 use Rattle.script_language.specs.declared.line.Line.TheVariants as line

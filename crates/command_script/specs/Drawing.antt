@@ -1,8 +1,8 @@
 -- What the command `picture` writes, by how it ends.
 use Rattle.std.specs.Prelude.{ℕ, Option, List, Result, MatchResult}
 use Rattle.std.specs.Io.KnownBytes.{Appends, Keeps}
-use Rattle.command_ending.specs.declared.failure.Failure.{Failure}
-use Rattle.command_ending.specs.declared.failure.Failure.TheVariants.{OutOfMemory, InputOrOutput}
+use Rattle.command_io.specs.declared.failure.Failure.{Failure}
+use Rattle.command_io.specs.declared.failure.Failure.TheVariants.{OutOfMemory, InputOrOutput}
 use Rattle.command_script.specs.Telling.{IsToldOf}
 use Rattle.disk_dcdd.specs.declared.sector.SectorWrite.{SectorWrite}
 use Rattle.script_language.specs.declared.line.Line.{Line}

@@ -3,3 +3,5 @@ pub mod Drawing
 pub mod Printing
 pub mod Running
 pub mod Telling
+pub mod Linting
+pub mod Reasons

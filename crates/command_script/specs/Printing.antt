@@ -1,7 +1,7 @@
 -- What a run of a script prints, by how it ends.
 use Rattle.std.specs.Prelude.{ℕ, ◌≤◌, Option, Some, List, Result, MatchResult, take}
 use Rattle.std.specs.Io.KnownBytes.{Keeps}
-use Rattle.altair_copies.specs.Copies.{image_copy}
+use Rattle.altair_laws.specs.Copies.{image_copy}
 use Rattle.disk_dcdd.specs.declared.sector.SectorWrite.{SectorWrite}
 use Rattle.guest_parts.specs.Guest.{Guest}
 use Rattle.guest_board.specs.Guest.{altair}
@@ -9,15 +9,15 @@ use Rattle.guest_lockstep.specs.Machine.{Machine}
 use Rattle.pair_protocol.specs.Copying.{Copying}
 use Rattle.pair_protocol.specs.World.{World}
 use Rattle.command_script.specs.Answering.{AnswersAll, Booted, Happen}
-use Rattle.command_ending.specs.Reports.{AddsLine}
-use Rattle.pair_check.specs.Alike.{IsSameAtSettled}
-use Rattle.pair_check.specs.Verdicts.{words_of}
-use Rattle.command_ending.specs.declared.failure.Failure.{Failure}
-use Rattle.command_ending.specs.declared.failure.Failure.TheVariants.{OutOfMemory, InputOrOutput, Differs}
+use Rattle.command_io.specs.Reports.{AddsLine}
+use Rattle.altair_pair.specs.Alike.{IsSameAtSettled}
+use Rattle.altair_pair.specs.Verdicts.{words_of}
+use Rattle.command_io.specs.declared.failure.Failure.{Failure}
+use Rattle.command_io.specs.declared.failure.Failure.TheVariants.{OutOfMemory, InputOrOutput, Differs}
 use Rattle.command_script.specs.declared.order.Order.{Order}
 use Rattle.command_script.specs.declared.order.Order.TheVariants.{Script, Check}
-use Rattle.pair_check.specs.declared.verdict.Verdict.{Verdict}
-use Rattle.pair_check.specs.declared.verdict.Verdict.TheVariants as verdict
+use Rattle.altair_pair.specs.declared.verdict.Verdict.{Verdict}
+use Rattle.altair_pair.specs.declared.verdict.Verdict.TheVariants as verdict
 use Rattle.script_language.specs.declared.line.Line.{Line}
 use Rattle.shared_disk.specs.Failing.{failures_of}
 use Rattle.script_language.specs.declared.setup.ScriptSetup.{ScriptSetup}

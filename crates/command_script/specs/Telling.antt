@@ -1,6 +1,6 @@
 -- What is told of a run of a script: its events with their answers, one after another.
 use Rattle.std.specs.Prelude.{◌≡◌, ℕ, ◌+◌, ◌≤◌, List, [], ◌∷◌, ◌++◌}
-use Rattle.altair_copies.specs.Copies.{image_copy}
+use Rattle.altair_laws.specs.Copies.{image_copy}
 use Rattle.command_script.specs.Answering.{Booted}
 use Rattle.command_script.specs.Running.{HasFailed}
 use Rattle.disk_dcdd.specs.declared.sector.SectorWrite.{SectorWrite}

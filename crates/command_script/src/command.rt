@@ -3,8 +3,7 @@ ghost use Rattle.command_script.specs.Printing.{Prints};
 
 use crate::order::Order;
 use crate::session;
-use command_ending::{Failure, Report};
-use command_input::Input;
+use command_io::{Failure, Input, Report};
 use event_callbacks::plain_completions;
 use std::alloc::Global;
 use std::io::Write;

@@ -1,6 +1,6 @@
 //! A script that is run, and drawn.
 ghost use Rattle.std.specs.Prelude.{◌≡◌, ◌∷◌, [], IfErr, IfOk, OnOk};
-ghost use Rattle.command_ending.specs.declared.failure.Failure.TheVariants as failure;
+ghost use Rattle.command_io.specs.declared.failure.Failure.TheVariants as failure;
 ghost use Rattle.command_script.specs.Drawing.{Draws};
 ghost use Rattle.command_script.specs.Telling.{HaveTold, IsToldOf, TellsAfter};
 ghost use Rattle.event_callbacks.specs.declared.devices.TheConstants.{SENT, SECTOR, WRITTEN};
@@ -9,13 +9,11 @@ ghost use Rattle.ft_world.specs.Applies.{Shows};
 ghost use Rattle.ft_world.specs.Standing.{Course};
 ghost use Rattle.shared_disk.specs.Failing.{records_in};
 
+use altair_pair::{boot, moment_of};
 use clone_state::Copies;
-use command_ending::Failure;
-use command_input::Input;
+use command_io::{Failure, Input};
 use event_callbacks::{Completes, plain_completions};
 use ft_world::World;
-use pair_moments::moment_of;
-use pair_setup::boot;
 use script_language::{Line, Script};
 use sequence_diagram::{Moment, draw};
 use shared_disk::Disk;

@@ -4,7 +4,7 @@ use Rattle.std.proofs.Common.{ℕ, ◌≡◌, ◌||◌, false, Option, Some, Non
 use Rattle.std.specs.Io.KnownBytes.{Consumes}
 use Rattle.std.specs.List.{list_any}
 use Rattle.std.proofs.KnownBytes.{Consumes-nil, Consumes-trans}
-use Rattle.pair_lines.proofs.Same.{same_start_on}
+use Rattle.console_terminal.proofs.Same.{same_start_on}
 use Rattle.rtrb.specs.Ring.{SameProducer, sent}
 use Rattle.console_terminal.specs.Commands.{Grows}
 use Rattle.console_terminal.specs.Listening.{EndsWith, Listens, ending_of, is_quit, notes_after, place_after, strokes_after, was_quit}

@@ -2,3 +2,5 @@ pub mod Bytes
 pub mod Hearing
 pub mod Pieces
 pub mod Seen
+pub mod Joined
+pub mod Same

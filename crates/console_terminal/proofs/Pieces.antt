@@ -7,9 +7,9 @@ use Rattle.std.specs.declared.string.String.{String}
 use Rattle.std.specs.Io.KnownBytes.{Appends}
 use Rattle.std.specs.Prelude.{string_bytes}
 use Rattle.std.proofs.KnownBytes.{Appends-nil, Appends-trans}
-use Rattle.pair_lines.proofs.Same.{same_end, same_end_on}
-use Rattle.pair_lines.specs.Lines.{shown_at}
-use Rattle.pair_lines.specs.declared.screen.Shown.{Shown}
+use Rattle.console_terminal.proofs.Same.{same_end, same_end_on}
+use Rattle.console_terminal.specs.Lines.{shown_at}
+use Rattle.console_terminal.specs.declared.screen.Shown.{Shown}
 use Rattle.rtrb.specs.Ring.{SameConsumer, received}
 use Rattle.rtrb.specs.declared.consumer.Consumer.{Consumer}
 use Rattle.console_terminal.specs.Screen.{AreSeen, IsClear, Piece, Wrote, beside_of, byte_seen, bytes_of, bytes_seen, guest_in, guest_of, is_looked_at, is_looking, kept_with, look_after, look_at_end, said_in, said_of, text_of, texts_of, told_in, told_of, unseen}

@@ -3,8 +3,8 @@ use Rattle.std.proofs.lemmas.Bool.Decides.{nat_tests}
 use Rattle.std.proofs.Common.{ℕ, ◌==◌, ◌≡◌, Bool, true, false, if◌then◌else◌, filter, map, Option, Some, None, List, [], ◌∷◌, ◌++◌, append-nil, refl, sym, ap, ◌∙◌, subst, arith}
 use Rattle.std.proofs.lemmas.Bool.{false≢true}
 use Rattle.std.specs.Prelude.{not}
-use Rattle.pair_lines.specs.Lines.{shown_at}
-use Rattle.pair_lines.specs.declared.screen.Shown.{Shown}
+use Rattle.console_terminal.specs.Lines.{shown_at}
+use Rattle.console_terminal.specs.declared.screen.Shown.{Shown}
 use Rattle.console_terminal.specs.Commands.{number_of_port}
 use Rattle.console_terminal.specs.Screen.{but_at, bytes_seen, is_looked_at, unseen}
 use Rattle.console_terminal.specs.declared.port.Port.{Port}

@@ -5,3 +5,4 @@ pub mod Listening
 pub mod Screen
 pub mod Telling
 pub mod Typing
+pub mod Lines

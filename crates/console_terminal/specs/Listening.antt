@@ -2,7 +2,7 @@
 use Rattle.std.specs.Prelude.{◌≡◌, ℕ, ◌<◌, Bool, true, false, List, [], ◌∷◌, ◌++◌, Option, None, Some}
 use Rattle.std.specs.Io.KnownBytes.{Consumes, IsAtEnd}
 use Rattle.std.specs.List.{list_any}
-use Rattle.pair_lines.specs.declared.keyboard.Stroke.{Stroke}
+use Rattle.console_terminal.specs.declared.keyboard.Stroke.{Stroke}
 use Rattle.rtrb.specs.Ring.{SameProducer, known_free, sent}
 use Rattle.console_terminal.specs.Commands.{Grows}
 use Rattle.console_terminal.specs.Telling.{Tells, closing}

@@ -3,8 +3,8 @@ use Rattle.std.specs.Prelude.{◌≡◌, ℕ, ◌==◌, Bool, true, false, if◌
 use Rattle.std.specs.Io.KnownBytes.{Appends}
 use Rattle.std.specs.Global.{Global}
 use Rattle.std.specs.declared.string.String.{String}
-use Rattle.pair_lines.specs.Lines.{shown_at}
-use Rattle.pair_lines.specs.declared.screen.Shown.{Shown}
+use Rattle.console_terminal.specs.Lines.{shown_at}
+use Rattle.console_terminal.specs.declared.screen.Shown.{Shown}
 use Rattle.rtrb.specs.Ring.{SameConsumer, known_items, received}
 use Rattle.console_terminal.specs.Commands.{mistake_text, number_of_port}
 use Rattle.console_terminal.specs.declared.note.Note.{Note}

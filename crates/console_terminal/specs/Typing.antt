@@ -7,7 +7,7 @@ use Rattle.console_terminal.specs.declared.command.Order.{Order}
 use Rattle.console_terminal.specs.declared.desk.Act.{Act}
 use Rattle.console_terminal.specs.declared.desk.Desk.{Desk}
 use Rattle.console_terminal.specs.declared.port.Port.{Port}
-use Rattle.pair_lines.specs.declared.keyboard.Stroke.{Stroke}
+use Rattle.console_terminal.specs.declared.keyboard.Stroke.{Stroke}
 
 -- ---- one byte
 

@@ -1,13 +1,13 @@
 //! The display, on which one looks at one terminal at a time.
 ghost use Rattle.std.specs.Prelude.{◌≡◌, ◌∷◌, [], OnOk, Some, false, true};
 ghost use Rattle.std.specs.Io.KnownBytes.{Appends};
-ghost use Rattle.pair_lines.specs.Lines.{shown_at};
+ghost use Rattle.console_terminal.specs.Lines.{shown_at};
 ghost use Rattle.rtrb.specs.Ring.{known_items};
 ghost use Rattle.console_terminal.specs.Screen.{HasNoMore, IsClear, IsEmpty, Wrote, but_at, byte_seen, bytes_seen, is_looked_at, is_looking, kept_with, look_after, unseen};
 
+use crate::Shown;
 use crate::note::{Note, write_note};
 use crate::port::Port;
-use pair_lines::Shown;
 use rtrb::Consumer;
 use std::alloc::Global;
 use std::io::{self, Write};

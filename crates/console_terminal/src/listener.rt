@@ -6,13 +6,13 @@ ghost use Rattle.console_terminal.specs.Listening.{HasRoom, Listens, closed, end
 ghost use Rattle.console_terminal.specs.Telling.{Answers, Says, changed, closing, note_of};
 ghost use Rattle.console_terminal.specs.Typing.{act_of, after, command_in, line_of, order_by, place_of, strokes_by};
 
+use crate::Stroke;
 use crate::command::{Command, Order};
 use crate::desk::{Act, Desk};
 use crate::keys::{Heard, KeySource};
 use crate::note::Note;
 use crate::port::Port;
 use crate::signs::Signs;
-use pair_lines::Stroke;
 use rtrb::Producer;
 use std::thread;
 use std::time::{Clock, Duration};

@@ -11,12 +11,11 @@ mod seat;
 use anyhow::{Result, bail};
 use std::alloc::Global;
 use std::env;
-use std::sync::Wait;
 use std::thread::Threads;
 use std::time::Clock;
 
 // Carries out a command: its subject, what is measured, how often, and words that depend on it.
-fn carry_out<H: Threads + Wait + Sync + Clock + Print>(
+fn carry_out<H: Threads + Sync + Clock + Print>(
     rt: &H,
     alloc: Global,
     command: &[String],
@@ -31,7 +30,7 @@ fn carry_out<H: Threads + Wait + Sync + Clock + Print>(
 }
 
 // Measures this of a subject, so often.
-fn measure<H: Threads + Wait + Sync + Clock + Print>(
+fn measure<H: Threads + Sync + Clock + Print>(
     rt: &H,
     alloc: Global,
     subject: &str,

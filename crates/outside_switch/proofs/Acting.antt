@@ -29,10 +29,10 @@ use Rattle.host_frames.specs.declared.frame.Report as host
 use Rattle.host_frames.specs.declared.frame.Transfer.TheVariants.{Accepted, Byte, Failed, Get, Key, Sector, Write, Written}
 use Rattle.host_law.specs.Frame as law
 use Rattle.host_law.specs.Frame.{Act, Came}
-use Rattle.outside_devices.specs.Calls.{Asks, Puts, Reads, admitted_after, arrived_after, is_accepted, key_answer, terminal_at, told_after, typed_after, typed_answer}
+use Rattle.outside_switch.specs.DeviceCalls.{Asks, Puts, Reads, admitted_after, arrived_after, is_accepted, key_answer, terminal_at, told_after, typed_after, typed_answer}
 use Rattle.event_callbacks.specs.declared.devices.TheConstants.{PORTS}
-use Rattle.outside_devices.specs.Held.{Held}
-use Rattle.outside_devices.specs.Terminal.{KeptTerminal, after_typing, answered, blank, next_key, typing_answer, typing_refusal, with_key}
+use Rattle.outside_switch.specs.Held.{Held}
+use Rattle.outside_switch.specs.Terminal.{KeptTerminal, after_typing, answered, blank, next_key, typing_answer, typing_refusal, with_key}
 use Rattle.outside_switch.specs.Goes.{BeginsSo}
 use Rattle.outside_switch.specs.Calls as calls
 use Rattle.outside_switch.specs.Calls.{Call, Called}

@@ -6,3 +6,9 @@ pub mod Passing
 pub mod Running
 pub mod Numbers
 pub mod Rooms
+pub mod Words
+pub mod Terminals
+pub mod Asking
+pub mod Records
+pub mod Calls
+pub mod DeviceSteps

@@ -6,7 +6,7 @@ use Rattle.std.specs.List.{list_all}
 use Rattle.std.proofs.lemmas.List.Sums.{AllPass-from_list_all}
 use Rattle.std.proofs.lemmas.Option.{get_or_from_slice_get, slice_get_within}
 use Rattle.pair_protocol.proofs.Traces.Lists.{get_set, get_set_other, same_or_not, same_some}
-use Rattle.outside_devices.specs.Held.{Held}
+use Rattle.outside_switch.specs.Held.{Held}
 use Rattle.outside_switch.specs.Goes as goes
 use Rattle.outside_switch.specs.Goes.{Goes, Lines, Moves}
 use Rattle.outside_switch.specs.Lines.{AreApart, AtPlace, IsClosed, IsNamed, LineGoes, LinesGo, MayBeGiven, OneLine, PlaceGoes, Pushed, is_other, is_spare, number_at, number_in, pushed_to, reports_spare}

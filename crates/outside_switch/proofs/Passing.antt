@@ -2,7 +2,7 @@
 use Rattle.std.proofs.Common.{ℕ, ◌≡◌, ◌<◌, ◌≤◌, Bool, true, false, List, [], ◌∷◌, ◌++◌, append-nil, append_assoc, cond, eq-eqb, eqb-true, length, refl, suc, sym, ap, ◌∙◌, subst, zero}
 use Rattle.std.specs.Prelude.{◌==◌, is_none, max, slice_set}
 use Rattle.host_law.specs.Outside.{Outside, with_arrived, with_first, with_keys, with_typed}
-use Rattle.outside_devices.specs.Steps.{asked}
+use Rattle.outside_switch.specs.Steps.{asked}
 use Rattle.pair_protocol.proofs.Promises.OneMore.{terminal-other, terminal-set}
 use Rattle.pair_protocol.specs.World.{Terminal, accepted_after, accepted_in, terminal_in, winner_in}
 use Rattle.outside_switch.specs.Passing.{Passed, Shown, Typed, shown_at, typed_at}

@@ -8,9 +8,9 @@ use Rattle.host_frames.specs.declared.frame.Notice.{Notice}
 use Rattle.host_frames.specs.declared.frame.Notice.TheVariants.{Join, Progress, Report, Suspect}
 use Rattle.host_frames.specs.declared.frame.Transfer.{Transfer}
 use Rattle.host_frames.specs.declared.frame.Transfer.TheVariants.{Byte, Get, Write}
-use Rattle.outside_devices.specs.Calls.{is_accepted, terminal_at}
-use Rattle.outside_devices.specs.Held.{Held}
-use Rattle.outside_devices.specs.Terminal.{comes_next}
+use Rattle.outside_switch.specs.DeviceCalls.{is_accepted, terminal_at}
+use Rattle.outside_switch.specs.Held.{Held}
+use Rattle.outside_switch.specs.Terminal.{comes_next}
 use Rattle.outside_switch.specs.Heeds.{Asked, HasRoomFor, HeedsBody, HeedsAt, HeedsNotice, HeedsOpen, HeedsTransfer, open_in, room_of}
 use Rattle.outside_switch.specs.Goes.{HeedsNext}
 use Rattle.outside_switch.specs.Lines.{number_at}

@@ -7,15 +7,15 @@ use Rattle.event_callbacks.specs.declared.devices.TheConstants.{PORTS}
 use Rattle.event_callbacks.specs.declared.operations.Operation.TheVariants.{Byte}
 use Rattle.host_law.specs.Frame.{Act, AreAccepted, Carries, Frame, Key, MayBegin, quiet, sending, taking}
 use Rattle.host_law.specs.Outside.{Outside, OutsideStep, with_keys, with_typed}
-use Rattle.outside_devices.proofs.Calls.{calls_make}
-use Rattle.outside_devices.proofs.Running.{goes_on}
-use Rattle.outside_devices.proofs.Terminals.{there, typed_there}
-use Rattle.outside_devices.specs.Calls.{admitted_after, arrived_after, is_accepted, terminal_at}
-use Rattle.outside_devices.specs.Held.{Held}
-use Rattle.outside_devices.specs.Ran.{OutsideRan}
-use Rattle.outside_devices.specs.Shown.{AreTerminals, Shows}
-use Rattle.outside_devices.specs.Steps.{Makes, arrived, asked}
-use Rattle.outside_devices.specs.Terminal.{comes_next}
+use Rattle.outside_switch.proofs.Calls.{calls_make}
+use Rattle.outside_switch.proofs.DeviceSteps.{goes_on}
+use Rattle.outside_switch.proofs.Terminals.{there, typed_there}
+use Rattle.outside_switch.specs.DeviceCalls.{admitted_after, arrived_after, is_accepted, terminal_at}
+use Rattle.outside_switch.specs.Held.{Held}
+use Rattle.outside_switch.specs.Ran.{OutsideRan}
+use Rattle.outside_switch.specs.Shown.{AreTerminals, Shows}
+use Rattle.outside_switch.specs.Steps.{Makes, arrived, asked}
+use Rattle.outside_switch.specs.Terminal.{comes_next}
 use Rattle.pair_protocol.specs.World.{Released, accepted_in}
 use Rattle.outside_switch.specs.Calls as calls
 use Rattle.outside_switch.specs.Calls.{Call, Called}

@@ -9,8 +9,8 @@ use Rattle.i8080_words.specs.declared.refusal.Fault.TheVariants.{Lost}
 use Rattle.pair_protocol.specs.World.{Released, WriteDone, SectorRead}
 use Rattle.shared_disk.specs.declared.disk.SectorRead as device
 use Rattle.host_law.specs.Frame.{Frame, Carries, AsksSector, TellsKeys, AsksArbiter, Key, AreAccepted, HasWon, HasLost, MayBegin, Act, quiet, taking, sending, answering}
-use Rattle.outside_devices.specs.Calls.{Asks, Puts, Reads, admitted_after, arrived_after, key_answer, terminal_at, told_after, typed_after, typed_answer}
-use Rattle.outside_devices.specs.Held.{Held}
+use Rattle.outside_switch.specs.DeviceCalls.{Asks, Puts, Reads, admitted_after, arrived_after, key_answer, terminal_at, told_after, typed_after, typed_answer}
+use Rattle.outside_switch.specs.Held.{Held}
 
 -- one call, and what it leaves of the devices
 pub data Call (held : Held) (new : Held) : Act → Type 0 where

@@ -10,9 +10,9 @@ use Rattle.host_frames.specs.declared.frame.Transfer.{Transfer}
 use Rattle.host_frames.specs.declared.frame.Transfer.TheVariants.{Byte, Get, Write}
 use Rattle.i8080_words.specs.declared.refusal.Fault.{Fault}
 use Rattle.i8080_words.specs.declared.refusal.Fault.TheVariants as fault
-use Rattle.outside_devices.specs.Calls.{Asks, Puts, Reads, arrived_after, is_accepted, told_after}
-use Rattle.outside_devices.specs.Held.{Held}
-use Rattle.outside_devices.specs.Terminal.{KeptTerminal}
+use Rattle.outside_switch.specs.DeviceCalls.{Asks, Puts, Reads, arrived_after, is_accepted, told_after}
+use Rattle.outside_switch.specs.Held.{Held}
+use Rattle.outside_switch.specs.Terminal.{KeptTerminal}
 use Rattle.shared_disk.specs.declared.disk.SectorRead.{SectorRead}
 use Rattle.outside_switch.specs.Lines.{number_at}
 use Rattle.outside_switch.specs.declared.heard.Heard.{Heard}

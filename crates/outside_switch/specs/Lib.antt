@@ -7,3 +7,10 @@ pub mod Meets
 pub mod Goes
 pub mod Runs
 pub mod Links
+pub mod Terminal
+pub mod Ring
+pub mod Held
+pub mod DeviceCalls
+pub mod Shown
+pub mod Steps
+pub mod Ran

@@ -2,7 +2,7 @@
 use Rattle.std.specs.Prelude.{◌≡◌, ℕ, List, Option, None, Some}
 use Rattle.std.specs.List.{AllByRecursion}
 use Rattle.host_law.specs.Frame.{Came, Frame}
-use Rattle.outside_devices.specs.Held.{Held}
+use Rattle.outside_switch.specs.Held.{Held}
 use Rattle.host_frames.specs.Frames.{Said}
 use Rattle.outside_switch.specs.Calls.{Called}
 use Rattle.outside_switch.specs.Lines.{LinesGo, Pushed}

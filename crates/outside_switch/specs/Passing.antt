@@ -2,8 +2,8 @@
 use Rattle.std.specs.Prelude.{◌≡◌, ℕ, ◌==◌, if◌then◌else◌, List, [], ◌∷◌, ◌++◌, Result, Ok, Err}
 use Rattle.host_law.specs.Frame.{Act, Frame}
 use Rattle.i8080_words.specs.declared.refusal.Fault.{Fault}
-use Rattle.outside_devices.specs.Calls.{is_accepted}
-use Rattle.outside_devices.specs.Held.{Held}
+use Rattle.outside_switch.specs.DeviceCalls.{is_accepted}
+use Rattle.outside_switch.specs.Held.{Held}
 use Rattle.outside_switch.specs.Calls as calls
 use Rattle.outside_switch.specs.Calls.{Call, Called}
 use Rattle.outside_switch.specs.declared.heard.Heard.{Heard}

@@ -4,9 +4,9 @@ use Rattle.guest_lockstep.specs.Machine.{Machine}
 use Rattle.host_law.specs.Frame.{Came, Frame}
 use Rattle.host_law.specs.Outside.{Outside, at_first}
 use Rattle.shared_disk.specs.declared.store.Record.{Record}
-use Rattle.outside_devices.specs.Held.{Held, at_boot}
-use Rattle.outside_devices.specs.Ran.{OutsideRan}
-use Rattle.outside_devices.specs.Shown.{IsDisk, Shows}
+use Rattle.outside_switch.specs.Held.{Held, at_boot}
+use Rattle.outside_switch.specs.Ran.{OutsideRan}
+use Rattle.outside_switch.specs.Shown.{IsDisk, Shows}
 use Rattle.outside_switch.specs.Goes as goes
 use Rattle.outside_switch.specs.Goes.{Goes, Moves, passed_by}
 use Rattle.outside_switch.specs.Lines.{AreApart, Pushed, number_at}

@@ -1,6 +1,6 @@
 //! What a frame of a host asks for.
 ghost use Rattle.std.specs.Prelude.{◌≡◌, [], ℕ, None, length};
-ghost use Rattle.outside_devices.specs.Calls.{arrived_after, is_accepted};
+ghost use Rattle.outside_switch.specs.DeviceCalls.{arrived_after, is_accepted};
 ghost use Rattle.outside_switch.specs.Heeds.{Asked, HeedsAt, HeedsNotice, HeedsTransfer, Stays, Writes, passed_if, room_of, shown_if, told_unless};
 ghost use Rattle.host_frames.specs.Frames.{Packet, Said, Tells, Transfers, said_by};
 ghost use Rattle.host_frames.specs.Meaning.{covered_at};

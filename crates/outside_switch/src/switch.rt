@@ -5,14 +5,15 @@ ghost use Rattle.outside_switch.specs.declared.heard.Heard.TheVariants as of_hea
 ghost use Rattle.outside_switch.specs.declared.line.HostLine.{HostLine};
 ghost use Rattle.host_frames.specs.Frames.{Tells, said_by};
 ghost use Rattle.host_frames.specs.declared.frame.Notice.TheVariants as notice;
-ghost use Rattle.outside_devices.specs.Held.{at_boot};
-ghost use Rattle.outside_devices.specs.Calls.{key_answer, typed_after, typed_answer};
+ghost use Rattle.outside_switch.specs.Held.{at_boot};
+ghost use Rattle.outside_switch.specs.DeviceCalls.{key_answer, typed_after, typed_answer};
 ghost use Rattle.outside_switch.specs.Goes.{Adds, BeginsSo, BegunSo, GoesWith, HearsBody, HearsFrame, HearsNext, Lines, NextSo, SendsKey, first_number};
 ghost use Rattle.outside_switch.specs.Heeds.{HasRoomFor, HeedsAt, HeedsBody, OthersStay, open_in};
 ghost use Rattle.outside_switch.specs.Lines.{IsClosed, IsNamed, PostsAll};
 ghost use Rattle.outside_switch.specs.Meets.{seen};
 ghost use Rattle.outside_switch.specs.Passing.{passed_of, typed_of};
 
+use crate::devices::OutsideDevices;
 use crate::heard::Heard;
 use crate::line::HostLine;
 use crate::link::{Fate, Link};
@@ -20,7 +21,6 @@ use crate::places::{self, Audience};
 use event_callbacks::PORTS;
 use host_frames::{Frame, Notice, Transfer, frame_of};
 use i8080_words::{Fault, R};
-use outside_devices::OutsideDevices;
 use rtrb::{Consumer, Producer};
 use shared_disk::{SectorStore, SharedDisk};
 use std::alloc::Global;

@@ -1,21 +1,21 @@
 -- What a command prints is what obeying its request leaves.
 use Rattle.std.proofs.Common.{◌≡◌, ℕ, Option, List, Result, Ok, Err, String, Global, string_bytes, inl, inr, refl, subst, sym}
 use Rattle.std.specs.Global.{Vec}
-use Rattle.command_lint.specs.Linting.{Lints}
-use Rattle.command_input.specs.Typed.{typed_in}
+use Rattle.command_script.specs.Linting.{Lints}
+use Rattle.command_io.specs.Typed.{typed_in}
 use Rattle.command_live.specs.Living.{PrintsLive}
 use Rattle.command_script.specs.Drawing.{Draws}
 use Rattle.command_script.specs.Printing as script
 use Rattle.pair_main.specs.Runs.{IsObeyed, IsRun, IsScriptOf, Writes, asked_by}
 use Rattle.pair_shell.specs.Hearing.{Hears}
-use Rattle.command_ending.specs.declared.failure.Failure.{Failure}
-use Rattle.command_ending.specs.declared.failure.Failure.TheVariants as failure
+use Rattle.command_io.specs.declared.failure.Failure.{Failure}
+use Rattle.command_io.specs.declared.failure.Failure.TheVariants as failure
 use Rattle.command_script.specs.declared.order.Order.{Order}
 use Rattle.command_script.specs.declared.order.Order.TheVariants as order
-use Rattle.command_input.specs.Inputs.{ReadsInput, meaning_of}
-use Rattle.command_input.specs.declared.input.Input.{Input}
-use Rattle.command_input.specs.declared.input.Language.{Language}
-use Rattle.command_input.specs.declared.input.Language.TheVariants.{Any, Threads}
+use Rattle.command_io.specs.Inputs.{ReadsInput, meaning_of}
+use Rattle.command_io.specs.declared.input.Input.{Input}
+use Rattle.command_io.specs.declared.input.Language.{Language}
+use Rattle.command_io.specs.declared.input.Language.TheVariants.{Any, Threads}
 use Rattle.command_line.specs.Orders.{IsAsked, IsRefused}
 use Rattle.command_line.specs.declared.console_order.ConsoleOrder.{ConsoleOrder}
 use Rattle.command_line.specs.declared.host_order.HostOrder.{HostOrder}

@@ -3,8 +3,8 @@ use Rattle.std.specs.Prelude.{◌≡◌, ℕ, List, Option, Result, Ok, Err, IfO
 use Rattle.std.specs.declared.borrow.CowStr.{CowStr}
 use Rattle.command_console.specs.Console.{HasServed}
 use Rattle.command_console.specs.declared.console.Streams.{Streams}
-use Rattle.command_ending.specs.Statuses.{EndsIn}
-use Rattle.command_ending.specs.declared.failure.Failure.{Failure}
+use Rattle.command_io.specs.Statuses.{EndsIn}
+use Rattle.command_io.specs.declared.failure.Failure.{Failure}
 use Rattle.command_host.specs.Endings.{console_status}
 use Rattle.command_hosts.specs.declared.session.HostsEnd.{HostsEnd}
 use Rattle.command_line.specs.Orders.{IsAsked}

@@ -4,21 +4,21 @@ use Rattle.std.specs.Io.KnownBytes.{Appends}
 use Rattle.std.specs.Global.{Vec}
 use Rattle.std.specs.Result.{IsErrAnd}
 use Rattle.std.specs.declared.borrow.CowStr.{CowStr}
-use Rattle.command_lint.specs.Linting.{Lints}
-use Rattle.command_input.specs.Typed.{typed_in}
+use Rattle.command_script.specs.Linting.{Lints}
+use Rattle.command_io.specs.Typed.{typed_in}
 use Rattle.command_live.specs.Living.{PrintsLive}
 use Rattle.command_script.specs.Drawing.{Draws}
 use Rattle.command_script.specs.Printing as script
 use Rattle.pair_shell.specs.Hearing.{Hears}
-use Rattle.command_ending.specs.Inputs.{Meaning}
-use Rattle.command_ending.specs.Statuses.{EndsAs}
-use Rattle.command_ending.specs.declared.failure.Failure.{Failure}
-use Rattle.command_ending.specs.declared.failure.Failure.TheVariants.{CommandLine, BadScript}
-use Rattle.command_ending.specs.declared.failure.Failure.TheVariants.{OutOfMemory, InputOrOutput, Stalled, Differs}
-use Rattle.command_input.specs.Inputs.{ReadsInput, meaning_of}
-use Rattle.command_input.specs.declared.input.Input.{Input}
-use Rattle.command_input.specs.declared.input.Language.{Language}
-use Rattle.command_input.specs.declared.input.Language.TheVariants.{Any, Threads}
+use Rattle.command_io.specs.Scripts.{Meaning}
+use Rattle.command_io.specs.Statuses.{EndsAs}
+use Rattle.command_io.specs.declared.failure.Failure.{Failure}
+use Rattle.command_io.specs.declared.failure.Failure.TheVariants.{CommandLine, BadScript}
+use Rattle.command_io.specs.declared.failure.Failure.TheVariants.{OutOfMemory, InputOrOutput, Stalled, Differs}
+use Rattle.command_io.specs.Inputs.{ReadsInput, meaning_of}
+use Rattle.command_io.specs.declared.input.Input.{Input}
+use Rattle.command_io.specs.declared.input.Language.{Language}
+use Rattle.command_io.specs.declared.input.Language.TheVariants.{Any, Threads}
 use Rattle.command_line.specs.Orders.{IsAsked, IsRefused}
 use Rattle.command_line.specs.declared.options.Request.{Request}
 use Rattle.command_line.specs.declared.options.Request.TheVariants as request

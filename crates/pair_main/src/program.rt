@@ -4,12 +4,10 @@ ghost use Rattle.command_line.specs.declared.options.Request.TheVariants as aske
 ghost use Rattle.pair_main.specs.Runs.{IsEnding, IsObeyed, IsRun, Writes, asked_by};
 
 use command_console::Streams;
-use command_ending::Failure;
-use command_input::{Language, read_input};
+use command_io::{Failure, Language, read_input};
 use command_line::{LiveOrder, Request, request_of};
-use command_lint::run_lint;
 use command_live::run_live;
-use command_script::{Order, run_picture, run_script};
+use command_script::{Order, run_lint, run_picture, run_script};
 use event_callbacks::plain_completions;
 use pair_shell::run_shell;
 use std::alloc::Global;

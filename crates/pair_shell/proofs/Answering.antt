@@ -11,7 +11,7 @@ use Rattle.ft_world.specs.Running.{Running}
 use Rattle.ft_world.specs.Standing.{Course}
 use Rattle.guest_board.specs.Inputs.{some_altair}
 use Rattle.guest_parts.specs.Guest.{Guest}
-use Rattle.pair_check.proofs.Disks.{records_show, shows_records}
+use Rattle.altair_pair.proofs.Disks.{records_show, shows_records}
 use Rattle.pair_shell.specs.Looking.{IsSeen, IsSeenSaid, LooksIn}
 use Rattle.pair_shell.specs.Playing.{Plays}
 use Rattle.pair_shell.specs.Sessions.{AltairsPlay, BootsBy, HeedsSaid, IsAsBefore, MayRefuse, is_quit, is_run, trace_after}
@@ -26,9 +26,9 @@ use Rattle.shell_book.specs.declared.tape.Played.{Played}
 use Rattle.shell_language.specs.Saying.{said}
 use Rattle.shell_language.specs.declared.line.ShellLine.{ShellLine}
 use Rattle.shell_language.specs.declared.line.ShellLine.TheVariants as shell
-use Rattle.shell_opening.specs.Openings.{SetsUpSaid}
-use Rattle.shell_opening.specs.declared.opening.Opening.{Opening}
-use Rattle.command_ending.proofs.Handing.{keeps-appends}
+use Rattle.shell_book.specs.Openings.{SetsUpSaid}
+use Rattle.shell_book.specs.declared.opening.Opening.{Opening}
+use Rattle.command_io.proofs.Handing.{keeps-appends}
 use Rattle.pair_shell.specs.Answering.{AreAnswers, Boots, Further, GoesOn, HasSeen, IsAnswer, Next, NoLine, Once, PairPasses, Passes, SeesIn, SeesSaid, Sitting, begun}
 use Rattle.pair_shell.specs.Lines.{is_run_line, without_cr}
 use Rattle.pair_shell.specs.Running.{AnswersAll, AnswersEach, AnswersFurther, Desk, PairShows, sitting}

@@ -11,9 +11,9 @@ use Rattle.guest_lockstep.specs.Machine.{Machine}
 use Rattle.guest_parts.specs.Guest.{Guest}
 use Rattle.i8080_words.specs.declared.refusal.Fault.{Fault}
 use Rattle.i8080_words.specs.declared.refusal.Fault.TheVariants.{Unknown}
-use Rattle.pair_check.proofs.Disks.{shows_records}
-use Rattle.pair_check.specs.Disks.{over_records}
-use Rattle.pair_setup.specs.Queries.{Finds}
+use Rattle.altair_pair.proofs.Disks.{shows_records}
+use Rattle.altair_pair.specs.Disks.{over_records}
+use Rattle.altair_pair.specs.Queries.{Finds}
 use Rattle.pair_shell.specs.Looking.{Asks, IsSectorFound, Reads}
 use Rattle.script_language.specs.declared.line.Query.{Query}
 use Rattle.shared_disk.specs.Failing.{Disk, records_in}

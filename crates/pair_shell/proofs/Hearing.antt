@@ -7,16 +7,16 @@ use Rattle.std.proofs.KnownBytes.{Appends-trans, Consumes-trans, Keeps-refl, Con
 use Rattle.guest_parts.specs.Guest.{Guest}
 use Rattle.shared_disk.specs.Failing.{Disk}
 use Rattle.ft_world.specs.Running.{Running}
-use Rattle.shell_opening.specs.Openings.{IsDefault}
-use Rattle.shell_opening.specs.declared.opening.Opening.{Opening}
+use Rattle.shell_book.specs.Openings.{IsDefault}
+use Rattle.shell_book.specs.declared.opening.Opening.{Opening}
 use Rattle.pair_shell.specs.Lines.{ends_in, heard, heard_at, heard_in, kept_in, last_line}
 use Rattle.pair_shell.specs.Running.{AnswersAll, AnswersEach, Desk, HearsAllFrom, HearsFrom, PairShows, desk, sitting}
 use Rattle.pair_shell.specs.Hearing.{Answers, AnswersTo, Hears, HearsAll, Writes}
 use Rattle.pair_shell.proofs.Answering.{each_all, each_none, each_then}
 use Rattle.pair_shell.proofs.Lines.{ends_on, heard_on, kept_on, quits_at}
-use Rattle.command_ending.specs.declared.failure.Failure.{Failure}
-use Rattle.command_ending.specs.declared.failure.Failure.TheVariants as failure
-use Rattle.command_ending.proofs.Handing.{keeps-appends}
+use Rattle.command_io.specs.declared.failure.Failure.{Failure}
+use Rattle.command_io.specs.declared.failure.Failure.TheVariants as failure
+use Rattle.command_io.proofs.Handing.{keeps-appends}
 
 -- nothing was written yet
 pub writes_none : (old : Option (List ℕ)) → Writes old old

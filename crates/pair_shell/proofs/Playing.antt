@@ -14,8 +14,8 @@ use Rattle.ft_world.specs.Applies.{Happens, Runs, Shows}
 use Rattle.ft_world.specs.Running.{Running}
 use Rattle.ft_world.proofs.Running.{runs_begin, runs_then}
 use Rattle.shared_disk.specs.Failing.{Disk, records_in}
-use Rattle.pair_check.specs.Disks.{over_records}
-use Rattle.pair_check.proofs.Disks.{records_show, shows_records}
+use Rattle.altair_pair.specs.Disks.{over_records}
+use Rattle.altair_pair.proofs.Disks.{records_show, shows_records}
 use Rattle.pair_shell.specs.Playing.{Lengthens, Plays, answers_of, events_of, pauses}
 use Rattle.pair_shell.specs.Sessions.{LinePlays}
 use Rattle.shell_book.specs.Tapes.{played}

@@ -6,14 +6,14 @@ use Rattle.pair_events.specs.Printed.{answer_line}
 use Rattle.pair_events.specs.declared.event.Event.{Event}
 use Rattle.pair_events.specs.declared.reply.Reply.{Reply}
 use Rattle.shell_language.specs.declared.line.ShellLine.{ShellLine}
-use Rattle.shell_opening.specs.Openings.{SetsUp, SetsUpSaid}
+use Rattle.shell_book.specs.Openings.{SetsUp, SetsUpSaid}
 use Rattle.pair_shell.specs.Sessions.{HeedsSaid, IsHeeded, is_quit, is_setup, trace_after}
 use Rattle.shell_book.specs.Outcomes.{is_ended}
 use Rattle.shell_book.specs.declared.outcome.Outcome.{Outcome}
 use Rattle.shell_book.specs.declared.outcome.Outcome.TheVariants as outcome
 use Rattle.shell_book.specs.Tapes.{Begins, IsAnswered, Traces, event_lines, played, told_text, trace_text}
 use Rattle.shell_book.specs.Texts.{AddsLine, AddsSome, mark}
-use Rattle.shell_opening.specs.declared.opening.Opening.{Opening}
+use Rattle.shell_book.specs.declared.opening.Opening.{Opening}
 use Rattle.shell_book.specs.declared.printing.Printed.{Printed}
 use Rattle.shell_book.specs.declared.tape.Played.{Played}
 

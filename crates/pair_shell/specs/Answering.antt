@@ -2,7 +2,7 @@
 use Rattle.std.specs.Prelude.{◌≡◌, ℕ, Bool, true, false, List, [], ◌∷◌, ◌++◌, Option, Some, None, is_some, map, string_bytes}
 use Rattle.std.specs.List.{concat}
 use Rattle.std.specs.Io.KnownBytes.{Appends}
-use Rattle.altair_copies.specs.Copies.{image_copy}
+use Rattle.altair_laws.specs.Copies.{image_copy}
 use Rattle.guest_board.specs.Guest.{guest_at_boot}
 use Rattle.guest_board.specs.Inputs.{some_altair}
 use Rattle.guest_parts.specs.Guest.{Guest}
@@ -11,7 +11,7 @@ use Rattle.ft_world.specs.Beginning.{beginning}
 use Rattle.ft_world.specs.Standing.{Course, machine_of}
 use Rattle.ft_world.specs.Words.{answer_of}
 use Rattle.pair_protocol.specs.World.{World}
-use Rattle.pair_setup.specs.Booting.{HostsCome}
+use Rattle.altair_pair.specs.Booting.{HostsCome}
 use Rattle.pair_shell.specs.Looking.{Sees}
 use Rattle.pair_shell.specs.Playing.{answers_of, events_of}
 use Rattle.pair_shell.specs.Sessions.{HeedsSaid, MayRefuse, is_quit, is_run, trace_after}
@@ -26,8 +26,8 @@ use Rattle.shell_book.specs.declared.tape.Played.{Played}
 use Rattle.shell_language.specs.Saying.{said}
 use Rattle.shell_language.specs.declared.line.ShellLine.{ShellLine}
 use Rattle.shell_language.specs.declared.line.ShellLine.TheVariants as shell
-use Rattle.shell_opening.specs.Openings.{IsDefault, IsSame, SetsUpSaid}
-use Rattle.shell_opening.specs.declared.opening.Opening.{Opening}
+use Rattle.shell_book.specs.Openings.{IsDefault, IsSame, SetsUpSaid}
+use Rattle.shell_book.specs.declared.opening.Opening.{Opening}
 use Rattle.pair_shell.specs.Lines.{without_cr}
 
 -- a session between two lines: its setup, a world of the protocol if its pair has booted, and whether events are traced

@@ -1,8 +1,8 @@
 -- What the shell answers, and what it writes.
 use Rattle.std.specs.Prelude.{ℕ, Option, List, IfSome, Result, MatchResult}
 use Rattle.std.specs.Io.KnownBytes.{Appends}
-use Rattle.command_ending.specs.declared.failure.Failure.{Failure}
-use Rattle.command_ending.specs.declared.failure.Failure.TheVariants.{OutOfMemory, InputOrOutput}
+use Rattle.command_io.specs.declared.failure.Failure.{Failure}
+use Rattle.command_io.specs.declared.failure.Failure.TheVariants.{OutOfMemory, InputOrOutput}
 use Rattle.pair_shell.specs.Answering.{HaveAnswers, IsNew, Sitting}
 use Rattle.pair_shell.specs.Lines.{heard}
 

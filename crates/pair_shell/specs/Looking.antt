@@ -16,7 +16,7 @@ use Rattle.ft_world.specs.Applies.{IsSectorOf, Shows}
 use Rattle.ft_world.specs.Running.{Running}
 use Rattle.ft_world.specs.Standing.{Course, machine_of}
 use Rattle.pair_protocol.specs.World as protocol
-use Rattle.pair_setup.specs.Queries.{Finds}
+use Rattle.altair_pair.specs.Queries.{Finds}
 use Rattle.script_language.specs.declared.line.Query.{Query}
 use Rattle.shared_disk.specs.declared.disk.SectorRead.{SectorRead}
 use Rattle.shared_disk.specs.Failing.{Disk, records_in}

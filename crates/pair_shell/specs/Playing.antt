@@ -7,7 +7,7 @@ use Rattle.i8080_words.specs.declared.refusal.Fault.{Fault}
 use Rattle.pair_events.specs.declared.event.Event.{Event}
 use Rattle.pair_events.specs.declared.reply.Reply.{Reply}
 use Rattle.shared_disk.specs.Failing.{Disk}
-use Rattle.pair_check.specs.Disks.{over_records}
+use Rattle.altair_pair.specs.Disks.{over_records}
 use Rattle.ft_world.specs.Applies.{Runs, Shows}
 use Rattle.ft_world.specs.Running.{Running}
 use Rattle.ft_world.specs.Standing.{Course}

@@ -8,8 +8,8 @@ use Rattle.ft_world.specs.Standing.{Course}
 use Rattle.guest_board.specs.Inputs.{some_altair}
 use Rattle.guest_parts.specs.Guest.{Guest}
 use Rattle.shared_disk.specs.Failing.{Disk, records_in}
-use Rattle.shell_opening.specs.declared.opening.Opening.{Opening}
-use Rattle.command_ending.specs.declared.failure.Failure.{Failure}
+use Rattle.shell_book.specs.declared.opening.Opening.{Opening}
+use Rattle.command_io.specs.declared.failure.Failure.{Failure}
 use Rattle.pair_shell.specs.Answering.{AreAnswers, HaveAnswers, Sitting}
 use Rattle.pair_shell.specs.Lines.{heard, without_cr}
 use Rattle.pair_shell.specs.Hearing.{AnswersTo, Writes}

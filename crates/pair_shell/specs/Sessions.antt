@@ -1,6 +1,6 @@
 -- What a line does to a session.
 use Rattle.std.specs.Prelude.{◌≡◌, ℕ, zero, suc, Bool, true, false, List, [], Option, Some, None, slice_set}
-use Rattle.altair_copies.specs.Copies.{image_copy}
+use Rattle.altair_laws.specs.Copies.{image_copy}
 use Rattle.guest_parts.specs.Guest.{Guest}
 use Rattle.guest_board.specs.Guest.{guest_at_boot}
 use Rattle.guest_board.specs.Inputs.{some_altair}
@@ -9,13 +9,13 @@ use Rattle.ft_world.specs.Running.{Running}
 use Rattle.shared_disk.specs.Failing.{Disk}
 use Rattle.shell_language.specs.declared.line.ShellLine.{ShellLine}
 use Rattle.shell_language.specs.declared.line.ShellLine.TheVariants as shell
-use Rattle.pair_setup.specs.Booting.{IsBooted}
+use Rattle.altair_pair.specs.Booting.{IsBooted}
 use Rattle.shared_disk.specs.Records.{AreOnDrives}
-use Rattle.shell_opening.specs.Openings.{CannotSet, IsSame}
+use Rattle.shell_book.specs.Openings.{CannotSet, IsSame}
 use Rattle.pair_shell.specs.Playing.{Plays}
 use Rattle.shell_book.specs.Tapes.{IsAnswered}
 use Rattle.pair_shell.specs.declared.notes.Notes.{Notes}
-use Rattle.shell_opening.specs.declared.opening.Opening.{Opening}
+use Rattle.shell_book.specs.declared.opening.Opening.{Opening}
 use Rattle.shell_book.specs.declared.tape.Played.{Played}
 
 -- a pair has just booted as a session's setup says

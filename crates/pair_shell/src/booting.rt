@@ -4,10 +4,10 @@ ghost use Rattle.event_callbacks.specs.declared.devices.TheConstants.{SENT, SECT
 ghost use Rattle.event_callbacks.specs.Keeping.{Keeps};
 ghost use Rattle.pair_shell.specs.Sessions.{BootsBy, CannotBoot};
 
+use altair_pair::{Altairs, boot};
 use event_callbacks::Completes;
 use i8080_words::Fault;
-use pair_setup::{Altairs, boot};
-use shell_opening::Opening;
+use shell_book::Opening;
 use std::alloc::{AllocError, Global};
 
 /// A pair that boots as a session's setup says; none if a sector of the setup is on a drive that is not attached.

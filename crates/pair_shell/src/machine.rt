@@ -10,13 +10,12 @@ ghost use Rattle.pair_shell.specs.Sessions.{IsHeeded};
 use crate::notes::Notes;
 use crate::showing::{show_found, show_sector};
 use crate::why::print_why;
+use altair_pair::Altairs;
 use event_callbacks::Completes;
 use guest_board::Board;
 use i8080_words::Fault;
-use pair_setup::Altairs;
-use shell_book::Printed;
+use shell_book::{Opening, Printed};
 use shell_language::{Look, ShellLine, Span, View};
-use shell_opening::Opening;
 use shell_picture::{print_listing, print_memory, print_refusal, print_registers};
 use std::alloc::{AllocError, Global};
 

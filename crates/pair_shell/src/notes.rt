@@ -1,6 +1,6 @@
 //! The lines after the pair has booted: events and queries.
 ghost use Rattle.std.specs.Prelude.{◌≡◌, [], true, IfOk, length, slice_get, string_bytes, unwrap_or};
-ghost use Rattle.pair_check.specs.Disks.{over_records};
+ghost use Rattle.altair_pair.specs.Disks.{over_records};
 ghost use Rattle.pair_shell.specs.Playing.{Plays};
 ghost use Rattle.pair_shell.specs.Sessions.{IsHeeded, shown_at};
 ghost use Rattle.pair_shell.specs.Hints.{early_row, full_row, is_early, is_full};
@@ -22,10 +22,9 @@ use ft_world::World;
 use pair_events::Event;
 use sequence_diagram::Moment;
 use shared_disk::Disk;
-use shell_book::{Book, Played, Printed};
+use shell_book::{Book, Opening, Played, Printed};
 use shell_day::Plan;
 use shell_language::{Quoted, ShellLine, Stretch};
-use shell_opening::Opening;
 use shell_picture::{print_last, print_picture, print_screen, print_sum};
 use std::alloc::{AllocError, Global};
 

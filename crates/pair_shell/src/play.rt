@@ -10,11 +10,11 @@ ghost use Rattle.shell_book.specs.Tapes.{played};
 ghost use Rattle.shell_day.specs.Rounds.{left_waiting, rested};
 
 use crate::polling::MayPoll;
+use altair_pair::moment_of;
 use clone_state::Copies;
 use ft_world::{Message, World};
 use i8080_words::R;
 use pair_events::{Event, Reply};
-use pair_moments::moment_of;
 use sequence_diagram::Moment;
 use shared_disk::Disk;
 use shell_book::{Book, Brings, Played};

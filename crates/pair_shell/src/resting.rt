@@ -17,8 +17,7 @@ use pair_events::Reply;
 use pair_plan::{Plan, most_events};
 use sequence_diagram::Moment;
 use shared_disk::Disk;
-use shell_book::{Book, Played, Printed};
-use shell_opening::Opening;
+use shell_book::{Book, Opening, Played, Printed};
 use std::alloc::{AllocError, Global};
 
 /// Where the events of a plan have led.

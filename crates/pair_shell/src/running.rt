@@ -18,10 +18,9 @@ use ft_world::{NodeStatus, World};
 use i8080_words::{Fault, R};
 use pair_events::Role;
 use shared_disk::Disk;
-use shell_book::{Book, Played, Printed, holds_up, meeting_of};
+use shell_book::{Book, Opening, Played, Printed, holds_up, meeting_of};
 use shell_day::{Day, Plan};
 use shell_language::Turns;
-use shell_opening::Opening;
 use shell_picture::{print_held_up, print_refusal};
 use std::alloc::{AllocError, Global};
 

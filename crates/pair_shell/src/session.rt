@@ -6,11 +6,10 @@ use crate::booting::booted;
 use crate::lists::{list_forms, list_refusals};
 use crate::machine::take_line;
 use crate::notes::Notes;
+use altair_pair::Altairs;
 use event_callbacks::Completes;
-use pair_setup::Altairs;
-use shell_book::{Outcome, Printed, refuse};
+use shell_book::{Opening, Outcome, Printed, refuse};
 use shell_language::{Mistake, ShellLine, read_line};
-use shell_opening::Opening;
 use std::alloc::{AllocError, Global};
 
 /// The shell with its pair.
@@ -29,7 +28,7 @@ impl<T: Completes + Drop + Copy, S: Completes + Drop + Copy, W: Completes + Drop
 > {
     ghost use Rattle.std.specs.Prelude.{◌≡◌, [], true, false, IfOk, None, Some, string_bytes};
     ghost use Rattle.shell_language.specs.Saying.{said};
-    ghost use Rattle.shell_opening.specs.Openings.{IsDefault, IsSame, SetsUp, SetsUpSaid};
+    ghost use Rattle.shell_book.specs.Openings.{IsDefault, IsSame, SetsUp, SetsUpSaid};
     ghost use Rattle.pair_shell.specs.Sessions.{AltairsPlay, HeedsSaid, IsAsBefore, IsHeeded, MayRefuse, is_quit, trace_after};
     ghost use Rattle.pair_shell.specs.Looking.{IsLooked, IsSeenSaid};
     ghost use Rattle.shell_book.specs.Outcomes.{is_ended};

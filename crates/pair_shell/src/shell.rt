@@ -7,10 +7,10 @@ ghost use Rattle.pair_shell.specs.Lines.{after_byte, byte_ends, ends_in, heard_a
 ghost use Rattle.pair_shell.specs.Running.{AnswersEach, AnswersFurther, HearsFrom, desk};
 ghost use Rattle.pair_shell.specs.Hearing.{Answers, Hears};
 ghost use Rattle.shell_book.specs.Outcomes.{is_ended};
-ghost use Rattle.command_ending.specs.declared.failure.Failure.TheVariants as failure;
+ghost use Rattle.command_io.specs.declared.failure.Failure.TheVariants as failure;
 
 use crate::session::Session;
-use command_ending::Failure;
+use command_io::Failure;
 use event_callbacks::Completes;
 use shell_book::Outcome;
 use shell_language::{LINE_BYTES, ShellLine, read_line};

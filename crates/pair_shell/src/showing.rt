@@ -1,18 +1,16 @@
 //! What a pair has: what a query finds, a sector, and all that the single machine has to agree with.
 ghost use Rattle.std.specs.Prelude.{◌≡◌, ◌==◌, ◌&&◌, IfOk, length};
 ghost use Rattle.pair_shell.specs.Looking.{Asks, Reads};
-ghost use Rattle.pair_check.specs.Disks.{over_records};
+ghost use Rattle.altair_pair.specs.Disks.{over_records};
 
+use altair_pair::{compare, find, sector_of};
 use clone_state::Copies;
 use disk_dcdd::SectorAddress;
 use ft_world::World;
 use guest_lockstep::Timed;
-use pair_check::{compare, sector_of};
-use pair_setup::find;
 use script_language::Query;
 use shared_disk::Disk;
-use shell_book::Printed;
-use shell_opening::Opening;
+use shell_book::{Opening, Printed};
 use shell_picture::{print_refusal, print_sector};
 use std::alloc::{AllocError, Global};
 

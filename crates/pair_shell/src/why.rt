@@ -13,9 +13,8 @@ use key_room::OutstandingWrites;
 use pair_events::Event;
 use pair_plan::{Plan, Serving, Stage, outstanding, stage_of, who_serves};
 use shared_disk::Disk;
-use shell_book::{Book, Brings, Printed};
+use shell_book::{Book, Brings, Opening, Printed};
 use shell_language::Spelled;
-use shell_opening::Opening;
 use std::alloc::{AllocError, Global};
 use std::fmt;
 

@@ -13,7 +13,7 @@ use Rattle.host_law.specs.Outside.{at_first}
 use Rattle.host_node.specs.Hosts.{HasJoined, HasNode}
 use Rattle.host_node.specs.declared.host.HostNode.{HostNode}
 use Rattle.host_node.specs.declared.host.Hosted.TheVariants as hosted
-use Rattle.outside_devices.specs.Shown.{Shows}
+use Rattle.outside_switch.specs.Shown.{Shows}
 use Rattle.outside_switch.proofs.Passing.{none_passed}
 use Rattle.outside_switch.proofs.Running.{begins}
 use Rattle.outside_switch.specs.Lines.{number_at}

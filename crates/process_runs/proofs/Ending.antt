@@ -1,7 +1,7 @@
 -- What holds of a fleet holds of the processes that are it.
 use Rattle.std.proofs.Common.{ℕ, ◌≡◌, ◌⊎◌, Some, List, refl, sym, ap, ◌∙◌, subst, inl, inr}
 use Rattle.std.specs.Prelude.{slice_get}
-use Rattle.altair_copies.specs.Copies.{image_copy}
+use Rattle.altair_laws.specs.Copies.{image_copy}
 use Rattle.clone_state.specs.Copies.{CopiesAs}
 use Rattle.ft_node.specs.declared.node.Node as code
 use Rattle.ft_node.specs.declared.node.Node.TheVariants as node

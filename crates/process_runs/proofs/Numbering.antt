@@ -4,7 +4,7 @@ use Rattle.std.proofs.Common.{ℕ, ◌≡◌, ◌+◌, ◌<◌, Bool, true, fals
 use Rattle.std.specs.Prelude.{nat_lt, slice_get}
 use Rattle.std.proofs.lemmas.Option.{same_Some, slice_get_within}
 use Rattle.guest_lockstep.specs.Machine.{Machine}
-use Rattle.outside_devices.specs.Held.{Held}
+use Rattle.outside_switch.specs.Held.{Held}
 use Rattle.outside_switch.proofs.Numbers.{numbers_count, stay_apart}
 use Rattle.outside_switch.proofs.Running.{moved_more}
 use Rattle.outside_switch.specs.Goes as goes

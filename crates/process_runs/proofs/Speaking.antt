@@ -14,7 +14,7 @@ use Rattle.host_frames.specs.declared.frame.Report as host
 use Rattle.host_frames.specs.declared.frame.Transfer.TheVariants.{Failed}
 use Rattle.host_law.specs.Frame as law
 use Rattle.host_law.specs.Frame.{Act, Came}
-use Rattle.outside_devices.specs.Held.{Held}
+use Rattle.outside_switch.specs.Held.{Held}
 use Rattle.std.specs.List.{AllByRecursion}
 use Rattle.log_channel.proofs.PacketLaws.{one_meaning}
 use Rattle.log_channel.specs.Packet.{IsPacket, packet_bytes}

@@ -17,8 +17,8 @@ use Rattle.host_node.specs.Goes as host
 use Rattle.host_node.specs.Goes.{AllBring, RunsTo, Says}
 use Rattle.host_node.specs.Hosts.{IsHosted, IsNumber}
 use Rattle.host_node.specs.declared.host.HostNode.{HostNode}
-use Rattle.outside_devices.specs.Held.{Held}
-use Rattle.outside_devices.specs.Shown.{Shows}
+use Rattle.outside_switch.specs.Held.{Held}
+use Rattle.outside_switch.specs.Shown.{Shows}
 use Rattle.outside_switch.specs.Calls.{Called}
 use Rattle.outside_switch.specs.Lines.{Pushed, number_at, pushed_to}
 use Rattle.outside_switch.specs.Passing.{Passed}

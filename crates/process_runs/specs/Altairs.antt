@@ -1,6 +1,6 @@
 -- Processes of the Altair of a setup, which its image copies.
 use Rattle.std.specs.Prelude.{ℕ, List}
-use Rattle.altair_copies.specs.Copies.{IsSetup, image_copy}
+use Rattle.altair_laws.specs.Copies.{IsSetup, image_copy}
 use Rattle.disk_dcdd.specs.declared.address.SectorAddress.{SectorAddress}
 use Rattle.guest_board.specs.Guest.{altair}
 use Rattle.guest_board.specs.declared.setup.Setup.{Setup}

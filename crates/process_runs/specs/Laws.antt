@@ -16,7 +16,7 @@ use Rattle.host_law.specs.Kept.{IsKept}
 use Rattle.host_node.specs.Hosts.{IsHosted}
 use Rattle.host_node.specs.declared.host.HostNode.{HostNode}
 use Rattle.host_node.specs.declared.host.Hosted.TheVariants as hosted
-use Rattle.outside_devices.specs.Shown.{Shows}
+use Rattle.outside_switch.specs.Shown.{Shows}
 use Rattle.outside_switch.specs.Lines.{number_at}
 use Rattle.outside_switch.specs.Passing.{Passed, shown_at, typed_at}
 use Rattle.pair_protocol.specs.Copying.{Copying, IsCopying}

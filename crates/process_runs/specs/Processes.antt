@@ -7,8 +7,8 @@ use Rattle.guest_lockstep.specs.declared.reads.Reads.TheVariants.{Shared}
 use Rattle.host_frames.specs.Frames.{framed}
 use Rattle.host_node.specs.declared.host.HostNode.{HostNode}
 use Rattle.host_node.specs.declared.host.Hosted.TheVariants as hosted
-use Rattle.outside_devices.specs.Held.{at_boot}
-use Rattle.outside_devices.specs.Shown.{IsDisk}
+use Rattle.outside_switch.specs.Held.{at_boot}
+use Rattle.outside_switch.specs.Shown.{IsDisk}
 use Rattle.outside_switch.specs.Goes.{first_number}
 use Rattle.outside_switch.specs.Lines.{Pushed, number_at}
 use Rattle.outside_switch.specs.Meets.{Seen}

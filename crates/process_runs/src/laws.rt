@@ -4,8 +4,7 @@ ghost use Rattle.process_runs.specs.Laws.{ProcessesAreAFleet, ProcessesAreKept};
 ghost use Rattle.process_runs.specs.Runs.{EachHasGone};
 ghost use Rattle.process_runs.specs.Streams.{StreamsDeliver};
 
-use altair_copies::the_image_copies;
-use altair_laws::altairs_are_lawful;
+use altair_laws::{altairs_are_lawful, the_image_copies};
 
 /// The processes of a pair do what their loops promise, one after another in any order; what passed between the outside and its user
 /// meanwhile is what passed by the moves of its loop.

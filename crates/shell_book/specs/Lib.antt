@@ -4,3 +4,4 @@ pub mod Noting
 pub mod Outcomes
 pub mod Tapes
 pub mod Texts
+pub mod Openings

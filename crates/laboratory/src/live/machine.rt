@@ -5,11 +5,11 @@ ghost use Rattle.plain_single.specs.SingleState.{output_of};
 
 use super::case::Case;
 use super::difference::Difference;
+use altair_pair::{WINDOW, is_all_but, may_have, never_fall};
 use disk_dcdd::{SECTORS, SectorAddress, TRACKS};
 use guest_lockstep::Timed;
 use i8080_words::{Fault, R};
 use log_entry::Entry;
-use pair_check::{WINDOW, is_all_but, may_have, never_fall};
 use plain_single::Single;
 use shared_disk::{MemoryStore, SharedDisk};
 use std::alloc::Global;

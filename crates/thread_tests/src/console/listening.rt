@@ -5,9 +5,8 @@ ghost use Rattle.rtrb.specs.Ring.{known_free};
 use super::paper::{Paper, come_out};
 use console_terminal::{
     Command, Desk, Display, Ending, Heard, Interpreter, KeySource, Listener, Note, Port, Signs,
-    listen, show_all,
+    Stroke, listen, show_all,
 };
-use pair_lines::Stroke;
 use rtrb::{Consumer, Producer, RingBuffer};
 use std::alloc::Global;
 use std::process::Abort;

@@ -3,8 +3,7 @@ ghost use Rattle.std.specs.Prelude.{IfOk};
 ghost use Rattle.console_terminal.specs.Screen.{IsClear};
 
 use super::paper::{Paper, come_out};
-use console_terminal::{Display, Note, Port, Signs, show_all};
-use pair_lines::Shown;
+use console_terminal::{Display, Note, Port, Shown, Signs, show_all};
 use rtrb::{Producer, RingBuffer};
 use std::alloc::{AllocError, Global};
 use std::io;

@@ -2,8 +2,7 @@
 
 use super::listening::{Recorder, Typed};
 use super::paper::{Paper, come_out};
-use console_terminal::{Desk, Display, Ending, Listener, Port, Signs, listen, show_all};
-use pair_lines::Stroke;
+use console_terminal::{Desk, Display, Ending, Listener, Port, Signs, Stroke, listen, show_all};
 use rtrb::RingBuffer;
 use std::io;
 use std::sync::atomic::{AtomicU64, Ordering};

@@ -1,7 +1,7 @@
 -- An opening was read, one was greeted, and sat at the pair of the input.
 use Rattle.std.proofs.Common.{Some, refl, subst}
 use Rattle.std.proofs.lemmas.Result.{IfOk-weaker}
-use Rattle.command_input.specs.Inputs.{IsInput}
+use Rattle.command_io.specs.Inputs.{IsInput}
 use Rattle.script_language.specs.Live.{live_script_of}
 use Rattle.command_console.proofs.console.run_console.Goals as goal
 

@@ -2,7 +2,7 @@
 use Rattle.std.specs.Global.{Global}
 use Rattle.std.specs.Prelude.{length}
 use Rattle.command_console.specs.Hearing.{LinesType}
-use Rattle.pair_lines.specs.declared.keyboard.Stroke.{Stroke}
+use Rattle.console_terminal.specs.declared.keyboard.Stroke.{Stroke}
 use Rattle.rtrb.specs.declared.AnyItems.{AnyItems}
 use Rattle.rtrb.specs.declared.producer.Producer.{Producer}
 use Rattle.command_console.proofs.hearing.type_lines.Given as goal

@@ -1,6 +1,6 @@
 -- If the line is not handed in, the failure says so.
 use Rattle.std.proofs.Common.{map}
-use Rattle.command_ending.specs.Reports.{handed}
+use Rattle.command_io.specs.Reports.{handed}
 use Rattle.command_live.proofs.Living.{tells_residual}
 use Rattle.command_live.proofs.live.tell.Goals as goal
 

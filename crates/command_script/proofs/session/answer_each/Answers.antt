@@ -5,7 +5,7 @@ use Rattle.std.proofs.lemmas.List.{take_all}
 use Rattle.ft_world.specs.Standing.{machine_of}
 use Rattle.command_script.specs.Answering.{AnswersAll}
 use Rattle.shared_disk.specs.Failing.{failures_of}
-use Rattle.command_ending.specs.Reports.{handed}
+use Rattle.command_io.specs.Reports.{handed}
 use Rattle.command_script.proofs.Answering.{answers_residual, fails_after}
 use Rattle.command_script.proofs.Lines.{answers_all, answers_none, answers_on}
 use Rattle.command_script.proofs.session.answer_each.Goals as goal

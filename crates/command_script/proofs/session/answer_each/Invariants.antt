@@ -3,7 +3,7 @@ use Rattle.std.specs.Prelude.{take}
 use Rattle.ft_world.specs.Applies.{Shows}
 use Rattle.ft_world.specs.Standing.{Course}
 use Rattle.shared_disk.specs.Failing.{records_in}
-use Rattle.command_ending.specs.Reports.{handed}
+use Rattle.command_io.specs.Reports.{handed}
 use Rattle.command_script.specs.Running.{HaveAnswers}
 use Rattle.command_script.proofs.session.answer_each.Given as goal
 

@@ -2,7 +2,7 @@
 use Rattle.std.proofs.Common.{sym, subst}
 use Rattle.std.proofs.KnownBytes.{Keeps-refl}
 use Rattle.command_script.specs.Printing.{Prints}
-use Rattle.command_ending.specs.Reports.{handed}
+use Rattle.command_io.specs.Reports.{handed}
 use Rattle.command_script.proofs.Answering.{prints_nothing}
 use Rattle.command_script.proofs.Starting.{prints_answers, prints_verdict, some_booted}
 use Rattle.command_script.proofs.session.run.Goals as goal

@@ -1,7 +1,7 @@
 -- Whoever writes the rest has written all.
 use Rattle.std.proofs.Common.{ℕ, Option, List, length}
 use Rattle.std.specs.Io.KnownBytes.{Appends}
-use Rattle.pair_lines.specs.Lines.{shown_at}
+use Rattle.console_terminal.specs.Lines.{shown_at}
 use Rattle.console_terminal.proofs.display.write_seen.Given as goal
 
 abbrev pub invariant-kept : goal.invariant-kept

@@ -1,5 +1,5 @@
 -- The law of any lawful machine, for the Altair and its image.
-use Rattle.altair_copies.specs.Copies.{image_copy}
+use Rattle.altair_laws.specs.Copies.{image_copy}
 use Rattle.guest_board.specs.Guest.{altair}
 use Rattle.process_runs.proofs.Ending.{are_kept, copied_so}
 use Rattle.process_runs.proofs.laws.altair_processes_are_kept.Goals as goal

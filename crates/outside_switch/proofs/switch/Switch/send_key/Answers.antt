@@ -2,7 +2,7 @@
 use Rattle.std.proofs.Common.{[], arith, refl, subst, sym}
 use Rattle.host_frames.specs.Frames.{Transfers}
 use Rattle.host_frames.specs.declared.frame.Transfer.TheVariants.{Key}
-use Rattle.outside_devices.specs.Calls.{key_answer}
+use Rattle.outside_switch.specs.DeviceCalls.{key_answer}
 use Rattle.outside_switch.specs.Goes.{GoesWith, SendsKey}
 use Rattle.outside_switch.specs.Meets.{seen}
 use Rattle.outside_switch.proofs.Acting.{key_met}

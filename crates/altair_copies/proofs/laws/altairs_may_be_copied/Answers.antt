@@ -1,7 +1,0 @@
-use Rattle.altair_copies.proofs.Copies.{copyable}
-use Rattle.altair_copies.proofs.laws.altairs_may_be_copied.Goals as goal
-
-pub returns : goal.returns
-returns c setup sectors is moves g whole r =
-    copyable setup sectors is (c.altairs_are_lawful.ensures setup sectors) moves g
-    (c.altairs_stay_within.ensures setup sectors moves g r) whole r

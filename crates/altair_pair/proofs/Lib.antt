@@ -1,0 +1,10 @@
+pub mod Beginnings
+pub mod Booting
+pub mod Alike
+pub mod Comparisons
+pub mod Disks
+pub mod Dones
+pub mod Fronts
+pub mod SameTraces
+pub mod Verdicts
+pub mod Carrying

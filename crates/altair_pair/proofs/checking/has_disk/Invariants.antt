@@ -1,0 +1,14 @@
+-- The drives so far are good, and the world is as it was.
+use Rattle.std.proofs.Common.{◌≡◌}
+use Rattle.disk_dcdd.specs.declared.drive.TheConstants.{TRACKS}
+use Rattle.disk_dcdd.specs.declared.sector.TheConstants.{SECTORS}
+use Rattle.altair_pair.specs.Disks.{over_records}
+use Rattle.altair_pair.specs.Sectors.{EachOf, IsGood, address_at}
+use Rattle.altair_pair.proofs.checking.has_disk.Given as goal
+
+abbrev pub invariant-loop-drive : goal.invariant-loop-drive
+invariant-loop-drive g l = record {
+  same : over_records l.world ≡ over_records l.fn.world;
+  good : EachOf l.drive (λ drive. EachOf TRACKS (λ track. EachOf SECTORS
+      (λ sector. IsGood g.B.Lockstep.state g.B.Copies.copied g.B.Lockstep.machine (over_records l.fn.world) l.single l.inputs (address_at drive track sector))));
+}

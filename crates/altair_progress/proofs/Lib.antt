@@ -1,3 +1,0 @@
-pub mod Responding
-pub mod Images
-pub mod Always

@@ -1,3 +1,0 @@
-pub mod Inputs
-pub mod Reports
-pub mod Statuses

@@ -1,3 +1,0 @@
-pub mod Images
-pub mod Inputs
-pub mod Typed

@@ -1,0 +1,5 @@
+pub mod Inputs
+pub mod Sectors
+pub mod Handing
+pub mod Scripts
+pub mod Places

@@ -1,2 +1,0 @@
-pub mod Linting
-pub mod Reasons

@@ -1,8 +1,0 @@
-//! The command `lint`: each bad line of a script, with its word and what was expected there.
-#![tactic(auto)]
-
-mod lint;
-mod named;
-mod reason;
-
-pub use lint::run_lint;

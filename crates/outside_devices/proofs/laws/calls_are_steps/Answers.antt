@@ -1,6 +1,0 @@
--- Each call is a step.
-use Rattle.outside_devices.proofs.Calls.{calls_make}
-use Rattle.outside_devices.proofs.laws.calls_are_steps.Goals as goal
-
-pub returns : goal.returns
-returns g c = record { steps = calls_make }

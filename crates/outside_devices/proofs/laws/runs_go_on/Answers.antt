@@ -1,6 +1,0 @@
--- A run is longer by a step.
-use Rattle.outside_devices.proofs.Running.{goes_on}
-use Rattle.outside_devices.proofs.laws.runs_go_on.Goals as goal
-
-pub returns : goal.returns
-returns g c = record { runs = goes_on }

@@ -1,0 +1,127 @@
+-- A host asks for a generation: the first has won it, and whoever asks later is answered by the winner that is kept.
+use Rattle.std.proofs.Common.{◌≡◌, [], ◌∷◌, ◌++◌, ◌∙◌, Bool, List, None, Option, Some, Err, Ok, ap, cond, eq-eqb, eqb-true, false, find, inl, inr, is_some, ne_eqb, refl, subst, sym, true, ℕ}
+use Rattle.std.specs.Option.{option_map}
+use Rattle.std.specs.Prelude.{Result, ◌==◌, ◌≢◌, is_none, map}
+use Rattle.std.proofs.lemmas.List.{map-append}
+use Rattle.arbiter_core.proofs.FirstAskers.{first_wins}
+use Rattle.host_law.specs.Outside as outside
+use Rattle.pair_protocol.proofs.Keeps.Arbiter.{winner-push}
+use Rattle.pair_protocol.proofs.Traces.Lists.{bool_cases}
+use Rattle.outside_switch.proofs.Words.{AreWinners, Asking, AsksArbiter, Fault, HasLost, HasWon, Held, IsAnswer, Lost, Machine, OutOfMemory, Outside, Shows, Winner, Won, after_asking, answering, winner_in, winner_of, with_first}
+use Rattle.outside_switch.specs.Steps.{ArbiterMakes, Makes, Wins}
+
+-- the law's winners, as the arbiter keeps them
+abbrev asking_of : Winner → Asking
+asking_of w = record { generation = w.generation; node = w.node }
+
+same_winner : (w : Winner) (g : ℕ) (p q : Bool) (found : Option Asking) (other : Option ℕ) → p ≡ q →
+    option_map (λ (a : Asking). a.node) found ≡ other →
+    option_map (λ (a : Asking). a.node) (cond p (Some (asking_of w)) found)
+    ≡ cond q (Some w.node) other
+same_winner w g true true found other e h = refl
+same_winner w g false false found other e h = h
+same_winner w g true false found other e h = absurd (cc)
+same_winner w g false true found other e h = absurd (cc)
+
+same_test : (m n : ℕ) → (m == n) ≡ (n == m)
+same_test m n = elim (bool_cases (m == n)) [
+  | inl t ↦ t ∙ sym (eq-eqb n m (sym (eqb-true m n t)))
+  | inr f ↦ f ∙ sym (ne_eqb n m (λ e. let t = eq-eqb m n (sym e) in (cc)))
+]
+
+winner_of-kept : (ws : List Winner) (g : ℕ) →
+    winner_of (map asking_of ws) g ≡ winner_in ws g
+winner_of-kept [] g = refl
+winner_of-kept (w ∷ ws) g =
+    same_winner w g (w.generation == g) (g == w.generation)
+    (find (λ (a : Asking). a.generation == g)
+    (map asking_of ws))
+    (winner_in ws g) (same_test w.generation g) (winner_of-kept ws g)
+
+-- one more winner, here and in the law
+winners_after : (askings : List Asking) (ws : List Winner) (g n : ℕ) → AreWinners askings ws →
+    winner_of askings g ≡ None →
+    AreWinners (after_asking askings g n) (ws ++ record { generation = g; node = n } ∷ [])
+winners_after askings ws g n are none k =
+    (first_wins askings g n (after_asking askings g n)
+    (ap (λ o. cond (is_some o) askings (askings ++ record { generation = g; node = n } ∷ [])) none)).so_far
+    (map asking_of ws)
+    (λ j. are j ∙ sym (winner_of-kept ws j)) k
+    ∙ ap (λ l. winner_of l k) (sym (map-append asking_of ws
+    (record { generation = g; node = n } ∷ [])))
+    ∙ winner_of-kept (ws ++ record { generation = g; node = n } ∷ []) k
+
+own_answer : (winner host : ℕ) (won : Won) (b : Bool) → (winner == host) ≡ b →
+    ◌≡◌ {A = Result Won Fault} (Ok won) (cond b (Ok (record {})) (Err Lost)) → winner ≡ host
+own_answer winner host won true e a = eqb-true winner host e
+own_answer winner host won false e a = absurd (cc)
+
+other_answer : (winner host : ℕ) (b : Bool) → (winner == host) ≡ b →
+    ◌≡◌ {A = Result Won Fault} (Err Lost) (cond b (Ok (record {})) (Err Lost)) → winner ≢ host
+other_answer winner host true e a = absurd (cc)
+other_answer winner host false e a = λ same. let t = eq-eqb winner host same in (cc)
+
+module _ {S : Type 0} (M : Machine S) (drives : ℕ) (held : Held) (o : Outside) (h : Shows M drives held o) where
+  -- other askings are kept, and the winners are these
+  with_winners : (askings : List Asking) (winners : List Winner) → AreWinners askings winners →
+      Shows M drives (record held { askings = askings }) (record o { winners = winners })
+  with_winners askings winners are = record { terminals = h.terminals; winners = are; disk = h.disk; hosts = h.hosts }
+
+  -- the askings are those that were kept before
+  same_winners : (askings : List Asking) → askings ≡ held.askings →
+      Shows M drives (record held { askings = askings }) o
+  same_winners askings same =
+      with_winners askings o.winners (subst (λ l. AreWinners l o.winners) (sym same) h.winners)
+
+  wins : (g host : ℕ) (won : Won) (askings : List Asking) (w : Option ℕ) → winner_of held.askings g ≡ w →
+      IsAnswer w host (Ok won) → askings ≡ after_asking held.askings g host → Wins M drives held o g host askings
+  wins g host won askings None e answer after =
+      let none : winner_in o.winners g ≡ None = sym (h.winners g) ∙ e in
+      let first : List Winner = o.winners ++ record { generation = g; node = host } ∷ [] in
+      record {
+        makes = subst
+            (λ v. Makes M drives o (answering (AsksArbiter host g) (HasWon g host)) (record held { askings = askings })
+            (cond (is_none v) (with_first o g host) o))
+            (sym none)
+            (record {
+              step = outside.IsFirst host g none;
+              shows = with_winners askings first
+                  (subst (λ l. AreWinners l first) (sym after) (winners_after held.askings o.winners g host h.winners e));
+            });
+        won = subst (λ v. winner_in (cond (is_none v) (with_first o g host) o).winners g ≡ Some host) (sym none)
+            (winner-push o.winners g host none);
+      }
+  wins g host won askings (Some winner) e answer after =
+      let own : winner ≡ host = own_answer winner host won (winner == host) refl answer in
+      let is : winner_in o.winners g ≡ Some host = sym (h.winners g) ∙ e ∙ ap Some own in
+      let same : askings ≡ held.askings = after
+      ∙ ap (λ v. cond (is_some v) held.askings (held.askings ++ record { generation = g; node = host } ∷ [])) e in
+      record {
+        makes = subst
+            (λ v. Makes M drives o (answering (AsksArbiter host g) (HasWon g host)) (record held { askings = askings })
+            (cond (is_none v) (with_first o g host) o))
+            (sym is)
+            (record { step = outside.IsAgain host g is; shows = same_winners askings same });
+        won = subst (λ v. winner_in (cond (is_none v) (with_first o g host) o).winners g ≡ Some host) (sym is) is;
+      }
+
+  loses : (g host : ℕ) (askings : List Asking) (w : Option ℕ) → winner_of held.askings g ≡ w →
+      IsAnswer w host (Err Lost) → askings ≡ held.askings →
+      Makes M drives o (answering (AsksArbiter host g) (HasLost g host)) (record held { askings = askings }) o
+  loses g host askings None e answer same = absurd (let never : Lost ≡ OutOfMemory = answer in cc)
+  loses g host askings (Some winner) e answer same =
+      record {
+        step = outside.IsSecond host winner g (sym (h.winners g) ∙ e)
+            (other_answer winner host (winner == host) refl answer);
+        shows = same_winners askings same;
+      }
+
+  pub arbiter_makes : ArbiterMakes M drives held o
+  arbiter_makes = record {
+    wins = λ g host won askings asks. wins g host won askings (winner_of held.askings g) refl asks.0 asks.1;
+    loses = λ g host askings asks. loses g host askings (winner_of held.askings g) refl asks.0 asks.1;
+    drops = λ g host fault askings asks. record {
+      step = outside.Drops (AsksArbiter host g);
+      shows = same_winners askings asks.1;
+    };
+  }

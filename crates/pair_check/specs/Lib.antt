@@ -1,5 +1,0 @@
-pub mod Alike
-pub mod Comparing
-pub mod Disks
-pub mod Sectors
-pub mod Verdicts
