@@ -42,15 +42,27 @@ class OnScreen(AtTerminal):
     def __init__(self, words, size=SIZE, **how):
         super().__init__(words, is_apart=False, size=size, **how)
         self.screen, self.seen = Emulated(*size), 0
+        # What was on the last row, one after another, and which of it was waited for last.
+        self.rows, self.awaited = [""], 0
 
     def hear(self, within):
         has_come = super().hear(within)
-        self.screen.take(self.shown[self.seen :])
+        for piece in re.split(rb"(?<=\x1b8)", self.shown[self.seen :]):
+            self.screen.take(piece)
+            self.note_row()
         self.seen = len(self.shown)
         return has_come
 
+    def note_row(self):
+        """Remembers what is on the last row, which is written in one piece."""
+        row = self.screen.texts()[-1]
+        if row != self.rows[-1]:
+            self.rows.append(row)
+
     def resize(self, size):
         self.screen.resize(*size)
+        self.note_row()
+        self.awaited = len(self.rows) - 1
         set_size(self.terminal, size)
 
     def texts(self):
@@ -58,8 +70,13 @@ class OnScreen(AtTerminal):
         return [re.sub(r"process \d+", "process N", it) for it in self.screen.texts()[:-1] if it]
 
     def await_row(self, pattern):
-        """Waits until this is on the last row."""
-        self.await_that(lambda: re.search(pattern, self.screen.texts()[-1]), f"{pattern!r} on the last row of {self.screen.texts()}")
+        """Waits until this is on the last row, or was since it was waited for last: another line may follow at once."""
+        self.await_that(lambda: self.has_had_row(pattern), f"{pattern!r} on the last row of {self.screen.texts()}")
+
+    def has_had_row(self, pattern):
+        found = next((place for place in range(self.awaited, len(self.rows)) if re.search(pattern, self.rows[place])), None)
+        self.awaited = self.awaited if found is None else found
+        return found is not None
 
 
 def looked_at(words, **how):
@@ -94,7 +111,7 @@ def a_line_is_on_the_last_row_and_the_guest_above_it(command):
             console.await_that(lambda: console.shown_above().count(b" 00 00\r\n*") == number + 1, "a dump")
         expect(console.texts(), [*lines, "*"][1 - SIZE[0] :], "the rows above, after they have scrolled")
         # Either may be said last: that the pair is whole, or how the process has ended.
-        console.await_row("^generation 2: |^host 0 has ended: killed by signal 9$")
+        expect(bool(re.search("^generation 2: |^host 0 has ended: killed by signal 9$", console.rows[-1])), True, "a line on the last row")
         expect(console.quit(), 0, "the status")
         expect((console.screen.all_scroll(), console.screen.texts()[-1]), (True, ""), "that all rows scroll, and the last one")
         expect(console.texts(), [*lines, "*", "pair> quit"][2 - SIZE[0] :], "the rows above, at the end")

@@ -5,10 +5,13 @@ import time
 from cases import Differs, expect
 from console_sitting import ended_at_last, guest_of
 from hosts_pair import LETTERS, PATIENT, Pair, letters
-from nemesis_runs import MOST_GROWTH, memory_of
+from nemesis_runs import memory_of
 
 # How many primaries are killed, and how often memory is looked at, in seconds.
 KILLS, LOOK = 4, 5
+
+# By how many kB the outside's memory may grow while nobody fails, once threads and rings have been used, and with each host that comes.
+MOST_GROWTH, GROWTH_BY_HOST = 64, 512
 
 
 class LongSeat(Pair):
@@ -27,12 +30,13 @@ class LongSeat(Pair):
         self.shown = b""
         return has_come
 
-    def watch(self, seconds, memory):
-        """Hears for so long, and looks at the memory of the outside."""
-        ends = time.monotonic() + seconds
+    def watch(self, seconds):
+        """Hears for so long; returns what the memory of the outside was meanwhile, in kB."""
+        memory, ends = [], time.monotonic() + seconds
         while (left := ends - time.monotonic()) > 0:
             self.hear_for(min(LOOK, left))
             memory.append(memory_of(self.outside()))
+        return memory
 
     def replace_primary(self):
         """Kills the primary; returns how long it took until the next byte appeared."""
@@ -48,24 +52,32 @@ class LongSeat(Pair):
         return took
 
 
+def judged(stretches):
+    """What is said of the memory between failures; raises if it grew by more than it may."""
+    if None in stretches[0]:
+        return "a program that checks what it does, whose memory says nothing"
+    # The first half of a stretch is left out: threads, rings and blocks are used for the first time.
+    later = [it[len(it) // 2 :] for it in stretches]
+    grew = max(max(it) - min(it) for it in later)
+    expect(grew <= MOST_GROWTH, True, f"that the memory of the outside stays as it is between failures: {stretches}")
+    by_host = max(max(new) - max(old) for old, new in zip(later, later[1:]))
+    expect(by_host <= GROWTH_BY_HOST, True, f"that no host costs the outside more than its share: {stretches}")
+    return f"the outside had {later[0][0]} kB at first and {later[-1][-1]} kB in the end: {by_host} kB more with a host, {grew} kB meanwhile"
+
+
 def told(program, minutes):
     """Runs it, and says what was measured."""
-    memory, waits = [], []
+    stretches, waits = [], []
     with guest_of(LETTERS) as of_guest:
         with ended_at_last(LongSeat(program, *of_guest, *PATIENT, "--hosts", "3", "--later", str(KILLS))) as seat:
             seat.await_whole()
             began = time.monotonic()
             for kills in range(KILLS + 1):
-                seat.watch(60 * minutes / (KILLS + 1), memory)
+                stretches.append(seat.watch(60 * minutes / (KILLS + 1)))
                 if kills < KILLS:
                     waits.append(seat.replace_primary())
             took = time.monotonic() - began
             seat.end()
-    if None in memory:
-        grew = "a program that checks what it does, whose memory says nothing"
-    else:
-        quarter = memory[len(memory) // 4]
-        expect(max(memory) - quarter <= MOST_GROWTH, True, f"that the memory of the outside stays as it is: {memory}")
-        grew = f"the outside had {quarter} kB after a quarter of the time, {max(memory)} kB at most and {memory[-1]} kB in the end"
     slowest = f"{1000 * max(waits):.0f} ms at most from a kill to the next byte"
-    return f"{took / 60:.1f} minutes, {len(waits)} primaries killed: {seat.compared} bytes as they must be, {seat.compared / took:.0f} a second; {slowest}; {grew}"
+    shown = f"{seat.compared} bytes as they must be, {seat.compared / took:.0f} a second"
+    return f"{took / 60:.1f} minutes, {len(waits)} primaries killed: {shown}; {slowest}; {judged(stretches)}"

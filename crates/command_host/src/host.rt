@@ -30,7 +30,7 @@ use std::thread::{Parker, Threads};
 use std::time::Clock;
 
 // How many moves its node makes in one turn at most.
-const STEPS: u64 = 10_000;
+const STEPS: u64 = 20_000;
 
 // How often it says that it is there, in microseconds.
 const BEAT: u64 = 100_000;
