@@ -347,7 +347,7 @@ pub fn run_generation<
         e.typed0.items e.typed1.items e.winner e.primary.items e.backup.items e.held e.waiting
         (map (λ v. v.items) e.accepted) (D.records e.disk) (B.state e.primary_board) (B.state e.backup_board)) }
 {
-    let (fabric, seats) = Fabric::open(alloc, 1)?;
+    let (fabric, seats) = Fabric::open(alloc)?;
     let Workers {
         primary,
         backup,
