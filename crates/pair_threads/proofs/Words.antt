@@ -48,7 +48,7 @@ pub use Rattle.pair_threads.specs.Asking.{HasAsked}
 pub use Rattle.pair_threads.specs.Ending.{EachScreen, EndsAlone, EndsBy, EndsWell, IsTraceOf, IsWhereItLeads, NoSectorIsDue, NoneUnderWay, WonBy, winner_named}
 pub use Rattle.pair_threads.specs.Leading.{AreAnswers, HeardOn, IdlesIf, IsAnswer, IsGiven, IsLeading, Leads, LeadsOn, Says, TakesOn, by_port, longer_by}
 pub use Rattle.pair_threads.specs.Primary.{CallsKept, IsAtRest, WorkerKeeps, WorkerLeads, Works, keys_by, keys_taken, told_by}
-pub use Rattle.pair_threads.specs.Repeating.{FollowsFor, GoesOn, IsAt, IsStuck, Repeats, ran_ahead}
+pub use Rattle.pair_threads.specs.Repeating.{FollowsFor, GoesOn, IsAt, IsStuck, Repeats}
 pub use Rattle.shared_disk.specs.Records.{bytes_in}
 pub use Rattle.pair_threads.specs.Stores.{Has, IsDiskOf, IsFirst, IsStore, Serves, at_boot}
 pub use Rattle.pair_threads.specs.declared.backup.BackupWorker.{BackupWorker}

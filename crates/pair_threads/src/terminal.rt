@@ -7,7 +7,7 @@ ghost use Rattle.pair_threads.specs.Ending.{IsEnding};
 ghost use Rattle.pair_threads.specs.Screens.{HasInHand, next_byte};
 ghost use Rattle.pair_threads.specs.Turns.{turn_by};
 
-use crate::signals::{Signals, Told};
+use crate::signals::Told;
 use crate::worker::{Turn, Worker};
 use i8080_words::{Fault, R};
 use pair_rule::{Fabric, PortByte, TerminalSeat};
@@ -145,7 +145,7 @@ impl Worker for TerminalWorker {
 
     ghost needs_others = { λ w. false };
 
-    fn turn(&mut self, fabric: &Fabric, _signals: &Signals, _number: u64) -> R<Turn> {
+    fn turn(&mut self, fabric: &Fabric, _number: u64) -> R<Turn> {
         match self.hand {
             Some(byte) => {
                 self.count(fabric, byte)?;
