@@ -11,14 +11,14 @@ use steps::Work;
 
 // Rounds of all seats on one thread. Returns how many entries are held.
 fn run_steps(alloc: Global, work: Work, rounds: u64) -> Result<u64> {
-    let (fabric, mut seats) = Fabric::open(alloc, 1)?;
+    let (fabric, mut seats) = Fabric::open(alloc)?;
     steps::run(&fabric, &mut seats, work, rounds);
     Ok(fabric.close(seats).held)
 }
 
 // Entries through the seats on three threads. Returns how many are held.
 fn run_threads<H: Threads + Sync>(rt: &H, alloc: Global, entries: u64) -> Result<u64> {
-    let (fabric, seats) = Fabric::open(alloc, 1)?;
+    let (fabric, seats) = Fabric::open(alloc)?;
     let seats = threads::run(rt, &fabric, seats, entries);
     Ok(fabric.close(seats).held)
 }

@@ -9,7 +9,7 @@ pub use Rattle.event_callbacks.specs.declared.operations.OpId.{OpId}
 pub use Rattle.event_callbacks.specs.declared.operations.Operation.{Operation}
 pub use Rattle.event_callbacks.specs.declared.operations.Operation.TheVariants.{Byte, Write}
 pub use Rattle.guest_lockstep.specs.Machine.{Do, Machine, Move, Runs, Take, refusal_of, sector_refusal}
-pub use Rattle.guest_lockstep.specs.Reach.{Own, Owns, Reach, acceptances, bare, image, inputs, keys, operations, output, steps}
+pub use Rattle.guest_lockstep.specs.Reach.{acceptances, bare, inputs, keys, operations, output, steps}
 pub use Rattle.guest_lockstep.specs.Recorded.{Counts, Recorded}
 pub use Rattle.guest_lockstep.specs.Running.{Begin, More, Quiet}
 pub use Rattle.guest_lockstep.specs.declared.input.Input.{Input}
@@ -22,22 +22,22 @@ pub use Rattle.log_entry.specs.declared.entry.Entry.{Entry}
 pub use Rattle.log_entry.specs.declared.entry.Entry.TheVariants.{Mark, Read, Rx}
 pub use Rattle.pair_events.specs.declared.event.Event.{Event}
 pub use Rattle.pair_events.specs.declared.event.Event.TheVariants.{Acknowledge, Arrive, DeliverAcknowledgement, DeliverLog, Get, GetReply, Put, PutReply, Release, Send, Step, Stop, Suspect, TakeKey, TellSent, TypeByte}
-pub use Rattle.pair_protocol.proofs.Keeps.Disk.{AsBefore, Came, Kept, LatestIs, OfPut, Replaced, latest_all, latest_ge, latest_is, replaced, same_address-is}
+pub use Rattle.pair_protocol.proofs.Keeps.Disk.{AsBefore, LatestIs, OfPut, latest_all, latest_is}
 pub use Rattle.pair_protocol.proofs.Keeps.PrimaryMoves.{sector-passed}
-pub use Rattle.pair_protocol.proofs.Traces.Lists.{among-left, among-prefix, among-split, and_parts, get-longer, map-append, prefix-refl, same_some}
-pub use Rattle.pair_protocol.proofs.Traces.Moves.{acceptances-append, count_entry, entries-append, input_entry, inputs-append, inputs_of-append, inputs_of-entries, keys-append, last_count-append, operations-append, operations-prefix, owns-append, owns-prefix, put-prefix, runs-append, steps-append, timed_entry}
-pub use Rattle.pair_protocol.proofs.Traces.Recorded.{recorded-append, recorded-prefix, recorded-rest, recorded-runs}
+pub use Rattle.pair_protocol.proofs.Traces.Lists.{among-left, among-prefix, among-split, and_parts, get-longer, map-append, same_some}
+pub use Rattle.pair_protocol.proofs.Traces.Moves.{acceptances-append, count_entry, entries-append, inputs-append, inputs_of-append, inputs_of-entries, keys-append, last_count-append, operations-append, operations-prefix, runs-append, steps-append, timed_entry}
+pub use Rattle.pair_protocol.proofs.Traces.Recorded.{recorded-append, recorded-rest, recorded-runs}
 pub use Rattle.pair_protocol.specs.Change.{AtBoot, Reached}
-pub use Rattle.pair_protocol.specs.Copying.{Copying, IsCopying, no_copies}
+pub use Rattle.pair_protocol.specs.Copying.{Copying, IsCopying}
 pub use Rattle.pair_protocol.specs.Faithful.{Faithful, IsAllBut, IsPrefix, MayHave}
 pub use Rattle.pair_protocol.specs.Lawful.{Among, IsDone, IsUnwritten, IsWritten, Lawful}
 unfoldable pub use Rattle.pair_protocol.specs.Lawful.{top}
-pub use Rattle.pair_protocol.specs.Laws.{ChangesReach, NeedsNoCopies, ReachedGrows, ReachedIsFaithful, RowIsChanges}
+pub use Rattle.pair_protocol.specs.Laws.{ChangesReach, ReachedGrows, ReachedIsFaithful, RowIsChanges}
 pub use Rattle.pair_protocol.specs.Node.{Node, Note, covers, halts, hears, holds, note_of, notes_after, primary_takes, same_name, wins}
 pub use Rattle.pair_protocol.specs.Refusals.{acknowledge_refusal, ask_refusal, at_acknowledgement, at_log_entry, at_node, at_sector_read, at_write_done, byte_refusal, fault_if, first_of, get_refusal, is_number, is_other, log_size, no_such, refusal, release_refusal, send_refusal, step_refusal, stop_refusal, take_key_refusal, tell_sent_refusal, write_refusal}
 pub use Rattle.pair_protocol.specs.Reply.{Accepted, Dropped, HeldIs, MessageIs, New, Old, Ran, Refused, Reply, Taken, TypedAt, Won}
 pub use Rattle.pair_protocol.specs.Row.{Accepts, Refuses, Row}
-pub use Rattle.pair_protocol.specs.World.{Acknowledgement, ImagePart, LogEntry, Message, Released, SectorRecord, Winner, World, WriteDone, accepted, accepted_in, latest, opening, record_after, sector_record, terminal, terminal_in, winner_in, with_arrival, with_message, with_node, with_put, with_read, with_winner}
+pub use Rattle.pair_protocol.specs.World.{Acknowledgement, ImagePart, LogEntry, Message, Released, SectorRecord, Winner, World, WriteDone, accepted, accepted_in, latest, opening, sector_record, terminal, terminal_in, winner_in, with_arrival, with_message, with_node, with_put, with_read, with_winner}
 pub use Rattle.shared_disk.specs.declared.disk.SectorRead.{SectorRead}
 pub use Rattle.pair_rule.specs.Boxes.{Backup, Boxed, Boxes, Disk, Homes, Laid, Link, Primary, Terminal, Who, box_index, emptier, empty_word, filler, filler_met, full_word, is_full, number_of, seat_index, side, slot_of}
 pub use Rattle.pair_rule.specs.Histories.{AsksNot, IsReply, MayAppend, MayPut, PlainRun, PlainStep}
@@ -48,8 +48,8 @@ pub use Rattle.pair_rule.specs.Law.{AnswersRead, AppendEvents, Appends, Arrives,
 pub use Rattle.pair_rule.specs.Rules.{CountedBy, Facts, Has, Moment, Part, Rule, Same, SamePart, Sized, core_of, first_core, first_known, first_view, has, new_side, part, view_of}
 pub use Rattle.pair_rule.specs.Seats.{Empties, Fills, HasSwapsLeft, LeavesRoom, Opened, all_below, most_swaps, numbers, zeros}
 pub use Rattle.pair_rule.specs.Shown.{First, Happens, IsAcknowledged, IsSentBy, Leads, Nothing, Sent, Shows, ShowsVisible, Visible, arrival_of, backup_node, backup_role, backup_runs, hand_of, notes_from, primary_node, primary_role, primary_runs, terminals_of, visible, winners_of}
-pub use Rattle.pair_rule.specs.Steps.{BackupAsks, CountEvents, EmptyEvents, FillEvents, HasEvents, HasNoEvents, IsStep, PrimaryAsks, Promised, ReadsBoot, Stays, TableEvents, TableStep, TableStepsAreFaithful, TableStepsAreSteps}
-pub use Rattle.pair_rule.specs.Threads.{AreKept, ByteIsAcknowledged, Goes, IsAnswered, IsShown, KeptStepsAreThreads, ListIsTold, Opens, PortIsTold, PrimaryIsTold, Promises, ThreadRun, ThreadsAreFaithful, bytes_accepted, knew}
+pub use Rattle.pair_rule.specs.Steps.{BackupAsks, CountEvents, EmptyEvents, FillEvents, HasEvents, HasNoEvents, PrimaryAsks, Promised, ReadsBoot, Stays, TableEvents, TableStep, TableStepsAreFaithful, TableStepsAreSteps}
+pub use Rattle.pair_rule.specs.Threads.{AreKept, ByteIsAcknowledged, Goes, IsAnswered, IsShown, KeptStepsAreThreads, ListIsTold, Opens, PortIsTold, PrimaryIsTold, Promises, ThreadsAreFaithful, bytes_accepted, knew}
 pub use Rattle.pair_rule.specs.declared.mailbox.Mailbox.{Mailbox}
 pub use Rattle.pair_rule.specs.declared.mailbox.Mailbox.TheVariants.{Answers, Bytes0, Bytes1, Inbox, Outbox, Requests}
 pub use Rattle.pair_rule.specs.declared.payload.DiskAnswer.{DiskAnswer}

@@ -84,14 +84,10 @@ module _ (word : ℕ) (homes : Homes) (fill empty : Side) where
       (number_of word ≡ empty.number) × (empty.met ≡ fill.number)
       × ((x : Option Payload) × (get_elem? homes (slot_of word) ≡ some (some x)))
 
--- what a side has met after a swap that found this word
+-- what a filler has met after a swap that found this word
 abbrev pub filler_met : Bool → ℕ → ℕ → ℕ
 filler_met true word met = met
 filler_met false word met = number_of word
-
-abbrev pub emptier_met : Bool → ℕ → ℕ → ℕ
-emptier_met true word met = number_of word
-emptier_met false word met = met
 
 -- a side of a box
 abbrev pub side : ℕ → ℕ → Option Payload → Side

@@ -30,18 +30,12 @@ pub(crate) struct SeatStates {
 }
 
 // A seat of a new table takes its slot. It has made no swaps.
-fn first_state<S: Seated>(
-    table: &SharedTable,
-    generation: u64,
-    mut seat: TableSeat,
-    slot: usize,
-) -> SeatState
+fn first_state<S: Seated>(table: &SharedTable, mut seat: TableSeat, slot: usize) -> SeatState
     requires table { table.now.table_id.words ≡ 11 }
-    requires seat { IsNew S.who (first_known generation) table.now.table_id seat.table_id seat.me }
+    requires seat { IsNew S.who (first_known 1) table.now.table_id seat.table_id seat.me }
     requires slot { slot ≡ 6 + seat_index S.who }
-    ensures { Opened S.who (first_known generation) table.now.table_id result.seat.table_id result.seat.me result.slot result.fills result.empties }
+    ensures { Opened S.who (first_known 1) table.now.table_id result.seat.table_id result.seat.me result.slot result.fills result.empties }
 {
-    let _ = generation;
     table.load::<FirstSlot<S>>(&mut seat, 0);
     SeatState {
         seat,
@@ -52,43 +46,38 @@ fn first_state<S: Seated>(
 }
 
 // A seat is split off the first one of a new table, and takes its slot.
-fn split_off<S: Seated>(
-    table: &SharedTable,
-    generation: u64,
-    lead: &mut TableSeat,
-    slot: usize,
-) -> SeatState
+fn split_off<S: Seated>(table: &SharedTable, lead: &mut TableSeat, slot: usize) -> SeatState
     requires table { (lead.old.table_id ≡ table.now.table_id) × (table.now.table_id.words ≡ 11) }
-    requires lead { has lead.old.me.0 S.who × (lead.old.me.0.core ≡ first_core generation) }
+    requires lead { has lead.old.me.0 S.who × (lead.old.me.0.core ≡ first_core 1) }
     requires slot { slot ≡ 6 + seat_index S.who }
     ensures table { lead.new.table_id ≡ lead.old.table_id }
     ensures lead { lead.new.me ≡ (without S.who lead.old.me.0, lead.old.me.1) }
-    ensures seat { Opened S.who (first_known generation) table.now.table_id result.seat.table_id result.seat.me result.slot result.fills result.empties }
+    ensures seat { Opened S.who (first_known 1) table.now.table_id result.seat.table_id result.seat.me result.slot result.fills result.empties }
 {
     let seat = table.split_seat::<Part<S>>(lead);
-    first_state::<S>(table, generation, seat, slot)
+    first_state::<S>(table, seat, slot)
 }
 
 // A new table at which nothing is known yet, whose first seat is split into five.
-pub(crate) fn open(alloc: Global, generation: u64) -> Result<(Fabric, SeatStates), AllocError>
-    ensures primary { IfOk result (λ t. Opened Primary (first_known generation) t.0 t.1.primary.seat.table_id t.1.primary.seat.me t.1.primary.slot t.1.primary.fills t.1.primary.empties) }
-    ensures link { IfOk result (λ t. Opened Link (first_known generation) t.0 t.1.link.seat.table_id t.1.link.seat.me t.1.link.slot t.1.link.fills t.1.link.empties) }
-    ensures backup { IfOk result (λ t. Opened Backup (first_known generation) t.0 t.1.backup.seat.table_id t.1.backup.seat.me t.1.backup.slot t.1.backup.fills t.1.backup.empties) }
-    ensures terminal { IfOk result (λ t. Opened Terminal (first_known generation) t.0 t.1.terminal.seat.table_id t.1.terminal.seat.me t.1.terminal.slot t.1.terminal.fills t.1.terminal.empties) }
-    ensures disk { IfOk result (λ t. Opened Disk (first_known generation) t.0 t.1.disk.seat.table_id t.1.disk.seat.me t.1.disk.slot t.1.disk.fills t.1.disk.empties) }
+pub(crate) fn open(alloc: Global) -> Result<(Fabric, SeatStates), AllocError>
+    ensures primary { IfOk result (λ t. Opened Primary (first_known 1) t.0 t.1.primary.seat.table_id t.1.primary.seat.me t.1.primary.slot t.1.primary.fills t.1.primary.empties) }
+    ensures link { IfOk result (λ t. Opened Link (first_known 1) t.0 t.1.link.seat.table_id t.1.link.seat.me t.1.link.slot t.1.link.fills t.1.link.empties) }
+    ensures backup { IfOk result (λ t. Opened Backup (first_known 1) t.0 t.1.backup.seat.table_id t.1.backup.seat.me t.1.backup.slot t.1.backup.fills t.1.backup.empties) }
+    ensures terminal { IfOk result (λ t. Opened Terminal (first_known 1) t.0 t.1.terminal.seat.table_id t.1.terminal.seat.me t.1.terminal.slot t.1.terminal.fills t.1.terminal.empties) }
+    ensures disk { IfOk result (λ t. Opened Disk (first_known 1) t.0 t.1.disk.seat.table_id t.1.disk.seat.me t.1.disk.slot t.1.disk.fills t.1.disk.empties) }
 {
     let made: (PairTable, TableSeat) = Table::vacant(
         alloc,
         &[0, 0, 0, 0, 0, 0, 1, 2, 3, 4, 5],
         11,
-        &generation,
+        &1,
     )?;
     let (table, mut lead) = made;
-    let link = split_off::<LinkSeat>(&table.shared, generation, &mut lead, 7);
-    let backup = split_off::<BackupSeat>(&table.shared, generation, &mut lead, 8);
-    let terminal = split_off::<TerminalSeat>(&table.shared, generation, &mut lead, 9);
-    let disk = split_off::<DiskSeat>(&table.shared, generation, &mut lead, 10);
-    let primary = first_state::<PrimarySeat>(&table.shared, generation, lead, 6);
+    let link = split_off::<LinkSeat>(&table.shared, &mut lead, 7);
+    let backup = split_off::<BackupSeat>(&table.shared, &mut lead, 8);
+    let terminal = split_off::<TerminalSeat>(&table.shared, &mut lead, 9);
+    let disk = split_off::<DiskSeat>(&table.shared, &mut lead, 10);
+    let primary = first_state::<PrimarySeat>(&table.shared, lead, 6);
     let states = SeatStates {
         primary,
         link,
@@ -111,16 +100,16 @@ pub struct FiveSeats {
 
 impl Fabric {
     /// A table for one generation, and its seats, which know nothing yet. `OutOfMemory` is its only refusal.
-    pub fn open(alloc: Global, generation: u64) -> Result<(Fabric, FiveSeats), Fault>
+    pub fn open(alloc: Global) -> Result<(Fabric, FiveSeats), Fault>
         ensures refused { IfErr result (λ fault. fault ≡ OutOfMemory) }
         ensures one { IfOk result (λ t. (t.1.primary.table ≡ t.0) × (t.1.link.table ≡ t.0) × (t.1.backup.table ≡ t.0) × (t.1.terminal.table ≡ t.0) × (t.1.disk.table ≡ t.0)) }
-        ensures primary { IfOk result (λ t. t.1.primary.core ≡ with_slot Primary true (first_core generation)) }
-        ensures link { IfOk result (λ t. (t.1.link.core ≡ with_slot Link true (first_core generation)) × (t.1.link.hand ≡ None)) }
-        ensures backup { IfOk result (λ t. t.1.backup.core ≡ with_slot Backup true (first_core generation)) }
-        ensures terminal { IfOk result (λ t. t.1.terminal.core ≡ with_slot Terminal true (first_core generation)) }
-        ensures disk { IfOk result (λ t. t.1.disk.core ≡ with_slot Disk true (first_core generation)) }
+        ensures primary { IfOk result (λ t. t.1.primary.core ≡ with_slot Primary true (first_core 1)) }
+        ensures link { IfOk result (λ t. (t.1.link.core ≡ with_slot Link true (first_core 1)) × (t.1.link.hand ≡ None)) }
+        ensures backup { IfOk result (λ t. t.1.backup.core ≡ with_slot Backup true (first_core 1)) }
+        ensures terminal { IfOk result (λ t. t.1.terminal.core ≡ with_slot Terminal true (first_core 1)) }
+        ensures disk { IfOk result (λ t. t.1.disk.core ≡ with_slot Disk true (first_core 1)) }
     {
-        let (fabric, states) = open(alloc, generation)?;
+        let (fabric, states) = open(alloc)?;
         let SeatStates {
             primary,
             link,
@@ -131,7 +120,7 @@ impl Fabric {
         let seats = FiveSeats {
             primary: PrimarySeat {
                 state: primary,
-                generation,
+                generation: 1,
                 length: 0,
                 seen: 0,
             },

@@ -5,7 +5,7 @@ use Rattle.std.proofs.Common.{◌≡◌, ◌⊎◌, inl, inr, ℕ, zero, suc, �
 use Rattle.std.specs.Prelude.{Result, Ok, Err, IsOk, OnOk}
 use Rattle.std.proofs.Math.Seq.{take-length}
 use Rattle.std.proofs.lemmas.Bool.{false≢true}
-use Rattle.pair_threads.proofs.Words.{BackupView, BackupWorker, ComesAndGoes, ComesAndGoes-booted, Counts, Counts-booted, Decided, DiskView, EndsAlone, EndsBy, EndsWell, Entry, IsAt, IsAtRest, IsStore, IsWhereItLeads, Lawful, Leads, Machine, PrimaryView, PrimaryWorker, Record, Recorded-booted, Repeats, SectorAddress, Settled, StartsWith, TerminalView, Who, WorkerLeads, accepted_after, arrival_of, booted_from, bytes_in, last_count, last_or, winner_named, winner_of, longer_by}
+use Rattle.pair_threads.proofs.Words.{BackupView, BackupWorker, ComesAndGoes, ComesAndGoes-booted, Counts, Counts-booted, Decided, DiskView, EndsAlone, EndsBy, EndsWell, Entry, IsAt, IsAtRest, IsStore, IsWhereItLeads, Lawful, Leads, Machine, PrimaryView, PrimaryWorker, Record, Recorded-booted, SectorAddress, Settled, StartsWith, TerminalView, Who, WorkerLeads, accepted_after, arrival_of, booted_from, bytes_in, last_count, last_or, winner_named, winner_of, longer_by}
 use Rattle.pair_rule.proofs.ListsThatGrow.{last_below}
 use Rattle.pair_threads.specs.declared.gate.Who.TheVariants as who
 use Rattle.pair_threads.specs.Left.{Leaves, LeavesBy}
@@ -89,24 +89,11 @@ no_other (suc (suc n)) other is = inr cc
 how_long : {T : Type 0} (v : Vec T Global) → vec_len v ≡ length v.items
 how_long v = omega (arith, v.ok.0)
 
--- a guest that has repeated the whole list has made the run of it, and is at its last entry if it is to be exact
+-- a guest that has repeated the whole list has made the run of it
 ran_all : {B S : Type 0} (state : B → S) (N : Machine S) (boot : S) (b : BackupWorker B) → IsAt state N boot b.guest
     → b.guest.replayed ≡ length b.guest.list.items → Ran N boot b.guest.list.items (state b.guest.board)
 ran_all state N boot b at all = subst (λ l. Ran N boot l (state b.guest.board))
     (ap (λ n. take n b.guest.list.items) all ∙ take-length b.guest.list.items) at.ran
-
-all_repeated : {B S : Type 0} (state : B → S) (N : Machine S) (boot : S) (b : BackupWorker B)
-    → IsAt state N boot b.guest → b.plan.exact ≡ true → b.guest.replayed ≡ length b.guest.list.items
-    → Repeats N boot b.guest.list.items false (state b.guest.board)
-all_repeated state N boot b at stays all = go b.guest.between refl
-  where
-    whole : Repeats N boot b.guest.list.items b.guest.between (state b.guest.board)
-    whole = subst (λ l. Repeats N boot l b.guest.between (state b.guest.board))
-        (ap (λ n. take n b.guest.list.items) all ∙ take-length b.guest.list.items) at
-
-    go : (between : Bool) → b.guest.between ≡ between → Repeats N boot b.guest.list.items false (state b.guest.board)
-    go false is = subst (λ between. Repeats N boot b.guest.list.items between (state b.guest.board)) is whole
-    go true is = absurd (let a = b.guest.towards (b.exact ∙ stays) is in omega (arith, a, all))
 
 module _ {B S : Type 0} (state : B → S) (N : Machine S) (counts : Counts N) (laws : ComesAndGoes N) (boot : S)
     (first : List Record) (lawful : Lawful (booted_from N boot (bytes_in first))) (p : PrimaryWorker B) (b : BackupWorker B)
@@ -135,12 +122,9 @@ module _ {B S : Type 0} (state : B → S) (N : Machine S) (counts : Counts N) (l
   ran all = subst (λ l. Ran M boot l (state b.guest.board)) b.same
       (ran_there N boot (bytes_in first) boot b.guest.list.items (state b.guest.board) (ran_all state N boot b at all))
 
-  repeats : b.plan.exact ≡ true → b.guest.replayed ≡ length b.guest.list.items
-      → Repeats M boot backup.list false (state b.guest.board)
-  repeats stays all = record {
-    ran = ran all;
-    at = λ here. (all_repeated state N boot b at stays all).at refl ∙ ap (last_count (N.count boot)) b.same;
-  }
+  last_at : b.guest.replayed ≡ length b.guest.list.items
+      → M.count (state b.guest.board) ≡ last_count (M.count boot) backup.list
+  last_at all = at.at all ∙ ap (last_count (N.count boot)) b.same
 
   less0 : p.port0.accepted ≤ primary.counted0
   less0 = (let a = p.accepted.0 in let b = p.saw_counted.0 in omega (arith, a, b))
@@ -165,13 +149,12 @@ module _ {B S : Type 0} (state : B → S) (N : Machine S) (counts : Counts N) (l
       p.guest.waiting p.guest.given.items (state p.guest.board) known p.port0.typed.items p.port1.typed.items
       p.port0.taken p.port1.taken p.port0.accepted p.port1.accepted leads.2 less0 less1 records store
 
-  second_there : b.plan.exact ≡ true → b.guest.replayed ≡ length b.guest.list.items
-      → IsWhereItLeads M backup.list (state b.guest.board)
-  second_there stays all = backup_where M lawful (Counts-booted N boot (bytes_in first) counts)
+  second_there : b.guest.replayed ≡ length b.guest.list.items → IsWhereItLeads M backup.list (state b.guest.board)
+  second_there all = backup_where M lawful (Counts-booted N boot (bytes_in first) counts)
       (ComesAndGoes-booted N boot (bytes_in first) laws) primary backup terminal disk tail held winner settled
       p.guest.waiting p.guest.given.items (state p.guest.board) known p.port0.typed.items p.port1.typed.items
       p.port0.taken p.port1.taken p.port0.accepted p.port1.accepted leads.2 less0 less1 records store
-      (state b.guest.board) (repeats stays all)
+      (state b.guest.board) (ran all) (last_at all)
 
   first_left : Leaves M p.port0.typed.items p.port1.typed.items (longer_by primary.list p.guest.waiting) screens records
       (state p.guest.board)
@@ -186,44 +169,44 @@ module _ {B S : Type 0} (state : B → S) (N : Machine S) (counts : Counts N) (l
       (ComesAndGoes-booted N boot (bytes_in first) laws) primary backup terminal disk tail held winner settled
       p.guest.waiting p.guest.given.items (state p.guest.board) known p.port0.typed.items p.port1.typed.items
       p.port0.taken p.port1.taken p.port0.accepted p.port1.accepted leads.2 less0 less1 records store
-      (state b.guest.board) (ran all)
+      (state b.guest.board) (ran all) (last_at all)
 
   -- nobody is
-  both_well : b.plan.exact ≡ true → IsAtRest state N p → b.guest.replayed ≡ length b.guest.list.items
+  both_well : IsAtRest state N p → b.guest.replayed ≡ length b.guest.list.items
       → EndsWell M p.port0.typed.items p.port1.typed.items primary.list screens records (state p.guest.board)
       (state b.guest.board)
-  both_well stays rest all = well M lawful (Counts-booted N boot (bytes_in first) counts)
+  both_well rest all = well M lawful (Counts-booted N boot (bytes_in first) counts)
       (ComesAndGoes-booted N boot (bytes_in first) laws) primary backup terminal disk tail held winner settled
       p.guest.waiting p.guest.given.items (state p.guest.board) known p.port0.typed.items p.port1.typed.items
       p.port0.taken p.port1.taken p.port0.accepted p.port1.accepted leads.2 less0 less1 records store
       rest.none_waits rest.none (seen rest) (rest.all0 ∙ how_long p.port0.typed) (rest.all1 ∙ how_long p.port1.typed)
-      (leads.1 rest.idle) rest.no_sector (state b.guest.board) (repeats stays all)
+      (leads.1 rest.idle) rest.no_sector (state b.guest.board) (second_there all)
 
-  by_winner : b.plan.exact ≡ true → (goes : Option Who) → goes ≡ winner_named winner → (goes ≡ None → contested ≡ false)
+  by_winner : (goes : Option Who) → goes ≡ winner_named winner → (goes ≡ None → contested ≡ false)
       → EndsBy M p.port0.typed.items p.port1.typed.items goes primary.list backup.list held screens records
       (state p.guest.board) (state b.guest.board)
-  by_winner stays None is quiet =
+  by_winner None is quiet =
       let rest = rests (quiet refl) in (
         one_list primary backup terminal disk tail held winner settled (seen rest),
         all_held primary backup terminal disk tail held winner settled (seen rest),
-        both_well stays rest (repeated (inl (quiet refl))),
+        both_well rest (repeated (inl (quiet refl))),
       )
-  by_winner stays (Some who.Primary) is quiet = first_alone
-  by_winner stays (Some who.Backup) is quiet = (
+  by_winner (Some who.Primary) is quiet = first_alone
+  by_winner (Some who.Backup) is quiet = (
     second_alone,
-    second_there stays (repeated (inr (backup_won primary backup terminal disk tail held winner settled (sym is)))),
+    second_there (repeated (inr (backup_won primary backup terminal disk tail held winner settled (sym is)))),
   )
-  by_winner stays (Some who.Link) is quiet = go (no_other winner who.Link (sym is))
+  by_winner (Some who.Link) is quiet = go (no_other winner who.Link (sym is))
     where
       go : (who.Link ≡ who.Primary) ⊎ (who.Link ≡ who.Backup) → ⊥
       go (inl e) = absurd cc
       go (inr e) = absurd cc
-  by_winner stays (Some who.Terminal) is quiet = go (no_other winner who.Terminal (sym is))
+  by_winner (Some who.Terminal) is quiet = go (no_other winner who.Terminal (sym is))
     where
       go : (who.Terminal ≡ who.Primary) ⊎ (who.Terminal ≡ who.Backup) → ⊥
       go (inl e) = absurd cc
       go (inr e) = absurd cc
-  by_winner stays (Some who.Disk) is quiet = go (no_other winner who.Disk (sym is))
+  by_winner (Some who.Disk) is quiet = go (no_other winner who.Disk (sym is))
     where
       go : (who.Disk ≡ who.Primary) ⊎ (who.Disk ≡ who.Backup) → ⊥
       go (inl e) = absurd cc
@@ -259,14 +242,14 @@ module _ {B S : Type 0} (state : B → S) (N : Machine S) (counts : Counts N) (l
       nobody (inr e) = absurd cc
 
   -- so with the lists that the workers keep
-  pub ends : b.plan.exact ≡ true → (goes : Option Who) → goes ≡ winner_named winner → (goes ≡ None → contested ≡ false)
+  pub ends : (goes : Option Who) → goes ≡ winner_named winner → (goes ≡ None → contested ≡ false)
       → EndsBy M p.port0.typed.items p.port1.typed.items goes p.list.items b.guest.list.items held screens records
       (state p.guest.board) (state b.guest.board)
-  ends stays goes is quiet =
+  ends goes is quiet =
       subst (λ l. EndsBy M p.port0.typed.items p.port1.typed.items goes l b.guest.list.items held screens records
       (state p.guest.board) (state b.guest.board)) (sym p.same)
       (subst (λ l. EndsBy M p.port0.typed.items p.port1.typed.items goes primary.list l held screens records
-      (state p.guest.board) (state b.guest.board)) (sym b.same) (by_winner stays goes is quiet))
+      (state p.guest.board) (state b.guest.board)) (sym b.same) (by_winner goes is quiet))
 
   pub left : (goes : Option Who) → goes ≡ winner_named winner → (goes ≡ None → contested ≡ false) → (waiting : Option Entry)
       → waiting ≡ p.guest.waiting

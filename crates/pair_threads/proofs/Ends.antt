@@ -1,23 +1,20 @@
 -- How a generation ends. The primary's guest has made a run of its list, in which each sector carried what the machine's
 -- own disk had. What terminals and disk have was given in the moves up to any list that has all entries seen: the
 -- primary's, or the backup's. If nothing is outstanding, and all is seen, they have what the whole run gave.
-use Rattle.std.proofs.Common.{◌≡◌, ℕ, zero, suc, ◌+◌, ◌<◌, ◌≤◌, ◌⊎◌, inl, inr, false, List, [], ◌∷◌, ◌++◌, length, map, take, drop, Option, Some, None, refl, sym, ap, subst, ◌∙◌, arith, length-append, append-nil, append_assoc}
+use Rattle.std.proofs.Common.{◌≡◌, ℕ, zero, suc, ◌<◌, ◌≤◌, ◌⊎◌, inl, inr, List, [], ◌∷◌, ◌++◌, length, map, take, drop, Option, Some, None, refl, sym, ap, subst, ◌∙◌, arith, length-append, append-nil, append_assoc}
 use Rattle.std.proofs.Math.Seq.{take-length}
 use Rattle.std.proofs.lemmas.List.{take-append-drop}
 use Rattle.std.specs.Prelude.{Contains}
-use Rattle.pair_threads.proofs.Words.{AllAre, Among, Arrived, BackupView, Byte, ComesAndGoes, Counts, DiskView, Do, EachScreen, EndsAlone, EndsWell, Entry, HasWrite, Idle, IsDone, IsFirst, IsPrefix, IsReplied, IsStore, IsTraceOf, IsWhereItLeads, Lawful, Leads, Logged, Machine, MayHave, Move, NoSectorIsDue, OpId, Operation, Owns, PrimaryView, Record, Recorded, Repeats, Runs, Says, SectorAddress, SectorRead, SectorWrite, Settled, StartsWith, Take, TerminalView, Write, acceptances, acceptances-append, accepted_after, address_of, all_map, among-prefix, arrival_of, by_port, entries, inputs, inputs_of, inputs_of-append, inputs_of-entries, keys, keys-append, last_count, operations, operations-prefix, output, owns-append, owns-prefix, read_address, run_goes_on, sector_record, step_refusal, steps, typed_at, longer_by}
-use Rattle.guest_lockstep.specs.declared.timed.Bare.TheVariants.{Written}
-use Rattle.guest_lockstep.specs.declared.timed.Timed.{Timed}
+use Rattle.pair_threads.proofs.Words.{AllAre, Among, Arrived, BackupView, Byte, ComesAndGoes, Counts, DiskView, EachScreen, EndsAlone, EndsWell, Entry, HasWrite, Idle, IsDone, IsFirst, IsPrefix, IsReplied, IsStore, IsTraceOf, IsWhereItLeads, Lawful, Leads, Logged, Machine, MayHave, Move, NoSectorIsDue, OpId, Operation, Owns, PrimaryView, Record, Runs, Says, SectorAddress, SectorRead, SectorWrite, Settled, StartsWith, TerminalView, Write, acceptances, acceptances-append, accepted_after, address_of, all_map, arrival_of, by_port, entries, inputs, inputs_of, inputs_of-append, inputs_of-entries, keys, keys-append, last_count, operations, output, read_address, sector_record, step_refusal, typed_at, longer_by}
 use Rattle.pair_protocol.specs.Traces.{cut}
 use Rattle.pair_protocol.proofs.Traces.Cuts.{cut-prefix}
-use Rattle.pair_protocol.proofs.Traces.Recorded.{recorded-prefix, recorded-runs}
+use Rattle.pair_protocol.proofs.Traces.Recorded.{recorded-runs}
 use Rattle.pair_rule.specs.declared.payload.DiskAnswer.TheVariants as answer
-use Rattle.pair_rule.proofs.LongerRuns.{GoesOn}
 use Rattle.pair_rule.proofs.ShownGuards.{all_in}
 use Rattle.pair_threads.specs.Left.{IsScreenOf, IsStoreOf, Leaves}
-use Rattle.pair_threads.proofs.AtRest.{all_accepted}
+use Rattle.pair_progress.proofs.Given.{all_accepted}
 use Rattle.pair_threads.proofs.Delivered.{at_rest, in_sector, on_screen, whole_screen}
-use Rattle.pair_threads.proofs.FirstEntries.{all_of_it, first_part, given_at_all, given_first, repeated}
+use Rattle.pair_threads.proofs.FirstEntries.{all_of_it, first_moves, first_owns, first_part, given_at_all, given_first, given_there, repeated, same_entries}
 use Rattle.pair_threads.proofs.OneMoment.{StandsOf, stands_of}
 use Rattle.pair_threads.proofs.OwnDisk.{IsReadOf, answered, answers_prefix, owns}
 use Rattle.replayer.specs.Following.{Ran}
@@ -85,14 +82,6 @@ nothing_out M list names view s leads none name = go (M.find s name) refl
 all_on_screen : (given accepted a counted most : ℕ) → given ≤ accepted → accepted ≡ a → a ≤ counted → counted ≤ most
     → given ≤ most
 all_on_screen given accepted a counted most few is less le = omega (arith, few, is, less, le)
-
--- quiet steps bring no sector
-owns-quiet : {S : Type 0} (M : Machine S) (c : ℕ) (before : List Move) (s : S) (moves : List Move)
-    → entries Logged c moves ≡ [] → Owns M before s moves
-owns-quiet M c before s [] none = tt
-owns-quiet M c before s (Do None ∷ moves) none = λ u e. owns-quiet M (suc c) (before ++ Do None ∷ []) u moves none
-owns-quiet M c before s (Do (Some o) ∷ moves) none = absurd cc
-owns-quiet M c before s (Take i ∷ moves) none = absurd cc
 
 module _ {S : Type 0} (M : Machine S) (lawful : Lawful M) (counts : Counts M) (laws : ComesAndGoes M)
     (primary : PrimaryView) (backup : BackupView) (terminal : TerminalView) (disk : DiskView) (tail held winner : ℕ)
@@ -281,63 +270,38 @@ module _ {S : Type 0} (M : Machine S) (lawful : Lawful M) (counts : Counts M) (l
     store = store_left leads.moves s runs issued (came leads.moves s ([], append-nil leads.moves) runs);
   }
 
-  -- and that of a backup which has repeated its list: it is at the last entry, or has gone on quietly from there
-  pub backup_leaves : (t : S) → Ran M M.boot backup.list t → Leaves M typed0 typed1 backup.list screens records t
-  backup_leaves t r = record {
-    moves = r.moves;
-    recorded = r.runs;
-    owns = subst (Owns M [] M.boot) (sym goes.all)
-        (owns-append M [] M.boot there.0 trace goes.rest there_runs
-        (owns-prefix M M.boot trace leads.moves below owned)
-        (owns-quiet M (0 + steps trace) trace there.0 goes.rest goes.none));
-    entries_are = is;
-    keys_kept = keys_left backup.list starts r.moves is;
-    screens_are = screens_left r.moves t made given (told_of backup.list starts r.moves is);
-    store = store_left r.moves t made given (λ n d. came trace there.0 below there_runs n
-        (subst (λ l. Among (Written n) (map (λ (x : Timed). x.input) l)) same_inputs d));
-  }
-    where
-      trace : List Move
-      trace = cut (length backup.list) leads.moves
+  -- and that of a backup which has repeated its list
+  module _ (t : S) (r : Ran M M.boot backup.list t) (here : M.count t ≡ last_count (M.count M.boot) backup.list) where
+    abbrev more : List Entry
+    more = starts.0
 
-      below : IsPrefix trace leads.moves
-      below = cut-prefix (length backup.list) leads.moves
+    splits : entries Logged 0 leads.moves ≡ backup.list ++ more
+    splits = are ∙ starts.1
 
-      part : (u : S) × IsTraceOf M backup.list (last_count 0 backup.list) trace u
-      part = first_part M lawful leads.moves s runs owned backup.list starts.0 (are ∙ starts.1)
+    pub backup_where : IsWhereItLeads M backup.list t
+    backup_where = repeated M lawful leads.moves s runs owned backup.list more splits counts t r here
 
-      there : (u : S) × Recorded M M.boot trace u
-      there = recorded-prefix M M.boot s trace leads.moves below leads.runs
+    pub backup_leaves : Leaves M typed0 typed1 backup.list screens records t
+    backup_leaves = record {
+      moves = r.moves;
+      recorded = r.runs;
+      owns = first_owns M lawful leads.moves s runs owned backup.list more splits counts t r here;
+      entries_are = is;
+      keys_kept = keys_left backup.list starts r.moves is;
+      screens_are = screens_left r.moves t made given (told_of backup.list starts r.moves is);
+      store = store_left r.moves t made given (came r.moves t
+          (first_moves M lawful leads.moves s runs owned backup.list more splits counts t r here) made);
+    }
+      where
+        is : entries Logged 0 r.moves ≡ backup.list
+        is = same_entries M lawful leads.moves s runs owned backup.list more splits counts t r here
 
-      there_runs : Runs M M.boot trace there.0
-      there_runs = recorded-runs M M.boot there.0 trace there.1
+        made : Runs M M.boot r.moves t
+        made = recorded-runs M M.boot t r.moves r.runs
 
-      zero_at : M.count M.boot ≡ 0
-      zero_at = lawful.counts [] M.boot refl
-
-      is : entries Logged 0 r.moves ≡ backup.list
-      is = ap (λ c. entries Logged c r.moves) (sym zero_at) ∙ r.entries_are
-
-      made : Runs M M.boot r.moves t
-      made = recorded-runs M M.boot t r.moves r.runs
-
-      goes : GoesOn M trace r.moves there.0 t
-      goes = run_goes_on M counts zero_at backup.list trace there.0 there.1 part.1.entries_are
-          (lawful.counts trace there.0 there_runs ∙ part.1.reach.count_is) r.moves t r.runs is
-
-      same_inputs : inputs 0 r.moves ≡ inputs 0 trace
-      same_inputs = sym (inputs_of-entries Logged 0 r.moves) ∙ ap inputs_of (is ∙ sym part.1.entries_are)
-          ∙ inputs_of-entries Logged 0 trace
-
-      given : (o : Operation) → Among o primary.released → Among o (operations r.moves)
-      given o at =
-          among-prefix o (operations trace) (operations r.moves)
-          (operations-prefix trace r.moves (goes.rest, sym goes.all))
-          (given_first (length backup.list) primary.seen leads.moves o stands.seen (leads.covered o at))
-
-  -- where it is: at the last entry
-  pub backup_where : (t : S) → Repeats M M.boot backup.list false t → IsWhereItLeads M backup.list t
-  backup_where t r = repeated M lawful leads.moves s runs owned backup.list starts.0 (are ∙ starts.1) counts t r
+        given : (o : Operation) → Among o primary.released → Among o (operations r.moves)
+        given o at = given_there M lawful leads.moves s runs owned backup.list more splits counts t r here primary.seen o
+            stands.seen (leads.covered o at)
 
   -- ---- at rest
 
@@ -357,8 +321,8 @@ module _ {S : Type 0} (M : Machine S) (lawful : Lawful M) (counts : Counts M) (l
 
   pub well : waiting ≡ None → names ≡ [] → primary.seen ≡ length primary.list → n0 ≡ length typed0 → n1 ≡ length typed1
       → step_refusal M s ≡ Some Idle → NoSectorIsDue M s → (t : S)
-      → Repeats M M.boot backup.list false t → EndsWell M typed0 typed1 primary.list screens records s t
-  well none_waits none seen is0 is1 idle no_sector t repeats = record {
+      → IsWhereItLeads M backup.list t → EndsWell M typed0 typed1 primary.list screens records s t
+  well none_waits none seen is0 is1 idle no_sector t copied = record {
     trace = leads.moves;
     is = all_of_it M lawful leads.moves s runs owned primary.list (are ∙ whole none_waits none);
     idle = idle;
@@ -388,4 +352,4 @@ module _ {S : Type 0} (M : Machine S) (lawful : Lawful M) (counts : Counts M) (l
           (all_seen (length primary.list) (length backup.list) primary.seen stands.seen seen)
 
       there : IsWhereItLeads M primary.list t
-      there = subst (λ l. IsWhereItLeads M l t) same (backup_where t repeats)
+      there = subst (λ l. IsWhereItLeads M l t) same copied

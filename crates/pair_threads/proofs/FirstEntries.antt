@@ -1,11 +1,13 @@
 -- The trace of the first entries of a recorded run, whose sectors are those of the machine's own disk; a second run of
 -- these entries, up to the count of the last, is that trace; and what is acknowledged by them was given in it.
-use Rattle.std.proofs.Common.{◌≡◌, ℕ, zero, suc, ◌<◌, ◌≤◌, inl, inr, false, List, [], ◌∷◌, ◌++◌, length, take, Some, None, refl, sym, ap, subst, ◌∙◌, arith, length-append}
+use Rattle.std.proofs.Common.{◌≡◌, ℕ, zero, suc, ◌<◌, ◌≤◌, inl, inr, List, [], ◌∷◌, ◌++◌, length, take, Some, None, refl, sym, ap, subst, ◌∙◌, arith, length-append}
 use Rattle.std.proofs.Math.Seq.{take-append_seam}
-use Rattle.pair_threads.proofs.Words.{Among, Counts, Do, Entry, IsAcknowledged, IsTraceOf, IsWhereItLeads, Lawful, Logged, Machine, Move, Operation, Owns, Reach, Repeats, Runs, Take, among-right, entries, front, inputs, inputs_of, inputs_of-entries, last_count, operations, operations-append, owns-prefix, steps}
+use Rattle.pair_threads.proofs.Words.{Among, Counts, Do, Entry, IsAcknowledged, IsPrefix, IsTraceOf, IsWhereItLeads, Lawful, Logged, Machine, Move, Operation, Owns, Reach, Runs, Take, among-prefix, among-right, entries, front, inputs, inputs_of, inputs_of-entries, last_count, operations, operations-append, operations-prefix, owns-prefix, steps}
 use Rattle.pair_protocol.specs.Traces.{cut}
+use Rattle.pair_protocol.proofs.Traces.Cuts.{cut-longer, cut-prefix}
 use Rattle.pair_protocol.proofs.Traces.OneTrace.{first_entries}
 use Rattle.pair_protocol.proofs.Traces.Recorded.{recorded-runs}
+use Rattle.replayer.specs.Following.{Ran}
 
 no_longer : (list more all : List Entry) → all ≡ list ++ more → length list ≤ length all
 no_longer list more all is = (let a = length-append list more in let b = ap length is in omega (arith, a, b))
@@ -69,26 +71,53 @@ module _ {S : Type 0} (M : Machine S) (lawful : Lawful M) (moves : List Move) (s
         subst (λ l. Reach M (inputs_of l) (last_count 0 l) (cut (length list) moves)) e f.1 in
         (r.last, record { reach = r; ends = refl; entries_are = f.0 ∙ e })
 
-    -- a run that repeats the first entries, and ends at the last
-    pub repeated : Counts M → (t : S) → Repeats M M.boot list false t → IsWhereItLeads M list t
-    repeated counts t r =
-        let boot : M.count M.boot ≡ 0 = lawful.counts [] M.boot refl in
-        let made = recorded-runs M M.boot t r.ran.moves r.ran.runs in
-        let is : entries Logged 0 r.ran.moves ≡ list =
-        ap (λ c. entries Logged c r.ran.moves) (sym boot) ∙ r.ran.entries_are in
-        let at : M.count t ≡ last_count 0 list = r.at refl ∙ ap (λ c. last_count c list) boot in
-        let p = front M counts M.boot t s 0 r.ran.moves moves more boot made (at ∙ ap (last_count 0) (sym is)) runs
-        (are ∙ ap (λ l. l ++ more) (sym is)) in (
-          r.ran.moves,
-          record {
-            reach = record {
-              last = t;
-              runs = made;
-              owns = owns-prefix M M.boot r.ran.moves moves (p.0, sym p.1) owns;
-              list_is = sym (inputs_of-entries Logged 0 r.ran.moves) ∙ ap inputs_of is;
-              count_is = sym (lawful.counts r.ran.moves t made) ∙ at;
-            };
-            ends = refl;
-            entries_are = is;
-          },
-        )
+    module _ (counts : Counts M) (t : S) (r : Ran M M.boot list t) (here : M.count t ≡ last_count (M.count M.boot) list) where
+      boot : M.count M.boot ≡ 0
+      boot = lawful.counts [] M.boot refl
+
+      made : Runs M M.boot r.moves t
+      made = recorded-runs M M.boot t r.moves r.runs
+
+      pub same_entries : entries Logged 0 r.moves ≡ list
+      same_entries = ap (λ c. entries Logged c r.moves) (sym boot) ∙ r.entries_are
+
+      at : M.count t ≡ last_count 0 list
+      at = here ∙ ap (λ c. last_count c list) boot
+
+      -- a run that repeats the first entries, and ends at the last: it has the first moves
+      pub first_moves : IsPrefix r.moves moves
+      first_moves =
+          let p = front M counts M.boot t s 0 r.moves moves more boot made (at ∙ ap (last_count 0) (sym same_entries)) runs
+          (are ∙ ap (λ l. l ++ more) (sym same_entries)) in (p.0, sym p.1)
+
+      pub first_owns : Owns M [] M.boot r.moves
+      first_owns = owns-prefix M M.boot r.moves moves first_moves owns
+
+      pub repeated : IsWhereItLeads M list t
+      repeated = (
+        r.moves,
+        record {
+          reach = record {
+            last = t;
+            runs = made;
+            owns = first_owns;
+            list_is = sym (inputs_of-entries Logged 0 r.moves) ∙ ap inputs_of same_entries;
+            count_is = sym (lawful.counts r.moves t made) ∙ at;
+          };
+          ends = refl;
+          entries_are = same_entries;
+        },
+      )
+
+      -- and gave what is acknowledged by them
+      pub given_there : (seen : ℕ) (o : Operation) → seen ≤ length list → IsAcknowledged moves seen o → Among o (operations r.moves)
+      given_there seen o le a =
+          among-prefix o (operations (cut (length list) r.moves)) (operations r.moves)
+          (operations-prefix (cut (length list) r.moves) r.moves (cut-prefix (length list) r.moves))
+          (subst (λ l. Among o (operations l)) same_cut (given_first (length list) seen moves o le a))
+        where
+          all_there : length list ≤ length (entries Logged 0 r.moves)
+          all_there = (let b = ap length same_entries in omega (arith, b))
+
+          same_cut : cut (length list) moves ≡ cut (length list) r.moves
+          same_cut = ap (cut (length list)) (sym first_moves.1) ∙ cut-longer Logged (length list) 0 r.moves first_moves.0 all_there

@@ -11,7 +11,6 @@ pub mod KeptCalls
 pub mod Ports
 pub mod OneMoment
 pub mod Due
-pub mod AtRest
 pub mod Delivered
 pub mod FirstEntries
 pub mod OwnDisk

@@ -1,77 +1,55 @@
 -- The guest of a backup's worker: entries that arrive leave what it has repeated as it was; steps towards an entry keep it,
 -- and the entry's own move adds the entry.
-use Rattle.std.proofs.Common.{◌≡◌, ◌⊎◌, inl, inr, ℕ, suc, ◌+◌, ◌≤◌, Bool, true, false, Option, Some, None, Ok, Err, List, [], ◌∷◌, ◌++◌, length, take, refl, sym, ap, subst, ◌∙◌, arith}
-use Rattle.std.specs.Prelude.{IsSome, is_some, nat_lt, slice_get}
-use Rattle.std.proofs.lemmas.Bool.{true≢false}
-use Rattle.std.proofs.Math.Seq.{take-suc}
+use Rattle.std.proofs.Common.{◌≡◌, ◌⊎◌, inl, inr, ℕ, suc, ◌+◌, ◌<◌, ◌≤◌, Option, Some, None, Ok, Err, List, [], ◌∷◌, ◌++◌, length, take, refl, sym, ap, subst, ◌∙◌, arith, length-append}
+use Rattle.std.specs.Prelude.{IsSome, is_some, slice_get}
+use Rattle.std.proofs.Math.Seq.{take-length, take-suc}
 use Rattle.std.proofs.lemmas.List.{take-append-le}
 use Rattle.std.proofs.lemmas.Option.{get_or_from_slice_get, slice_get_within}
-use Rattle.pair_threads.proofs.Words.{BackupWorker, Counts, Entry, FollowsFor, GoesOn, HasAsked, IsAt, IsStuck, Machine, OutOfMemory, Repeats, Seat, StepsUnless, last_count-append, ran_ahead, step_refusal}
-use Rattle.guest_lockstep.specs.Running.{AllTurns, Gives, IsRefused, Quiet, RunsOn}
-use Rattle.guest_lockstep.specs.declared.running.Stopped.{Stopped}
-use Rattle.guest_lockstep.proofs.QuietSteps.{quiet_count}
+use Rattle.pair_threads.proofs.Words.{BackupWorker, Counts, Entry, FollowsFor, GoesOn, HasAsked, IsAt, IsStuck, Machine, OutOfMemory, Repeats, Seat, StepsUnless, last_count, last_count-append, step_refusal}
 use Rattle.i8080_words.specs.declared.refusal.Fault.{Fault}
-use Rattle.replayer.specs.Following.{Follows, Reaches}
+use Rattle.replayer.specs.Following.{Follows, Ran, Reaches}
 use Rattle.replayer.specs.declared.following.Followed.{Followed}
 use Rattle.replayer.specs.declared.following.Followed.TheVariants.{Differs, Stepped}
 use Rattle.replayer.proofs.FollowedEntries.{following_is_recording}
 use Rattle.pair_threads.specs.declared.plan.Plan.{Plan}
 use Rattle.pair_threads.specs.declared.repeater.Repeater.{Repeater}
 
-pub at_first : {S : Type 0} (M : Machine S) (boot : S) → Repeats M boot [] false boot
-at_first M boot = record { ran = record { moves = []; runs = refl; entries_are = refl }; at = λ here. refl }
-
--- a guest that runs past its last entry and gives no operation there makes quiet steps
-pub ran_quietly : {S : Type 0} (M : Machine S) (s t : S) (most : ℕ) (stopped : Stopped) (ran : Bool)
-    → RunsOn M s most stopped t → ran_ahead stopped.steps stopped.reason ≡ Ok ran → Quiet M s stopped.steps t
-ran_quietly M s t most _ ran (AllTurns q) is = q
-ran_quietly M s t most _ ran (Gives lt q allowed made) is = absurd cc
-ran_quietly M s t most _ ran (IsRefused lt q) is = q
-
--- it has made some if its count has risen
-more_by : (n before after : ℕ) → after ≡ n + before → nat_lt 0 n ≡ nat_lt before after
-more_by n before after is = grind (arith, is)
-
-pub risen : {S : Type 0} (M : Machine S) → Counts M → (s t : S) (n : ℕ) → Quiet M s n t
-    → nat_lt 0 n ≡ nat_lt (M.count s) (M.count t)
-risen M counts s t n quiet = more_by n (M.count s) (M.count t) (quiet_count M s t n counts quiet)
-
-module _ {S : Type 0} (M : Machine S) (boot s : S) (list : List Entry) (between : Bool) where
-  -- one more entry comes
-  pub kept : (replayed : ℕ) (e : Entry) → replayed ≤ length list → Repeats M boot (take replayed list) between s
-      → Repeats M boot (take replayed (list ++ e ∷ [])) between s
-  kept replayed e within r =
-      subst (λ l. Repeats M boot l between s) (sym (take-append-le replayed list (e ∷ []) within)) r
-
-  module _ (counts : Counts M) where
-    pub steps_on : (n turns : ℕ) (e : Entry) (t : S) → Repeats M boot list between s
-        → Follows M s e turns (Ok (Stepped n)) t → Repeats M boot list true t
-    steps_on n turns e t r follows =
-        record {
-          ran = (following_is_recording M counts boot s list r.ran).quietly n t follows.3;
-          at = λ not_between. absurd cc;
-        }
-
-    -- it makes steps past its last entry
-    pub runs_on : (n : ℕ) (t : S) → Repeats M boot list between s → Quiet M s n t → Repeats M boot list true t
-    runs_on n t r quiet = record {
-      ran = (following_is_recording M counts boot s list r.ran).quietly n t quiet;
-      at = λ not_between. absurd (true≢false not_between);
-    }
-
-    pub reaches : (e : Entry) (t : S) → Repeats M boot list between s → Reaches M s e t
-        → Repeats M boot (list ++ e ∷ []) false t
-    reaches e t r there =
-        let made = (following_is_recording M counts boot s list r.ran).reaches e t there in
-        record { ran = made.0; at = λ here. made.1 ∙ sym (last_count-append (M.count boot) list e) }
+pub at_first : {S : Type 0} (M : Machine S) (boot : S) → Repeats M boot [] 0 boot
+at_first M boot = record { ran = record { moves = []; runs = refl; entries_are = refl }; at = λ all. refl }
 
 -- the entries repeated after one more
-pub one_more : (list : List Entry) (replayed : ℕ) (e : Entry) → slice_get list replayed ≡ Some e
+one_more : (list : List Entry) (replayed : ℕ) (e : Entry) → slice_get list replayed ≡ Some e
     → take (replayed + 1) list ≡ take replayed list ++ e ∷ []
 one_more list replayed e is =
     let next : replayed + 1 ≡ suc replayed = omega arith in
     ap (λ n. take n list) next ∙ take-suc list replayed e (slice_get_within list replayed e is)
     ∙ ap (λ z. take replayed list ++ z ∷ []) (get_or_from_slice_get list replayed e e is)
+
+module _ {S : Type 0} (M : Machine S) (boot s : S) (list : List Entry) (replayed : ℕ) (r : Repeats M boot list replayed s) where
+  -- one more entry comes
+  pub kept : (e : Entry) → replayed ≤ length list → Repeats M boot (list ++ e ∷ []) replayed s
+  kept e within = record {
+    ran = subst (λ l. Ran M boot l s) (sym (take-append-le replayed list (e ∷ []) within)) r.ran;
+    at = λ all. absurd (let a = length-append list (e ∷ []) in let b = within in omega (arith, all, a, b));
+  }
+
+  module _ (counts : Counts M) where
+    pub steps_on : (n turns : ℕ) (e : Entry) (t : S) → replayed < length list → Follows M s e turns (Ok (Stepped n)) t
+        → Repeats M boot list replayed t
+    steps_on n turns e t within follows = record {
+      ran = (following_is_recording M counts boot s (take replayed list) r.ran).quietly n t follows.3;
+      at = λ all. absurd (let b = within in omega (arith, all, b));
+    }
+
+    pub reaches : (e : Entry) (t : S) → slice_get list replayed ≡ Some e → Reaches M s e t
+        → Repeats M boot list (replayed + 1) t
+    reaches e t is there =
+        let made = (following_is_recording M counts boot s (take replayed list) r.ran).reaches e t there in
+        let more = one_more list replayed e is in record {
+          ran = subst (λ l. Ran M boot l t) (sym more) made.0;
+          at = λ all. made.1 ∙ sym (last_count-append (M.count boot) (take replayed list) e)
+              ∙ ap (last_count (M.count boot)) (sym more ∙ ap (λ n. take n list) all ∙ take-length list);
+        }
 
 -- the next entry is followed
 pub follows_on : {B S : Type 0} (state : B → S) (M : Machine S) (steps : ℕ) (old new : Repeater B) (e : Entry)

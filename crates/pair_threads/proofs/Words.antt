@@ -14,20 +14,20 @@ pub use Rattle.guest_lockstep.specs.Outstanding.{ComesAndGoes, completed_by}
 pub use Rattle.guest_lockstep.specs.Reach.{Own, Owns, Reach, acceptances, accepted_at, bare, image, inputs, key_at, keys, operations, output, steps}
 pub use Rattle.guest_lockstep.specs.Recorded.{Accepts, Counts, Recorded}
 pub use Rattle.guest_lockstep.specs.declared.input.Input.{Input}
-pub use Rattle.guest_lockstep.specs.declared.reads.Reads.TheVariants.{Logged, Shared}
+pub use Rattle.guest_lockstep.specs.declared.reads.Reads.TheVariants.{Logged}
 pub use Rattle.i8080_words.specs.declared.refusal.Fault.TheVariants.{Idle, OutOfMemory}
 pub use Rattle.log_entry.specs.Entries.{count_of, entries, entry_of, inputs_of, is_read, last_count}
 pub use Rattle.log_entry.specs.declared.entry.Entry.{Entry}
-pub use Rattle.log_entry.specs.declared.entry.Entry.TheVariants.{Mark, Read, Rx, Sector, Sent, Written}
+pub use Rattle.log_entry.specs.declared.entry.Entry.TheVariants.{Mark}
 pub use Rattle.pair_protocol.proofs.Traces.Lists.{among-left, among-prefix, among-right, bool_cases, same_some}
-pub use Rattle.pair_protocol.proofs.Traces.Moves.{acceptances-append, acceptances_of-append, count_entry, inputs_of-append, inputs_of-entries, keys-append, last_count-append, operations-append, operations-prefix, output-append, owns-append, owns-prefix, runs-append}
+pub use Rattle.pair_protocol.proofs.Traces.Moves.{acceptances-append, acceptances_of-append, count_entry, inputs_of-append, inputs_of-entries, keys-append, last_count-append, operations-append, operations-prefix, output-append, owns-prefix, runs-append}
 pub use Rattle.pair_protocol.specs.Faithful.{IsAllBut, IsImage, IsOutstanding, IsPrefix, MayHave}
 pub use Rattle.pair_protocol.specs.Lawful.{Among, IsDone, IsUnwritten, IsWritten, Lawful}
 pub use Rattle.pair_protocol.specs.World.{Arrival, SectorRecord, accepted_after, latest, record_after, sector_record}
 pub use Rattle.pair_rule.proofs.Elements.{same_head, same_tail}
 pub use Rattle.pair_rule.proofs.Filled.{all_map, all_more, among_last}
-pub use Rattle.pair_rule.proofs.LongerRuns.{front, run_goes_on}
-pub use Rattle.pair_rule.specs.Kinds.{counted_at, with_known, with_slot}
+pub use Rattle.pair_rule.proofs.LongerRuns.{front}
+pub use Rattle.pair_rule.specs.Kinds.{counted_at, with_known}
 pub use Rattle.shared_disk.specs.Arrivals.{read_address}
 pub use Rattle.pair_rule.specs.Knowledge.{AllAre, Decided, HasWrite, IsReplied, Stands, StartsWith, appended, arrives, byte_arrived, last_or, put_by, winner_of, with_release}
 pub use Rattle.pair_rule.specs.Law.{IsTold, typed_at}
@@ -45,10 +45,10 @@ pub use Rattle.pair_rule.specs.declared.view.TerminalView.{TerminalView}
 pub use Rattle.shared_disk.specs.declared.disk.SectorRead.{SectorRead}
 pub use Rattle.shared_disk.specs.declared.store.Record.{Record}
 pub use Rattle.pair_threads.specs.Asking.{HasAsked}
-pub use Rattle.pair_threads.specs.Ending.{EachScreen, EndsAlone, EndsBy, EndsWell, IsTraceOf, IsWhereItLeads, NoSectorIsDue, NoneUnderWay, WonBy, winner_named}
+pub use Rattle.pair_threads.specs.Ending.{EachScreen, EndsAlone, EndsBy, EndsWell, IsTraceOf, IsWhereItLeads, NoSectorIsDue, NoneUnderWay, winner_named}
 pub use Rattle.pair_threads.specs.Leading.{AreAnswers, HeardOn, IdlesIf, IsAnswer, IsGiven, IsLeading, Leads, LeadsOn, Says, TakesOn, by_port, longer_by}
 pub use Rattle.pair_threads.specs.Primary.{CallsKept, IsAtRest, WorkerKeeps, WorkerLeads, Works, keys_by, keys_taken, told_by}
-pub use Rattle.pair_threads.specs.Repeating.{FollowsFor, GoesOn, IsAt, IsStuck, Repeats, ran_ahead}
+pub use Rattle.pair_threads.specs.Repeating.{FollowsFor, GoesOn, IsAt, IsStuck, Repeats}
 pub use Rattle.shared_disk.specs.Records.{bytes_in}
 pub use Rattle.pair_threads.specs.Stores.{Has, IsDiskOf, IsFirst, IsStore, Serves, at_boot}
 pub use Rattle.pair_threads.specs.declared.backup.BackupWorker.{BackupWorker}

@@ -1,5 +1,5 @@
 -- What the turns of a backup are.
-use Rattle.std.specs.Prelude.{◌≡◌, ◌≢◌, ◌⊎◌, ◌<◌, not, ℕ, Bool, true, false, if◌then◌else◌, List, length, Option, Some, is_some, option_map}
+use Rattle.std.specs.Prelude.{◌≡◌, ◌≢◌, ◌⊎◌, ◌<◌, ℕ, Bool, true, false, if◌then◌else◌, List, length, Option, Some, is_some, option_map}
 use Rattle.log_entry.specs.declared.entry.Entry.{Entry}
 use Rattle.pair_rule.specs.declared.mailbox.Mailbox.TheVariants.{Inbox}
 use Rattle.pair_rule.specs.declared.payload.Packet.{Packet}
@@ -21,34 +21,30 @@ next_chore Replay = Take
 abbrev pub turn_of_nothing : Bool → Bool → Turn
 turn_of_nothing waits all = if all then (if waits then Waits else Looks) else Moved
 
--- it waits once in a rotation: after a look into its box, unless its guest is past its last entry, for then it may run on
-abbrev pub turn_of_take : Bool → Bool → Bool → Turn
-turn_of_take found past all = if found then Moved else turn_of_nothing (not past) all
-
--- and then it waits after it has tried to run on; if it has run ahead, it moved
-abbrev pub turn_of_replay : Bool → Bool → Bool → Turn
-turn_of_replay ran past all = if ran then Moved else turn_of_nothing past all
+-- it waits once in a rotation: after a look into its box
+abbrev pub turn_of_take : Bool → Bool → Turn
+turn_of_take found all = if found then Moved else turn_of_nothing true all
 
 -- a packet is taken, or none is there
-abbrev pub TakesPacket : Core → Core → Bool → Bool → Turn → Type 0
-TakesPacket old new past all turn =
-    (found : Option Packet) × Empties Inbox (option_map Log found) old new × (turn ≡ turn_of_take (is_some found) past all)
+abbrev pub TakesPacket : Core → Core → Bool → Turn → Type 0
+TakesPacket old new all turn =
+    (found : Option Packet) × Empties Inbox (option_map Log found) old new × (turn ≡ turn_of_take (is_some found) all)
 
 -- once its list has grown, its guest makes at most 1,000 steps before the next look
 abbrev pub LooksSoon : List Entry → List Entry → ℕ → Type 0
 LooksSoon old new stride = length old < length new → stride ≡ 1000
 
 -- a look into its box, unless its guest is too far behind: then it goes on to repeat
-abbrev pub IsLook : Bool → Bool → Core → Core → Bool → Turn → Type 0
-IsLook true past old new all turn = (new ≡ old) × (turn ≡ Looks)
-IsLook false past old new all turn = TakesPacket old new past all turn
+abbrev pub IsLook : Bool → Core → Core → Bool → Turn → Type 0
+IsLook true old new all turn = (new ≡ old) × (turn ≡ Looks)
+IsLook false old new all turn = TakesPacket old new all turn
 
--- a turn by its chore, by whether its guest was too far behind, and whether it ran ahead; by what was found in the box; and by whether
--- its guest is then between two entries or past the last, and has repeated all
-abbrev pub IsTurnOf : Chore → Bool → Bool → Bool → Core → Core → Bool → Turn → Type 0
-IsTurnOf Take far ran past old new all turn = IsLook far past old new all turn
-IsTurnOf Hold far ran past old new all turn = turn ≡ turn_of_nothing false all
-IsTurnOf Replay far ran past old new all turn = turn ≡ turn_of_replay ran past all
+-- a turn by its chore, by whether its guest was too far behind, by what was found in the box, and by whether its guest has then
+-- repeated all
+abbrev pub IsTurnOf : Chore → Bool → Core → Core → Bool → Turn → Type 0
+IsTurnOf Take far old new all turn = IsLook far old new all turn
+IsTurnOf Hold far old new all turn = turn ≡ turn_of_nothing false all
+IsTurnOf Replay far old new all turn = turn ≡ turn_of_nothing false all
 
 -- a turn in which it asks to go on alone: it moves if it has won, and is at its end if it has lost
 abbrev pub turn_of_asking : Bool → Turn

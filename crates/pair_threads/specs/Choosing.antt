@@ -16,12 +16,10 @@ use Rattle.pair_threads.specs.declared.chore.Chore.{Chore}
 use Rattle.pair_threads.specs.declared.chore.Chore.TheVariants.{See, Emit, Count, Accept, Key, Ask, Answer, Complete, Post, Run}
 use Rattle.pair_threads.specs.declared.gate.Who.{Who}
 use Rattle.pair_threads.specs.declared.gate.Who.TheVariants.{Primary, Backup}
-use Rattle.pair_threads.specs.declared.lag.Lead.{Lead}
 use Rattle.pair_threads.specs.declared.port_inputs.PortInputs.{PortInputs}
 use Rattle.pair_threads.specs.declared.primary.PrimaryWorker.{PrimaryWorker}
 use Rattle.pair_threads.specs.declared.worker.Turn.{Turn}
 use Rattle.pair_threads.specs.declared.worker.Turn.TheVariants.{Moved, Looks, Waits}
-use Rattle.pair_threads.specs.Lagging.{is_too_far}
 
 -- the rotation of a primary's chores
 abbrev pub next_chore : Chore → Chore
@@ -84,17 +82,6 @@ in_flight w = vec_len w.guest.given + (if w.asked || is_some w.answer then 1 els
 abbrev pub steps_by : ℕ → ℕ → ℕ
 steps_by steps zero = steps
 steps_by steps (suc n) = min (2000 / suc n) steps
-
--- its guest waits for its backup's, which has said that it has made so many steps, unless that one is to be exact
-abbrev pub waits_for_backup : {B S : Type 0} → (B → S) → Machine S → ℕ → PrimaryWorker B → Bool
-waits_for_backup state M follower w = not w.plan.exact && is_too_far follower (M.count (state w.guest.board))
-
--- how far it is: the entry that waits for its list counts too
-abbrev pub lead_of : {B S : Type 0} → (B → S) → Machine S → PrimaryWorker B → Lead
-lead_of state M w = record {
-  entries = min (length w.list.items + (if is_some w.guest.waiting then 1 else 0)) (2 ^ 64 - 1);
-  steps = M.count (state w.guest.board);
-}
 
 -- how many bytes of a port it has seen accepted
 abbrev pub counted_of : {B : Type 0} → ℕ → PrimaryWorker B → ℕ

@@ -7,7 +7,6 @@ pub mod Served
 pub mod Fates
 pub mod Screens
 pub mod Stores
-pub mod Lagging
 pub mod Repeating
 pub mod Leading
 pub mod Ending

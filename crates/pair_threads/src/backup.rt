@@ -1,14 +1,14 @@
 //! The backup's worker: it takes packets, acknowledges its list, repeats its entries, and may go on alone.
 ghost use Rattle.std.specs.Prelude.{◌≡◌, ◌≢◌, ◌<◌, ◌≤◌, ◌*◌, ◌^◌, ◌-◌, cond, min, [], false, length, IfErr, IfOk, OnOk};
-ghost use Rattle.pair_threads.specs.BackupTurns.{IsTurnOf, LooksSoon, TakesPacket, next_chore, turn_of_asking, turn_of_draining, turn_of_nothing, turn_of_replay};
+ghost use Rattle.pair_threads.specs.BackupTurns.{IsTurnOf, LooksSoon, TakesPacket, next_chore, turn_of_asking, turn_of_draining, turn_of_nothing};
 ghost use Rattle.pair_threads.specs.Ending.{IsEnding};
-ghost use Rattle.pair_threads.specs.Repeating.{Advances, FollowsFor, GoesOn, IsAt, has_all, has_run_ahead, is_far_behind};
+ghost use Rattle.pair_threads.specs.Repeating.{FollowsFor, GoesOn, IsAt, has_all, is_far_behind};
 ghost use Rattle.pair_threads.specs.Turns.{Leaves};
 ghost use Rattle.pair_threads.specs.declared.backup.Chore.TheVariants as task;
 
 use crate::plan::Plan;
 use crate::repeater::Repeater;
-use crate::signals::{Signals, Told};
+use crate::signals::Told;
 use crate::worker::{Turn, Worker};
 use guest_lockstep::Lockstep;
 use i8080_words::{Fault, R};
@@ -52,7 +52,6 @@ pub(crate) struct BackupWorker<B> {
     stride: u64,
     plan: Plan,
     ghost same: { guest.list.items ≡ seat.core.known.backup.list },
-    ghost exact: { guest.exact ≡ plan.exact },
     ghost strides: { 1000 ≤ stride },
 }
 
@@ -67,7 +66,7 @@ impl<B: Lockstep> BackupWorker<B> {
     {
         BackupWorker {
             seat,
-            guest: Repeater::new(alloc, board, plan.exact),
+            guest: Repeater::new(alloc, board),
             held: 0,
             won: false,
             chore: Chore::Take,
@@ -85,8 +84,7 @@ impl<B: Lockstep> BackupWorker<B> {
         ensures same { (self.new.plan ≡ self.old.plan) × (self.new.won ≡ self.old.won) × (self.new.chore ≡ self.old.chore) }
         ensures goes_on { OnOk result (GoesOn B.state B.machine self.old.guest self.new.guest) }
         ensures leaves { Leaves result (Unit {0}) ⊥ }
-        ensures turn { IfOk result (λ turn. TakesPacket self.old.seat.core self.new.seat.core self.new.guest.between
-            (has_all self.new.guest) turn) }
+        ensures turn { IfOk result (λ turn. TakesPacket self.old.seat.core self.new.seat.core (has_all self.new.guest) turn) }
         ensures stride { OnOk result (LooksSoon self.old.guest.list.items self.new.guest.list.items self.new.stride) }
         ensures refused { IfErr result IsEnding }
     {
@@ -104,7 +102,7 @@ impl<B: Lockstep> BackupWorker<B> {
             }
             None => {
                 self.stride = longer(self.stride);
-                Ok(self.pace(!self.guest.between))
+                Ok(self.pace(true))
             }
         }
     }
@@ -171,48 +169,24 @@ impl<B: Lockstep> BackupWorker<B> {
         if waits { Turn::Waits } else { Turn::Looks }
     }
 
-    // Repeats the next entry, or runs ahead, and says how far its guest is, unless it is to be exact.
-    fn repeat(&mut self, signals: &Signals) -> R<Turn>
+    // Follows the next entry, if there is one.
+    fn repeat(&mut self) -> R<Turn>
         ensures seat { self.new.seat ≡ self.old.seat }
         ensures same { (self.new.plan ≡ self.old.plan) × (self.new.won ≡ self.old.won) × (self.new.chore ≡ self.old.chore) }
         ensures goes_on { OnOk result (GoesOn B.state B.machine self.old.guest self.new.guest) }
         ensures leaves { Leaves result (Unit {0}) ⊥ }
-        ensures turn { IfOk result (λ turn. turn ≡ turn_of_replay (has_run_ahead B.state B.machine self.old.guest self.new.guest)
-            self.new.guest.between (has_all self.new.guest)) }
-        ensures steps { OnOk result (Advances B.state B.machine (has_all self.old.guest)
-            (min self.old.plan.steps self.old.stride) self.old.guest self.new.guest) }
-        ensures refused { IfErr result IsEnding }
-    {
-        let ran = self.advance(signals)?;
-        if !self.plan.exact {
-            signals.follows(self.guest.board.count());
-        }
-        if ran {
-            return Ok(Turn::Moved);
-        }
-        Ok(self.pace(self.guest.between))
-    }
-
-    // Follows the next entry; past the last one, it runs ahead up to where the primary's guest is. Returns whether it ran ahead.
-    fn advance(&mut self, signals: &Signals) -> R<bool>
-        ensures seat { self.new.seat ≡ self.old.seat }
-        ensures same { (self.new.plan ≡ self.old.plan) × (self.new.won ≡ self.old.won) × (self.new.chore ≡ self.old.chore) }
-        ensures goes_on { OnOk result (GoesOn B.state B.machine self.old.guest self.new.guest) }
-        ensures ran { IfOk result (λ ran. ran ≡ has_run_ahead B.state B.machine self.old.guest self.new.guest) }
-        ensures steps { OnOk result (Advances B.state B.machine (has_all self.old.guest)
-            (min self.old.plan.steps self.old.stride) self.old.guest self.new.guest) }
+        ensures turn { IfOk result (λ turn. turn ≡ turn_of_nothing false (has_all self.new.guest)) }
+        ensures steps { OnOk result (FollowsFor B.state B.machine (min self.old.plan.steps self.old.stride) self.old.guest
+            self.new.guest) }
         ensures refused { IfErr result IsEnding }
     {
         let steps = self.plan.steps.min(self.stride);
-        if self.guest.has_replayed_all() {
-            return self.guest.run_ahead(signals.lead(), steps);
-        }
         self.guest.replay(steps)?;
-        Ok(false)
+        Ok(self.pace(false))
     }
 
     // Takes, acknowledges or repeats, in rotation.
-    fn follow(&mut self, fabric: &Fabric, signals: &Signals) -> R<Turn>
+    fn follow(&mut self, fabric: &Fabric) -> R<Turn>
         requires table { self.old.seat.table ≡ fabric.now }
         requires before { self.old.seat.core.known.backup.winner ≡ 0 }
         ensures table { self.new.seat.table ≡ self.old.seat.table }
@@ -222,10 +196,9 @@ impl<B: Lockstep> BackupWorker<B> {
         ensures leaves { Leaves result (Unit {0}) ⊥ }
         ensures next { OnOk result (self.new.chore ≡ next_chore self.old.chore) }
         ensures turn { IfOk result
-            (IsTurnOf self.old.chore (is_far_behind B.state B.machine self.old.guest)
-            (has_run_ahead B.state B.machine self.old.guest self.new.guest) self.new.guest.between self.old.seat.core
-            self.new.seat.core (has_all self.new.guest)) }
-        ensures steps { self.old.chore ≡ task.Replay → OnOk result (Advances B.state B.machine (has_all self.old.guest)
+            (IsTurnOf self.old.chore (is_far_behind B.state B.machine self.old.guest) self.old.seat.core self.new.seat.core
+            (has_all self.new.guest)) }
+        ensures steps { self.old.chore ≡ task.Replay → OnOk result (FollowsFor B.state B.machine
             (min self.old.plan.steps self.old.stride) self.old.guest self.new.guest) }
         ensures refused { IfErr result IsEnding }
     {
@@ -238,7 +211,7 @@ impl<B: Lockstep> BackupWorker<B> {
                 self.hold(fabric);
                 Ok(self.pace(false))
             }
-            Chore::Replay => self.repeat(signals),
+            Chore::Replay => self.repeat(),
         }
     }
 }
@@ -253,7 +226,7 @@ fn longer(stride: u64) -> u64
 impl<B: Lockstep> Worker for BackupWorker<B> {
     ghost use Rattle.std.specs.Prelude.{◌≡◌, ◌⊎◌, ◌&&◌, ◌||◌, not, cond, false, length};
     ghost use Rattle.pair_threads.specs.Asking.{AsksAt, HasAsked};
-    ghost use Rattle.pair_threads.specs.Repeating.{GoesOn, has_all, has_run_ahead, is_far_behind};
+    ghost use Rattle.pair_threads.specs.Repeating.{GoesOn, has_all, is_far_behind};
     ghost use Rattle.pair_threads.specs.BackupTurns.{IsTurn, IsTurnOf};
 
     ghost table = { λ w. w.seat.table };
@@ -270,21 +243,21 @@ impl<B: Lockstep> Worker for BackupWorker<B> {
         AsksAt old.plan.contests_at number old.seat.core.known.backup.winner new.seat.core.known.backup.winner };
 
     ghost turned = { λ old number new turn. IsTurn old.won old.plan.contests_at number (has_all old.guest) new.won
-        (IsTurnOf old.chore (is_far_behind B.state B.machine old.guest) (has_run_ahead B.state B.machine old.guest new.guest)
-        new.guest.between old.seat.core new.seat.core (has_all new.guest) turn) turn };
+        (IsTurnOf old.chore (is_far_behind B.state B.machine old.guest) old.seat.core new.seat.core (has_all new.guest) turn)
+        turn };
 
     ghost ends_by = { λ w told. not w.won && told.primary_ended && (w.plan.contested || has_all w.guest) };
 
     ghost needs_others = { λ w. false };
 
-    fn turn(&mut self, fabric: &Fabric, signals: &Signals, number: u64) -> R<Turn> {
+    fn turn(&mut self, fabric: &Fabric, number: u64) -> R<Turn> {
         if self.won {
             return self.drain();
         }
         if self.plan.asks_at(number) {
             return Ok(self.contest(fabric));
         }
-        self.follow(fabric, signals)
+        self.follow(fabric)
     }
 
     fn may_end(&self, told: Told) -> bool {

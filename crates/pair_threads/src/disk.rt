@@ -7,7 +7,7 @@ ghost use Rattle.pair_threads.specs.Ending.{KeepsSectors};
 ghost use Rattle.pair_threads.specs.Stores.{IsStore, Serves};
 ghost use Rattle.pair_threads.specs.Turns.{disk_turn};
 
-use crate::signals::{Signals, Told};
+use crate::signals::Told;
 use crate::worker::{Turn, Worker};
 use i8080_words::{Fault, R};
 use pair_rule::{DiskAnswer, DiskRequest, DiskSeat, Fabric};
@@ -122,7 +122,7 @@ impl<D: SectorStore> Worker for DiskWorker<D> {
 
     ghost needs_others = { λ w. false };
 
-    fn turn(&mut self, fabric: &Fabric, _signals: &Signals, _number: u64) -> R<Turn> {
+    fn turn(&mut self, fabric: &Fabric, _number: u64) -> R<Turn> {
         if !self.seat.has_swaps_left() {
             return Err(Fault::Stalled);
         }

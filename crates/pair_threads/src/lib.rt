@@ -6,7 +6,6 @@ mod chore;
 mod disk;
 mod gate;
 mod join;
-mod lag;
 mod link;
 mod pace;
 mod plan;
@@ -23,7 +22,6 @@ mod workers;
 mod yields;
 
 pub use gate::{Gate, OpenGate, Who};
-pub use lag::Lead;
 pub use link::Fate;
 pub use run::run_generation;
 pub use signals::{Signals, Told};

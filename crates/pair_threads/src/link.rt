@@ -6,7 +6,7 @@ ghost use Rattle.pair_rule.specs.declared.payload.Packet.{Packet};
 ghost use Rattle.pair_threads.specs.Fates.{HasTaken, IsDealtWith, fate_at};
 ghost use Rattle.pair_threads.specs.Turns.{turn_by};
 
-use crate::signals::{Signals, Told};
+use crate::signals::Told;
 use crate::worker::{Turn, Worker};
 use i8080_words::{Fault, R};
 use pair_rule::{Fabric, LinkSeat};
@@ -113,7 +113,7 @@ impl Worker for LinkWorker {
 
     ghost needs_others = { λ w. false };
 
-    fn turn(&mut self, fabric: &Fabric, _signals: &Signals, _number: u64) -> R<Turn> {
+    fn turn(&mut self, fabric: &Fabric, _number: u64) -> R<Turn> {
         if !self.seat.has_swaps_left() {
             return Err(Fault::Stalled);
         }

@@ -8,9 +8,6 @@ pub(crate) struct Plan {
     pub(crate) contests_at: Option<u64>,
     /// Whether it or the other one asks.
     pub(crate) contested: bool,
-    /// Whether the backup's guest never makes steps past its last entry. If it does, it does not fall behind a primary that
-    /// computes in silence, and that one waits for it.
-    pub(crate) exact: bool,
     /// How many steps its guest may make in one turn.
     pub(crate) steps: u64,
     ghost told: { IsSome contests_at → contested ≡ true },
@@ -18,16 +15,14 @@ pub(crate) struct Plan {
 
 impl Plan {
     /// A plan; `contested` says whether this worker or the other one asks.
-    pub(crate) fn new(contests_at: Option<u64>, contested: bool, exact: bool, steps: u64) -> Plan
+    pub(crate) fn new(contests_at: Option<u64>, contested: bool, steps: u64) -> Plan
         requires told { IsSome contests_at → contested ≡ true }
         ensures asks { (result.contests_at ≡ contests_at) × (result.contested ≡ contested) }
-        ensures exact { result.exact ≡ exact }
         ensures steps { result.steps ≡ max steps 1 }
     {
         Plan {
             contests_at,
             contested,
-            exact,
             steps: steps.max(1),
         }
     }

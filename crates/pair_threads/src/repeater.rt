@@ -1,5 +1,5 @@
 //! The guest of a backup, with the list whose entries it repeats.
-ghost use Rattle.std.specs.Prelude.{◌≡◌, ◌<◌, ◌≤◌, true, length};
+ghost use Rattle.std.specs.Prelude.{◌≤◌, length};
 
 mod moves;
 
@@ -10,12 +10,7 @@ use log_entry::Entry;
 pub(crate) struct Repeater<B> {
     pub(crate) list: Vec<Entry>,
     pub(crate) board: B,
-    // How many entries it has repeated, and whether it has made steps since: towards the next one, or, if it is not to be exact,
-    // past the last.
+    // How many entries it has repeated.
     pub(crate) replayed: usize,
-    pub(crate) between: bool,
-    // Whether it never makes steps past its last entry.
-    pub(crate) exact: bool,
     ghost within: { replayed ≤ length list.items },
-    ghost towards: { exact ≡ true → between ≡ true → replayed < length list.items },
 }

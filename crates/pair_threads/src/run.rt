@@ -1,5 +1,5 @@
 //! One generation on threads.
-ghost use Rattle.std.specs.Prelude.{◌≡◌, ◌⊎◌, ℕ, List, [], ◌∷◌, Option, None, Some, true, false, length, map, IfErr, IfOk, IsOk, OnOk};
+ghost use Rattle.std.specs.Prelude.{◌≡◌, ◌⊎◌, ℕ, List, [], ◌∷◌, Option, None, Some, false, length, map, IfErr, IfOk, IsOk, OnOk};
 ghost use Rattle.guest_lockstep.specs.Machine.{booted_from};
 ghost use Rattle.pair_protocol.specs.Lawful.{Lawful};
 ghost use Rattle.pair_rule.specs.Knowledge.{StartsWith, last_or};
@@ -196,7 +196,7 @@ fn conclude<B: Lockstep + Drop, D: SectorStore>(
     ensures ends { (boot : B.State) (first : List Record)
         → Lawful (booted_from B.machine boot (bytes_in first))
         → WorkerLeads B.state B.machine boot primary → IsAt B.state B.machine boot backup.guest
-        → backup.plan.exact ≡ true → IsStore (bytes_in first) (D.records disk.disk) disk.seat.core.known.disk
+        → IsStore (bytes_in first) (D.records disk.disk) disk.seat.core.known.disk
         → IfOk result (λ e. EndsBy (booted_from B.machine boot (bytes_in first)) e.typed0.items e.typed1.items
         e.winner e.primary.items e.backup.items e.held (map (λ v. v.items) e.accepted) (D.records e.disk)
         (B.state e.primary_board) (B.state e.backup_board)) }
@@ -275,7 +275,6 @@ pub(crate) fn finish<B: Lockstep + Drop, D: SectorStore>(
         → Lawful (booted_from B.machine boot (bytes_in first))
         → OnOk five.primary.1 (WorkerLeads B.state B.machine boot five.primary.0)
         → OnOk five.backup.1 (IsAt B.state B.machine boot five.backup.0.guest)
-        → OnOk five.backup.1 (five.backup.0.plan.exact ≡ true)
         → OnOk five.disk.1 (IsStore (bytes_in first) (D.records five.disk.0.disk) five.disk.0.seat.core.known.disk)
         → IfOk result (λ e. EndsBy (booted_from B.machine boot (bytes_in first)) e.typed0.items e.typed1.items
         e.winner e.primary.items e.backup.items e.held (map (λ v. v.items) e.accepted) (D.records e.disk)
@@ -347,7 +346,7 @@ pub fn run_generation<
         e.typed0.items e.typed1.items e.winner e.primary.items e.backup.items e.held e.waiting
         (map (λ v. v.items) e.accepted) (D.records e.disk) (B.state e.primary_board) (B.state e.backup_board)) }
 {
-    let (fabric, seats) = Fabric::open(alloc, 1)?;
+    let (fabric, seats) = Fabric::open(alloc)?;
     let Workers {
         primary,
         backup,
@@ -360,8 +359,8 @@ pub fn run_generation<
         steps,
     } = workers;
     let contested = primary_contests.is_some() || backup_contests.is_some();
-    let lead = Plan::new(primary_contests, contested, true, steps);
-    let follow = Plan::new(backup_contests, contested, true, steps);
+    let lead = Plan::new(primary_contests, contested, steps);
+    let follow = Plan::new(backup_contests, contested, steps);
     let ports = (PortInputs::new(typed0), PortInputs::new(typed1));
     let five = Five {
         primary: PrimaryWorker::new(alloc, seats.primary, primary, ports, lead),

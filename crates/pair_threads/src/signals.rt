@@ -3,14 +3,13 @@ ghost use Rattle.std.specs.Prelude.{◌≡◌, nat_le};
 ghost use Rattle.pair_threads.specs.Patience.{end_mark, is_progress, told_by};
 
 use crate::gate::Who;
-use crate::lag::Lead;
 use std::sync::atomic::{AtomicBool, AtomicU8, AtomicU64, Ordering};
 
 // How many workers there are.
 const WORKERS: u64 = 5;
 
-/// How many workers have begun, who is at its end, whether the guest is held up, whether the run has failed, how often
-/// workers have made progress, and how far the two guests are.
+/// How many workers have begun, who is at its end, whether the guest is held up, whether the run has failed, and how often
+/// workers have made progress.
 #[derive(Drop)]
 pub struct Signals {
     begun: AtomicU64,
@@ -19,13 +18,6 @@ pub struct Signals {
     held_up: AtomicBool,
     failed: AtomicBool,
     moves: AtomicU64,
-    // All workers look at those above in each turn, and only primary and backup at those below, which change more often: so they are
-    // on another cache line.
-    _apart: [u64; 8],
-    // How far the primary is, and how many steps the backup's guest has made.
-    entries: AtomicU64,
-    steps: AtomicU64,
-    follower: AtomicU64,
 }
 
 /// The signals as a worker found them.
@@ -44,10 +36,6 @@ impl Signals {
             held_up: AtomicBool::new(false),
             failed: AtomicBool::new(false),
             moves: AtomicU64::new(0),
-            _apart: [0; 8],
-            entries: AtomicU64::new(0),
-            steps: AtomicU64::new(0),
-            follower: AtomicU64::new(0),
         }
     }
 
@@ -101,49 +89,6 @@ impl Signals {
     /// How often workers have said that they made progress.
     pub fn moved(&self) -> u64 {
         self.moves.load(Ordering::SeqCst)
-    }
-
-    /// The primary is so far. It says first how many entries it has, so whoever finds its steps finds at least as many entries as it
-    /// had then. If its guest has made no step, nothing is new.
-    pub fn leads(&self, lead: Lead) {
-        if self.steps.load(Ordering::SeqCst) != lead.steps {
-            self.steps.store(self.says_entries(lead), Ordering::SeqCst);
-        }
-    }
-
-    // Says how many entries the primary has. Returns the steps that may be said once that is said.
-    fn says_entries(&self, lead: Lead) -> u64
-        ensures { result ≡ lead.steps }
-    {
-        self.entries.store(lead.entries, Ordering::SeqCst);
-        lead.steps
-    }
-
-    /// How far the primary is; its steps are looked at first.
-    pub fn lead(&self) -> Lead {
-        self.lead_at(self.steps.load(Ordering::SeqCst))
-    }
-
-    // How far it is that was found to have made so many steps before its entries are looked at.
-    fn lead_at(&self, steps: u64) -> Lead
-        ensures { result.steps ≡ steps }
-    {
-        Lead {
-            entries: self.entries.load(Ordering::SeqCst),
-            steps,
-        }
-    }
-
-    /// The backup's guest has made so many steps.
-    pub fn follows(&self, steps: u64) {
-        if self.follower.load(Ordering::SeqCst) != steps {
-            self.follower.store(steps, Ordering::SeqCst);
-        }
-    }
-
-    /// How many steps the backup's guest has made; 0 before the backup has said it.
-    pub fn follower(&self) -> u64 {
-        self.follower.load(Ordering::SeqCst)
     }
 }
 

@@ -1,13 +1,13 @@
 //! The worker of the two terminals: it takes bytes, counts them, and keeps those that are accepted.
-ghost use Rattle.std.specs.Prelude.{◌≡◌, ◌++◌, ◌<◌, [], length, vec_len, vec_capacity, is_some, IfErr, IfOk, None, Some, OnOk, true, false, not};
+ghost use Rattle.std.specs.Prelude.{◌≡◌, ◌++◌, ◌<◌, [], length, vec_len, vec_capacity, is_some, IfErr, IfOk, None, Some, OnOk, false, not};
 ghost use Rattle.pair_rule.specs.declared.payload.PortByte.{PortByte};
 ghost use Rattle.pair_rule.specs.Threads.{bytes_accepted};
 ghost use Rattle.pair_threads.specs.declared.worker.Turn.TheVariants as turn;
 ghost use Rattle.pair_threads.specs.Ending.{IsEnding};
-ghost use Rattle.pair_threads.specs.Screens.{HasInHand, next_byte};
+ghost use Rattle.pair_threads.specs.Screens.{HasInHand, next_byte, port_of};
 ghost use Rattle.pair_threads.specs.Turns.{turn_by};
 
-use crate::signals::{Signals, Told};
+use crate::signals::Told;
 use crate::worker::{Turn, Worker};
 use i8080_words::{Fault, R};
 use pair_rule::{Fabric, PortByte, TerminalSeat};
@@ -53,6 +53,14 @@ impl TerminalWorker {
         }
     }
 
+    // The port whose turn it is.
+    fn port(&self) -> u8
+        ensures is { result ≡ port_of self.now.second }
+        ensures port { result < 2 }
+    {
+        if self.second { 1 } else { 0 }
+    }
+
     // Counts the byte in hand, and keeps it if it is accepted. The other port is next.
     fn count(&mut self, fabric: &Fabric, byte: PortByte) -> R<()>
         requires table { self.old.seat.table ≡ fabric.now }
@@ -61,44 +69,18 @@ impl TerminalWorker {
         ensures next { OnOk result (self.new.second ≡ not self.old.second) }
         ensures refused { IfErr result IsEnding }
     {
-        if self.second {
-            self.count1(fabric, byte)
-        } else {
-            self.count0(fabric, byte)
-        }
-    }
-
-    // Counts the byte in hand at port 0.
-    fn count0(&mut self, fabric: &Fabric, byte: PortByte) -> R<()>
-        requires table { self.old.seat.table ≡ fabric.now }
-        requires hand { self.old.hand ≡ Some byte }
-        requires first { self.old.second ≡ false }
-        ensures table { self.new.seat.table ≡ self.old.seat.table }
-        ensures next { OnOk result (self.new.second ≡ true) }
-        ensures refused { IfErr result IsEnding }
-    {
         self.accepted0.reserve(1)?;
-        self.seat.count(fabric, 0);
-        accept(&mut self.accepted0, byte);
-        self.second = true;
-        self.hand = None;
-        Ok(())
-    }
-
-    // Counts the byte in hand at port 1.
-    fn count1(&mut self, fabric: &Fabric, byte: PortByte) -> R<()>
-        requires table { self.old.seat.table ≡ fabric.now }
-        requires hand { self.old.hand ≡ Some byte }
-        requires second { self.old.second ≡ true }
-        ensures table { self.new.seat.table ≡ self.old.seat.table }
-        ensures next { OnOk result (self.new.second ≡ false) }
-        ensures refused { IfErr result IsEnding }
-    {
         self.accepted1.reserve(1)?;
-        self.seat.count(fabric, 1);
-        accept(&mut self.accepted1, byte);
-        self.second = false;
+        let port = self.port();
+        self.seat.count(fabric, port);
         self.hand = None;
+        if self.second {
+            accept(&mut self.accepted1, byte);
+            self.second = false;
+        } else {
+            accept(&mut self.accepted0, byte);
+            self.second = true;
+        }
         Ok(())
     }
 
@@ -115,7 +97,7 @@ impl TerminalWorker {
         if !self.seat.has_swaps_left() {
             return Err(Fault::Stalled);
         }
-        let port = if self.second { 1 } else { 0 };
+        let port = self.port();
         self.hand = self.seat.take_byte(fabric, port);
         if self.hand.is_some() {
             return Ok(Turn::Moved);
@@ -145,7 +127,7 @@ impl Worker for TerminalWorker {
 
     ghost needs_others = { λ w. false };
 
-    fn turn(&mut self, fabric: &Fabric, _signals: &Signals, _number: u64) -> R<Turn> {
+    fn turn(&mut self, fabric: &Fabric, _number: u64) -> R<Turn> {
         match self.hand {
             Some(byte) => {
                 self.count(fabric, byte)?;

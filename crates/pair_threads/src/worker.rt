@@ -56,9 +56,9 @@ pub(crate) trait Worker {
     // Whether its guest makes progress only if the other workers do.
     ghost needs_others: { Self → Bool };
 
-    /// Makes at most one call of its seat, or lets its guest move, and says so by the signals. Refused if the run can no longer
-    /// end well: `OutOfMemory`, and `Stalled` otherwise.
-    fn turn(&mut self, fabric: &Fabric, signals: &Signals, number: u64) -> R<Turn>
+    /// Makes at most one call of its seat, or lets its guest move. Refused if the run can no longer end well: `OutOfMemory`,
+    /// and `Stalled` otherwise.
+    fn turn(&mut self, fabric: &Fabric, number: u64) -> R<Turn>
         requires table { table self.old ≡ fabric.now }
         requires ready { ready self.old }
         ensures table { table self.new ≡ table self.old }
@@ -152,7 +152,7 @@ fn take_turn<C: Clock, W: Worker, G: Gate>(
     ensures held_up { OnOk result (held_up.new ≡ W.needs_others worker.new) }
     ensures refused { IfErr result IsEnding }
 {
-    let turn = worker.turn(fabric, signals, number);
+    let turn = worker.turn(fabric, number);
     gate.leave(who, number);
     if worker.is_held_up() != *held_up {
         *held_up = !*held_up;

@@ -9,16 +9,14 @@ ghost use Rattle.log_entry.specs.declared.entry.Entry.{Entry};
 ghost use Rattle.pair_rule.specs.declared.mailbox.Mailbox.TheVariants.{Outbox};
 ghost use Rattle.pair_rule.specs.declared.payload.Payload.TheVariants.{Log};
 ghost use Rattle.pair_rule.specs.Seats.{Fills, HasSwapsLeft};
-ghost use Rattle.pair_threads.specs.Choosing.{accepted_of, at_other, counted_of, due_byte, in_flight, lead_of, may_accept, may_emit, post_next, steps_by, to_emit, waits_for_backup};
+ghost use Rattle.pair_threads.specs.Choosing.{accepted_of, at_other, counted_of, due_byte, in_flight, may_accept, may_emit, post_next, steps_by, to_emit};
 ghost use Rattle.pair_threads.specs.Patience.{guest_is_held_up};
 ghost use Rattle.pair_threads.specs.Ending.{IsEnding};
 ghost use Rattle.pair_threads.specs.Primary.{Emits, HasTakenKeys, IsAtRest, Works};
 ghost use Rattle.pair_threads.specs.Turns.{RunsFor};
 
 use super::{KEY_STEPS, PrimaryWorker};
-use crate::lag::{Lead, is_too_far};
 use crate::port_inputs::PortInputs;
-use crate::signals::Signals;
 use guest_lockstep::Lockstep;
 use i8080_words::{Fault, R};
 use pair_rule::Fabric;
@@ -94,62 +92,21 @@ impl<B: Lockstep> PrimaryWorker<B> {
         self.seen != before
     }
 
-    // Lets the guest run, if it may, and says how far it is, unless its backup is to be exact.
-    pub(super) fn lead(&mut self, signals: &Signals) -> R<bool>
-        ensures works { OnOk result (Works B.state B.machine self.old self.new) }
-        ensures seat { self.new.seat ≡ self.old.seat }
-        ensures polls { result ≡ Ok true → (length self.new.guest.given.items ≤ 1) ⊎ (self.new.guest.waiting ≢ None) }
-        ensures refused { IfErr result IsEnding }
-    {
-        let moved = self.run(signals.follower())?;
-        if !self.plan.exact {
-            signals.leads(self.place());
-        }
-        Ok(moved)
-    }
-
-    // How far it is. The entry that waits for its list counts too: those after it have no lower count.
-    fn place(&self) -> Lead
-        ensures { result ≡ lead_of B.state B.machine self.now }
-    {
-        Lead {
-            entries: (self.list.len() as u64).saturating_add(u64::from(
-                self.guest.waiting.is_some(),
-            )),
-            steps: self.guest.board.count(),
-        }
-    }
-
-    // Whether its guest waits for its backup's, which has said that it has made so many steps.
-    fn waits_for_backup(&self, follower: u64) -> bool
-        ensures { result ≡ waits_for_backup B.state B.machine follower self.now }
-    {
-        !self.plan.exact && is_too_far(follower, self.guest.board.count())
-    }
-
-    // Lets the guest run, unless one of its entries waits, or its backup is too far behind. While several of its operations are
-    // outstanding it may do nothing but poll, so only a new one is a change then.
-    pub(super) fn run(&mut self, follower: u64) -> R<bool>
+    // Lets the guest run, unless one of its entries waits. While several of its operations are outstanding it may do nothing but
+    // poll, so only a new one is a change then.
+    pub(super) fn run(&mut self) -> R<bool>
         ensures works { OnOk result (Works B.state B.machine self.old self.new) }
         ensures seat { self.new.seat ≡ self.old.seat }
         ensures steps { OnOk result ((self.old.guest.waiting ≢ None)
-            ⊎ ((waits_for_backup B.state B.machine follower self.old ≡ true)
             ⊎ RunsFor B.machine (B.state self.old.guest.board) (steps_by self.old.plan.steps (in_flight self.old))
-            (B.state self.new.guest.board))) }
-        ensures waits { waits_for_backup B.state B.machine follower self.old ≡ true
-            → (result ≡ Ok false) × (self.new ≡ self.old) }
+            (B.state self.new.guest.board)) }
         ensures refused { IfErr result (λ fault. (fault ≡ OutOfMemory)
             ⊎ ((fault ≡ Stalled) × IsSome (step_refusal B.machine (B.state self.new.guest.board)))) }
         ensures polls { result ≡ Ok true → (length self.new.guest.given.items ≤ 1) ⊎ (self.new.guest.waiting ≢ None) }
         ensures held_up { OnOk result (self.new.held_up
-            ≡ (if is_some self.old.guest.waiting then self.old.held_up
-            else if waits_for_backup B.state B.machine follower self.old then self.old.held_up
-            else guest_is_held_up self.new.guest)) }
+            ≡ (if is_some self.old.guest.waiting then self.old.held_up else guest_is_held_up self.new.guest)) }
     {
         if self.guest.waiting.is_some() {
-            return Ok(false);
-        }
-        if self.waits_for_backup(follower) {
             return Ok(false);
         }
         let steps = self.steps();

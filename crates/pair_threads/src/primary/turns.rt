@@ -14,7 +14,7 @@ use crate::chore::{Chore, ROTATION};
 use crate::plan::Plan;
 use crate::port_inputs::PortInputs;
 use crate::recording::Recording;
-use crate::signals::{Signals, Told};
+use crate::signals::Told;
 use crate::worker::{Turn, Worker};
 use guest_lockstep::Lockstep;
 use i8080_words::{Fault, R};
@@ -149,7 +149,7 @@ impl<B: Lockstep> PrimaryWorker<B> {
     }
 
     // Does one chore, at this port if it is a port's. Returns whether it changed anything.
-    fn attempt(&mut self, fabric: &Fabric, signals: &Signals, port: u8) -> R<bool>
+    fn attempt(&mut self, fabric: &Fabric, port: u8) -> R<bool>
         requires table { self.old.seat.table ≡ fabric.now }
         requires before { self.old.seat.core.known.primary.winner ≡ 0 }
         requires swaps { HasSwapsLeft self.old.seat.core }
@@ -162,7 +162,7 @@ impl<B: Lockstep> PrimaryWorker<B> {
         match self.chore {
             Chore::Post => Ok(self.post(fabric)),
             Chore::See => Ok(self.see(fabric)),
-            Chore::Run => self.lead(signals),
+            Chore::Run => self.run(),
             Chore::Key => Ok(self.take_key(port)),
             Chore::Emit => Ok(self.emit(fabric, port)),
             Chore::Count => Ok(self.count(fabric, port)),
@@ -174,7 +174,7 @@ impl<B: Lockstep> PrimaryWorker<B> {
     }
 
     // Does the next chore.
-    fn work(&mut self, fabric: &Fabric, signals: &Signals) -> R<Turn>
+    fn work(&mut self, fabric: &Fabric) -> R<Turn>
         requires table { self.old.seat.table ≡ fabric.now }
         requires before { self.old.seat.core.known.primary.winner ≡ 0 }
         requires swaps { HasSwapsLeft self.old.seat.core }
@@ -190,7 +190,7 @@ impl<B: Lockstep> PrimaryWorker<B> {
         }
         let port = self.port();
         let second = self.is_second_after(chore);
-        let moved = self.attempt(fabric, signals, port)?;
+        let moved = self.attempt(fabric, port)?;
         self.second = second;
         self.chore = chore.next();
         self.fruitless = fruitless_after(moved, fruitless);
@@ -251,7 +251,7 @@ impl<B: Lockstep> Worker for PrimaryWorker<B> {
 
     ghost needs_others = { λ w. is_held_up w };
 
-    fn turn(&mut self, fabric: &Fabric, signals: &Signals, number: u64) -> R<Turn> {
+    fn turn(&mut self, fabric: &Fabric, number: u64) -> R<Turn> {
         if !self.seat.has_swaps_left() {
             return Err(Fault::Stalled);
         }
@@ -261,7 +261,7 @@ impl<B: Lockstep> Worker for PrimaryWorker<B> {
         }
         match self.to_append() {
             Some(entry) => self.append(fabric, entry),
-            None => self.work(fabric, signals),
+            None => self.work(fabric),
         }
     }
 

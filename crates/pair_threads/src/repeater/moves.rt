@@ -1,21 +1,23 @@
 //! How a backup's guest repeats the entries of its list.
-ghost use Rattle.std.specs.Prelude.{◌≡◌, ◌⊎◌, ◌↔◌, ◌<◌, ◌++◌, [], ◌∷◌, false, true, nat_lt, length, vec_len, vec_capacity, IfErr, IfOk, IsTrue, OnOk};
+ghost use Rattle.std.specs.Prelude.{◌≡◌, ◌⊎◌, ◌↔◌, ◌<◌, ◌++◌, [], ◌∷◌, length, vec_len, vec_capacity, IfErr, IsTrue, OnOk};
 ghost use Rattle.i8080_words.specs.declared.refusal.Fault.TheVariants.{OutOfMemory, Stalled};
-ghost use Rattle.pair_threads.specs.Repeating.{FollowsFor, GoesOn, IsAt, IsStuck, RunsAhead, has_all, is_far_behind, may_run_ahead, ran_ahead, steps_ahead};
+ghost use Rattle.pair_threads.specs.Repeating.{FollowsFor, GoesOn, IsAt, IsStuck, has_all, is_far_behind};
 
 use super::Repeater;
-use crate::lag::{Lead, is_too_far};
-use guest_lockstep::{Lockstep, StopReason, Stopped, run};
+use guest_lockstep::Lockstep;
 use i8080_words::{Fault, R};
 use log_entry::Entry;
 use replayer::{Followed, follow};
 use std::alloc::Global;
 
+// How many steps a guest may have to make up to the last entry of its list: about those of a twentieth of a second. With more to make it
+// takes no packet (VMware FT, section 3.2.2).
+const MOST_BEHIND: u64 = 10_000_000;
+
 impl<B: Lockstep> Repeater<B> {
-    /// A guest at boot, with an empty list; `exact` says whether it never makes steps past its last entry.
-    pub(crate) fn new(alloc: Global, board: B, exact: bool) -> Repeater<B>
+    /// A guest at boot, with an empty list.
+    pub(crate) fn new(alloc: Global, board: B) -> Repeater<B>
         ensures board { result.board ≡ board }
-        ensures exact { result.exact ≡ exact }
         ensures list { result.list.items ≡ [] }
         ensures at { IsAt B.state B.machine (B.state board) result }
     {
@@ -23,8 +25,6 @@ impl<B: Lockstep> Repeater<B> {
             list: Vec::new(alloc),
             board,
             replayed: 0,
-            between: false,
-            exact,
         }
     }
 
@@ -45,14 +45,13 @@ impl<B: Lockstep> Repeater<B> {
             return false;
         }
         let last = &self.list[self.list.len() - 1];
-        is_too_far(self.board.count(), last.count())
+        last.count().saturating_sub(self.board.count()) > MOST_BEHIND
     }
 
     /// An entry arrives.
     pub(crate) fn hear(&mut self, entry: Entry)
         requires room { vec_len self.old.list < vec_capacity self.old.list }
         ensures list { self.new.list.items ≡ self.old.list.items ++ entry ∷ [] }
-        ensures exact { self.new.exact ≡ self.old.exact }
         ensures goes_on { GoesOn B.state B.machine self.old self.new }
     {
         self.list.push_reserved(entry);
@@ -61,7 +60,6 @@ impl<B: Lockstep> Repeater<B> {
     /// Makes at most `steps` steps towards the next entry, or that entry's move. `Stalled` if it cannot.
     pub(crate) fn replay(&mut self, steps: u64) -> R<()>
         ensures list { self.new.list ≡ self.old.list }
-        ensures exact { self.new.exact ≡ self.old.exact }
         ensures goes_on { OnOk result (GoesOn B.state B.machine self.old self.new) }
         ensures steps { OnOk result (FollowsFor B.state B.machine steps self.old self.new) }
         ensures refused { IfErr result (λ fault. (fault ≡ OutOfMemory)
@@ -72,70 +70,13 @@ impl<B: Lockstep> Repeater<B> {
         }
         let entry = self.list[self.replayed];
         match follow(&mut self.board, &entry, steps) {
-            Ok(Followed::Stepped(_)) => {
-                self.between = true;
-                Ok(())
-            }
+            Ok(Followed::Stepped(_)) => Ok(()),
             Ok(Followed::Done) => {
-                self.between = false;
                 self.replayed += 1;
                 Ok(())
             }
             Err(Fault::OutOfMemory) => Err(Fault::OutOfMemory),
             Ok(Followed::Differs) | Err(_) => Err(Fault::Stalled),
         }
-    }
-
-    /// Makes at most `steps` steps past its last entry, up to where the primary's guest is, and returns whether it has made any.
-    /// `Stalled` if the primary was wrong, and its guest has given an operation there.
-    pub(crate) fn run_ahead(&mut self, lead: Lead, steps: u64) -> R<bool>
-        ensures same { (self.new.list ≡ self.old.list) × (self.new.replayed ≡ self.old.replayed) × (self.new.exact ≡ self.old.exact) }
-        ensures goes_on { OnOk result (GoesOn B.state B.machine self.old self.new) }
-        ensures ahead { RunsAhead B.state B.machine lead steps self.old self.new result }
-        ensures between { result ≡ Ok true → self.new.between ≡ true }
-        ensures unchanged { result ≡ Ok false → (self.new.board ≡ self.old.board) × (self.new.between ≡ self.old.between) }
-        ensures rises { IfOk result (λ ran. ran
-            ≡ nat_lt (B.machine.count (B.state self.old.board)) (B.machine.count (B.state self.new.board))) }
-        ensures refused { IfErr result (λ fault. (fault ≡ OutOfMemory) ⊎ (fault ≡ Stalled)) }
-    {
-        let most = steps.min(self.steps_ahead(lead));
-        let stopped = run(&mut self.board, most);
-        let ran = ran_ahead(stopped)?;
-        if !ran {
-            return Ok(false);
-        }
-        self.between = true;
-        Ok(true)
-    }
-
-    // How many steps it has to make up to where the primary's guest is, if it may.
-    fn steps_ahead(&self, lead: Lead) -> u64
-        ensures { result ≡ steps_ahead B.state B.machine lead self.now }
-    {
-        if !self.may_run_ahead(lead) {
-            return 0;
-        }
-        lead.steps.saturating_sub(self.board.count())
-    }
-
-    // Whether it may run past its last entry: it is not to be exact, and has repeated all entries, among them those that the primary
-    // had.
-    fn may_run_ahead(&self, lead: Lead) -> bool
-        ensures { result ≡ may_run_ahead lead self.now }
-    {
-        !self.exact && self.has_replayed_all() && lead.entries <= self.list.len() as u64
-    }
-}
-
-// Whether a guest that has stopped so past its last entry has made any steps there.
-fn ran_ahead(stopped: Stopped) -> R<bool>
-    ensures is { result ≡ ran_ahead stopped.steps stopped.reason }
-    ensures some { IfOk result (λ ran. ran ≡ nat_lt 0 stopped.steps) }
-    ensures refused { IfErr result (λ fault. (fault ≡ OutOfMemory) ⊎ (fault ≡ Stalled)) }
-{
-    match stopped.reason {
-        StopReason::Operation(_) => Err(Fault::Stalled),
-        StopReason::Refused(Fault::OutOfMemory) if stopped.steps == 0 => Err(Fault::OutOfMemory),
-        StopReason::Turns | StopReason::Refused(_) => Ok(stopped.steps > 0),
     }
 }

@@ -1,6 +1,6 @@
 //! What the workers tell each other.
 
-use pair_threads::{Lead, Signals, Who};
+use pair_threads::{Signals, Who};
 
 // That the link, the terminals or the disk are at their ends is nobody's business. A link that loses the same packet again and again
 // is no progress.
@@ -37,28 +37,4 @@ fn workers_hear_how_the_run_is(rt: HostRuntime) {
     assert!(rt; !signals.have_all_begun());
     signals.begins();
     assert!(rt; signals.have_all_begun());
-}
-
-// If its guest has made no step, a primary says nothing new.
-#[test]
-fn guests_hear_how_far_the_other_is(rt: HostRuntime) {
-    let signals = Signals::new();
-    assert!(rt; signals.follower() == 0 && signals.lead().steps == 0);
-    signals.follows(7);
-    signals.follows(8);
-    signals.leads(Lead {
-        entries: 2,
-        steps: 80,
-    });
-    signals.leads(Lead {
-        entries: 3,
-        steps: 90,
-    });
-    signals.leads(Lead {
-        entries: 4,
-        steps: 90,
-    });
-    assert!(rt; signals.follower() == 8);
-    let lead = signals.lead();
-    assert!(rt; lead.entries == 3 && lead.steps == 90);
 }

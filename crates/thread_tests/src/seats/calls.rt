@@ -45,7 +45,7 @@ fn carry_twice(rt: &impl Abort, fabric: &Fabric, seat: &mut LinkSeat)
 // A packet is lost if another one is posted over it, and arrives twice if the link keeps it.
 #[test]
 fn packets_are_lost_and_repeated(rt: HostRuntime) -> Result<(), Fail> {
-    let (fabric, mut seats) = Fabric::open(rt.alloc(), 1)?;
+    let (fabric, mut seats) = Fabric::open(rt.alloc())?;
     expect_packet(&rt, &fabric, &mut seats.backup, None);
     assert!(rt; !carry_once(&fabric, &mut seats.link, false));
     post_twice(&rt, &fabric, &mut seats.primary);
@@ -96,7 +96,7 @@ fn expect_counts(
 // A byte is lost if another one is emitted over it; one that is out of order is not counted.
 #[test]
 fn bytes_come_in_order(rt: HostRuntime) -> Result<(), Fail> {
-    let (fabric, mut seats) = Fabric::open(rt.alloc(), 1)?;
+    let (fabric, mut seats) = Fabric::open(rt.alloc())?;
     expect_byte(&rt, &fabric, &mut seats.terminal, None);
     emit_two(&rt, &fabric, &mut seats.primary);
     let byte = PortByte {

@@ -15,7 +15,7 @@ use Rattle.pair_threads.proofs.run.conclude.Goals as goal
 use Rattle.pair_threads.proofs.run.conclude.Goals.{else-contested-via-then-contested+else-is_none, else-contested-via-else-contested}
 
 pub returns-clause-ends : goal.returns-clause-ends
-returns-clause-ends g c = λ boot first lawful leads at stays store.
+returns-clause-ends g c = λ boot first lawful leads at store.
     let p = c.args.primary in
     let b = c.args.backup in
     let parts = c.take_apart-parts.ensures in
@@ -36,7 +36,7 @@ returns-clause-ends g c = λ boot first lawful leads at stays store.
     (ends g.B.Lockstep.state g.B.Lockstep.machine g.met.B.Lockstep.counts g.met.B.Lockstep.operations boot first lawful p b
     c.args.terminal.seat.core.known.terminal c.args.disk.seat.core.known.disk closed.tail closed.held closed.winner settled
     (g.D.SectorStore.records c.args.disk.disk) leads at store c.args.contested c.requires.rests c.requires.repeated
-    stays goes c.winner_of-winner.ensures
+    goes c.winner_of-winner.ensures
     (λ none. elim c.else-contested.branch [
       | else-contested-via-then-contested+else-is_none w ↦
           absurd (false≢true (sym (ap is_some none) ∙ w.is_none.ensures ∙ ap not w.if-is_none.false))

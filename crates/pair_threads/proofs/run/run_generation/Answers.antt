@@ -43,9 +43,6 @@ returns-clause-ends g c =
     (λ end. end.0.2 (state c.args.workers.primary)
     (subst (λ b. IsAt state g.B.Lockstep.machine b c.new-5.result.guest) c.requires.alike c.new-5.ensures.at))
     served.ensures.backup.1)
-    (on_ok_weaker served.result.backup.1
-    (λ end. ap (λ (p : Plan). p.exact) (end.0.0 ∙ c.new-5.ensures.plan.0) ∙ c.new-follow.ensures.exact)
-    served.ensures.backup.1)
     (on_ok_weaker served.result.disk.1
     (λ end. subst (λ r. IsStore (bytes_in r) (records served.result.disk.0.disk) served.result.disk.0.seat.core.known.disk)
     (ap records c.new-7.ensures.disk) (end.0.0 (bytes_in (records c.new-7.result.disk)) store)) served.ensures.disk.1)

@@ -1,17 +1,18 @@
 -- Steps towards the next entry, and its own move.
-use Rattle.std.proofs.Common.{◌<◌, Ok, false, length, take, refl, subst, sym, ap, ◌∙◌, arith}
+use Rattle.std.proofs.Common.{◌<◌, Ok, length, refl, subst, ap, ◌∙◌, arith}
 use Rattle.std.proofs.lemmas.Option.{slice_get_read}
 use Rattle.replayer.specs.Following.{Follows}
-use Rattle.pair_threads.specs.Repeating.{Repeats}
 use Rattle.replayer.specs.declared.following.Followed.TheVariants.{Done, Stepped}
-use Rattle.pair_threads.proofs.Repeating.{follows_on, one_more, reaches, steps_on}
+use Rattle.pair_threads.proofs.Repeating.{follows_on, reaches, steps_on}
 use Rattle.pair_threads.proofs.repeater.Repeater.replay.Goals as goal
 
 pub returns-in-Ok-Stepped-clause-goes_on : goal.returns-in-Ok-Stepped-clause-goes_on
 returns-in-Ok-Stepped-clause-goes_on g c = λ boot at.
-    steps_on g.B.Lockstep.machine boot (g.B.Lockstep.state c.args.self.now.board)
-    (take c.args.self.now.replayed c.args.self.now.list.items) c.args.self.now.between g.met.B.Lockstep.counts
-    c.in-Ok-Stepped.field-0-0 c.args.steps c.index.result.now (g.B.Lockstep.state c.follow.new.board) at
+    let within : c.args.self.now.replayed < length c.args.self.now.list.items =
+    (let a = c.if-self-len.false in let b = c.len.ensures in omega (arith, a, b)) in
+    steps_on g.B.Lockstep.machine boot (g.B.Lockstep.state c.args.self.now.board) c.args.self.now.list.items
+    c.args.self.now.replayed at g.met.B.Lockstep.counts c.in-Ok-Stepped.field-0-0 c.args.steps c.index.result.now
+    (g.B.Lockstep.state c.follow.new.board) within
     (subst (λ r. Follows g.B.Lockstep.machine (g.B.Lockstep.state c.args.self.now.board) c.index.result.now c.args.steps r
     (g.B.Lockstep.state c.follow.new.board)) (c.in-Ok-Stepped.is ∙ ap Ok c.in-Ok-Stepped.field-0-is)
     c.follow.ensures.answer)
@@ -22,13 +23,10 @@ returns-in-Ok-Done-clause-goes_on g c = λ boot at.
     (let a = c.if-self-len.false in let b = c.len.ensures in omega (arith, a, b)) in
     let read = slice_get_read c.args.self.now.list.items _ c.args.self.now.replayed c.index.result.now refl within
     c.index.ensures in
-    subst (λ l. Repeats g.B.Lockstep.machine boot l false (g.B.Lockstep.state c.follow.new.board))
-    (sym (one_more c.args.self.now.list.items c.args.self.now.replayed c.index.result.now read))
-    (reaches g.B.Lockstep.machine boot (g.B.Lockstep.state c.args.self.now.board)
-    (take c.args.self.now.replayed c.args.self.now.list.items) c.args.self.now.between g.met.B.Lockstep.counts
-    c.index.result.now (g.B.Lockstep.state c.follow.new.board) at
+    reaches g.B.Lockstep.machine boot (g.B.Lockstep.state c.args.self.now.board) c.args.self.now.list.items
+    c.args.self.now.replayed at g.met.B.Lockstep.counts c.index.result.now (g.B.Lockstep.state c.follow.new.board) read
     (subst (λ r. Follows g.B.Lockstep.machine (g.B.Lockstep.state c.args.self.now.board) c.index.result.now c.args.steps r
-    (g.B.Lockstep.state c.follow.new.board)) (c.in-Ok-Done.is ∙ ap Ok c.in-Ok-Done.field-0-is) c.follow.ensures.answer))
+    (g.B.Lockstep.state c.follow.new.board)) (c.in-Ok-Done.is ∙ ap Ok c.in-Ok-Done.field-0-is) c.follow.ensures.answer)
 
 pub returns-in-Ok-Stepped-clause-steps : goal.returns-in-Ok-Stepped-clause-steps
 returns-in-Ok-Stepped-clause-steps g c =
