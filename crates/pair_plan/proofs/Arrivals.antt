@@ -1,9 +1,10 @@
 -- No rule refuses what arrives at a device.
-use Rattle.std.proofs.Common.{◌≡◌, ℕ, Option, Some, None, ap, ◌∙◌}
-use Rattle.std.specs.Prelude.{slice_get}
+use Rattle.std.proofs.Common.{◌≡◌, ℕ, Option, Some, None, refl, ap, ◌∙◌}
+use Rattle.std.specs.Option.{IsSomeAnd}
+use Rattle.std.specs.Prelude.{IfSome, slice_get}
 use Rattle.guest_lockstep.specs.Machine.{Machine}
 use Rattle.pair_events.specs.declared.event.Event.{Event}
-use Rattle.pair_events.specs.declared.event.Event.TheVariants.{Arrive, Put}
+use Rattle.pair_events.specs.declared.event.Event.TheVariants.{Arrive, DeliverAcknowledgement, DeliverLog, Fetched, PartComes, Put, PutReply}
 use Rattle.pair_protocol.specs.Copying.{Copying}
 use Rattle.pair_protocol.specs.Refusals.{byte_refusal, refusal, write_refusal}
 use Rattle.pair_protocol.specs.World as protocol
@@ -12,7 +13,8 @@ use Rattle.ft_world.specs.Shows.{Agree}
 use Rattle.ft_world.specs.Words.{IsMessage}
 use Rattle.ft_world.specs.declared.message.Message.{Message}
 use Rattle.ft_world.specs.declared.message.Message.TheVariants as message
-use Rattle.pair_plan.specs.Arriving.{ArrivesAs, ComesToNode}
+use Rattle.pair_plan.specs.Arriving.{ArrivesAs, ComesNext, ComesToNode, IsTakenBy}
+use Rattle.pair_plan.specs.declared.serving.Serving.{Serving}
 
 abbrev IsWrite : Message → Type 0
 IsWrite (message.Write write) = Unit {0}
@@ -37,4 +39,27 @@ arrives M C w (message.Byte port number byte) m (Arrive k) is here there =
 arrives M C w (message.Write write) m (Put k) is here there =
     ap (λ j. write_refusal (slice_get w.messages j)) is
     ∙ write_comes (message.Write write) (slice_get w.messages m) tt there
-arrives M C w found m e is here there = absurd (here is)
+arrives M C w (message.Log bytes) m (DeliverLog k n) is here there = absurd (here tt)
+arrives M C w (message.Ack bytes) m (DeliverAcknowledgement k n) is here there = absurd (here tt)
+arrives M C w (message.Part bytes) m (PartComes k n) is here there = absurd (here tt)
+arrives M C w (message.Written number) m (PutReply k n) is here there = absurd (here tt)
+arrives M C w (message.Sector read) m (Fetched k n) is here there = absurd (here tt)
+arrives M C w found m e is here there = absurd is
+
+no_some : (o : Option Event) (P : Event → Type 0) → ((e : Event) → o ≡ Some e → ⊥) → IsSomeAnd o P → ⊥
+no_some None P none is = is
+no_some (Some e) P none is = none e refl
+
+-- what is taken by nobody keeps no other event from being next
+pub other_next : {S : Type 0} (w : World S) (who : Serving) (m : ℕ) (first next : Option Event) →
+    ((e : Event) → first ≡ Some e → ⊥) → ComesNext w who m first → ComesNext w who m next
+other_next w who m first next none comes =
+    record { found = comes.found; shown = comes.shown; comes = go comes.found comes.comes }
+  where
+    go : (found : Option Message) → IfSome found (λ sent. IsTakenBy who sent → IsSomeAnd first (ArrivesAs sent m)) →
+        IfSome found (λ sent. IsTakenBy who sent → IsSomeAnd next (ArrivesAs sent m))
+    go None is = tt
+    go (Some sent) is = λ taken. absurd (no_some first (ArrivesAs sent m) none (is taken))
+
+pub some_none : {A : Type 0} {a : A} → None ≡ Some a → ⊥
+some_none is = (cc)

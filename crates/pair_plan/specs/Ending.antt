@@ -6,7 +6,7 @@ use Rattle.pair_protocol.specs.Node.{Node}
 use Rattle.pair_protocol.specs.World.{World}
 use Rattle.pair_progress.specs.CatchingUp.{IsPair}
 use Rattle.pair_plan.specs.First.{IsFirst}
-use Rattle.pair_plan.specs.Serves.{Serves}
+use Rattle.pair_plan.specs.Serves.{AreAll, Serves}
 use Rattle.pair_plan.specs.declared.serving.Serving.{Serving}
 use Rattle.pair_plan.specs.declared.serving.Serving.TheVariants as serving
 
@@ -18,18 +18,20 @@ IsStill {S} M w n = (s : S) → Some s ≡ machine_at w.nodes n → IsFirst M s 
 abbrev pub IsThrough : {S : Type 0} → Node S → Node S → Type 0
 IsThrough x y = (length x.log ≤ length y.held) × (length x.log ≤ x.covered)
 
--- a node that is to go live has an event left; of one that waits for the parts of an image this says nothing
-abbrev pub MayRest : {S : Type 0} → Machine S → World S → ℕ → Serving → Type 0
-MayRest M w generation serving.Nobody = Unit {0}
-MayRest M w generation (serving.Primary n) = ⊥
-MayRest M w generation (serving.Backup n) = ⊥
-MayRest M w generation (serving.Draining n) = ⊥
-MayRest M w generation (serving.Alone n) = IsStill M w n
-MayRest M w generation (serving.Joining n host) = Unit {0}
-MayRest M w generation (serving.Pair n backup) = (pair : IsPair w n backup generation) → IsThrough pair.x pair.y
+-- a node that is to go live has an event left; one that a host joins has one until as many parts have come as an image has
+abbrev pub MayRest : {S : Type 0} → Machine S → World S → ℕ → ℕ → ℕ → Serving → Type 0
+MayRest M w parts arrived generation serving.Nobody = Unit {0}
+MayRest M w parts arrived generation (serving.Primary n) = ⊥
+MayRest M w parts arrived generation (serving.Backup n) = ⊥
+MayRest M w parts arrived generation (serving.Draining n) = ⊥
+MayRest M w parts arrived generation (serving.Alone n) = IsStill M w n
+MayRest M w parts arrived generation (serving.Joining n host) = parts ≤ arrived
+MayRest M w parts arrived generation (serving.Pair n backup) =
+    (pair : IsPair w n backup generation) → IsThrough pair.x pair.y
 
--- those who serve in this generation may rest
-pub record Rests {S : Type 0} (M : Machine S) (w : World S) (generation : ℕ) : Type 0 where
+-- those of so many hosts who serve in this generation may rest, and no other serves
+pub record Rests {S : Type 0} (M : Machine S) (w : World S) (hosts parts arrived generation : ℕ) : Type 0 where
   pub who : Serving
   pub serves : Serves w generation who
-  pub rests : MayRest M w generation who
+  pub all : AreAll w hosts generation who
+  pub rests : MayRest M w parts arrived generation who

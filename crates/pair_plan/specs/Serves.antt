@@ -1,9 +1,9 @@
 -- Which nodes may serve, and which events bring them to rest, in the words of the laws.
-use Rattle.std.specs.Prelude.{◌≡◌, ℕ, true, Option, Some, None, slice_get}
+use Rattle.std.specs.Prelude.{◌≡◌, ℕ, ◌<◌, ◌⊎◌, true, Option, Some, None, slice_get}
 use Rattle.pair_events.specs.declared.event.Event.{Event}
 use Rattle.pair_events.specs.declared.reply.Role as shown
 use Rattle.pair_events.specs.declared.reply.Role.TheVariants as role
-use Rattle.pair_protocol.specs.Node.{Node, Role, Primary, Backup, Joining, Draining}
+use Rattle.pair_protocol.specs.Node.{Node, Role, Primary, Backup, Joining, Draining, Spare}
 use Rattle.pair_protocol.specs.World.{World}
 use Rattle.ft_node.specs.AnyNode.{IsRole}
 use Rattle.pair_progress.specs.CatchingUp.{IsPair}
@@ -32,7 +32,7 @@ pub record IsJoined {S : Type 0} (w : World S) (n host generation : ℕ) : Type 
   pub primary : ActsAndMayServe w n Primary generation
   pub joining : Acts w host Joining generation
 
--- what is said of the nodes of a generation that may serve; that there are none says nothing
+-- what is said of the nodes of a generation that may serve; that there are none says nothing here
 abbrev pub Serves : {S : Type 0} → World S → ℕ → Serving → Type 0
 Serves w generation serving.Nobody = Unit {0}
 Serves w generation (serving.Primary n) = ActsAndMayServe w n Primary generation
@@ -41,6 +41,37 @@ Serves w generation (serving.Draining n) = ActsAndMayServe w n Draining generati
 Serves w generation (serving.Alone n) = IsLive w n generation
 Serves w generation (serving.Joining n host) = IsJoined w n host generation
 Serves w generation (serving.Pair n backup) = IsPair w n backup generation
+
+-- a node is one of these
+abbrev pub IsOneOf : ℕ → Serving → Type 0
+IsOneOf m serving.Nobody = ⊥
+IsOneOf m (serving.Primary n) = m ≡ n
+IsOneOf m (serving.Backup n) = m ≡ n
+IsOneOf m (serving.Draining n) = m ≡ n
+IsOneOf m (serving.Alone n) = m ≡ n
+IsOneOf m (serving.Joining n host) = m ≡ n
+IsOneOf m (serving.Pair n backup) = (m ≡ n) ⊎ (m ≡ backup)
+
+-- if a primary serves by itself, none of so many hosts joins it
+abbrev pub NoneJoins : {S : Type 0} → World S → ℕ → ℕ → Serving → Type 0
+NoneJoins w hosts generation (serving.Primary n) = (host : ℕ) → host < hosts → Acts w host Joining generation → ⊥
+NoneJoins w hosts generation who = Unit {0}
+
+-- of so many hosts, each that may serve in a generation is one of these; so if there are none, nobody may
+pub record AreAll {S : Type 0} (w : World S) (hosts generation : ℕ) (who : Serving) : Type 0 where
+  pub each : (n : ℕ) (x : Node S) → n < hosts → x.generation ≡ generation → MayServe w n x → IsOneOf n who
+  pub joins : NoneJoins w hosts generation who
+
+-- none of so many hosts may serve in a generation; and some node may
+abbrev pub NobodyServes : {S : Type 0} → World S → ℕ → ℕ → Type 0
+NobodyServes {S} w hosts generation =
+    (n : ℕ) (x : Node S) → n < hosts → x.generation ≡ generation → MayServe w n x → ⊥
+
+pub record SomebodyServes {S : Type 0} (w : World S) (generation : ℕ) : Type 0 where
+  pub n : ℕ
+  pub x : Node S
+  pub generation_is : x.generation ≡ generation
+  pub may_serve : MayServe w n x
 
 -- who serves by the role that the winner of a generation shows there; and, of a generation that nobody has won, by its primary, its
 -- backup, and the host that joins it
@@ -83,8 +114,17 @@ pub record IsOfALaw {S : Type 0} (w : World S) (generation : ℕ) (e : Event) : 
   pub serves : Serves w generation who
   pub comes : MayCome who e
 
--- what a node shows is that it has a role in a generation, if it shows one
+-- what a node shows as its role in a generation: none if it is a spare host, or not of that generation
 abbrev pub IsRoleIn : {S : Type 0} → World S → ℕ → ℕ → Option shown.Role → Type 0
-IsRoleIn w n generation None = Unit {0}
+IsRoleIn {S} w n generation None =
+    (x : Node S) → slice_get w.nodes n ≡ Some x → x.generation ≡ generation → x.role ≡ Spare
 IsRoleIn {S} w n generation (Some role) =
     (x : Node S) × (slice_get w.nodes n ≡ Some x) × IsRole x role × (x.generation ≡ generation)
+
+-- a node has another role, is a spare host, or is not of that generation; and so is each of so many hosts
+abbrev pub HasOtherRole : {S : Type 0} → World S → ℕ → ℕ → shown.Role → Type 0
+HasOtherRole {S} w n generation role =
+    (x : Node S) → slice_get w.nodes n ≡ Some x → (x.role ≡ Spare → ⊥) → x.generation ≡ generation → IsRole x role → ⊥
+
+abbrev pub HaveOtherRoles : {S : Type 0} → World S → ℕ → ℕ → shown.Role → Type 0
+HaveOtherRoles w hosts generation role = (n : ℕ) → n < hosts → HasOtherRole w n generation role

@@ -1,7 +1,8 @@
 //! The names of what is outstanding.
-ghost use Rattle.std.specs.Prelude.{◌<◌};
+ghost use Rattle.std.specs.Prelude.{◌≡◌, ◌<◌, ◌++◌, IfOk, OnOk};
 ghost use Rattle.event_callbacks.specs.declared.devices.TheConstants.{PORTS};
 ghost use Rattle.pair_plan.specs.First.{IsFirst, IsFirstWrite};
+ghost use Rattle.pair_plan.specs.Outstanding.{byte_out, bytes_out, names_out};
 
 use event_callbacks::OpId;
 use guest_lockstep::Lockstep;
@@ -16,11 +17,14 @@ const WINDOW: u64 = 16;
 pub fn outstanding<B: Lockstep + OutstandingWrites>(
     alloc: Global,
     guest: &B,
-) -> Result<Vec<OpId>, AllocError> {
+) -> Result<Vec<OpId>, AllocError>
+    ensures { IfOk result (λ names. names.items ≡ names_out B.machine (B.state guest.now) (B.OutstandingWrites.writes guest.now)) }
+{
     let mut names = Vec::new(alloc);
     add_bytes(guest, 0, &mut names)?;
     add_bytes(guest, 1, &mut names)?;
-    for place in guest.outstanding_writes() {
+    let places = guest.outstanding_writes();
+    for place in places {
         names.push(OpId::Write(place.number))?;
     }
     Ok(names)
@@ -55,15 +59,30 @@ fn first_write<B: Lockstep + OutstandingWrites>(guest: &B) -> Option<OpId>
 // The bytes of a port from the one that is due on.
 fn add_bytes<B: Lockstep>(guest: &B, port: u8, names: &mut Vec<OpId>) -> Result<(), AllocError>
     requires { port < PORTS }
+    ensures { OnOk result (names.new.items ≡ names.old.items ++ bytes_out B.machine (B.state guest.now) port) }
 {
     let Some(due) = guest.due_byte(port) else {
         return Ok(());
     };
     for place in 0..WINDOW {
-        let id = OpId::Byte(port, due.saturating_add(place));
-        if guest.outstanding(id).is_some() {
-            names.push(id)?;
-        }
+        add_byte(guest, port, due.saturating_add(place), names)?;
     }
+    Ok(())
+}
+
+// A byte of a port, if it is outstanding.
+fn add_byte<B: Lockstep>(
+    guest: &B,
+    port: u8,
+    number: u64,
+    names: &mut Vec<OpId>,
+) -> Result<(), AllocError>
+    ensures { OnOk result (names.new.items ≡ names.old.items ++ byte_out B.machine (B.state guest.now) port number) }
+{
+    let id = OpId::Byte(port, number);
+    if guest.outstanding(id).is_none() {
+        return Ok(());
+    }
+    names.push(id)?;
     Ok(())
 }

@@ -1,6 +1,8 @@
 //! The next event.
-ghost use Rattle.std.specs.Prelude.{◌≡◌, ℕ, ◌-◌, ◌<◌, IfOk, IfSome, IsTrue, None, length};
+ghost use Rattle.std.specs.Prelude.{◌≡◌, ℕ, ◌-◌, ◌<◌, ◌≤◌, IfOk, IfSome, IsTrue, None, Some, false, length};
+ghost use Rattle.std.specs.Option.{IsSome};
 ghost use Rattle.ft_world.specs.Applies.{Shows};
+ghost use Rattle.ft_world.specs.Guests.{machine_at};
 ghost use Rattle.ft_world.specs.Standing.{Course, machine_of};
 ghost use Rattle.pair_protocol.specs.Settled.{highest};
 ghost use Rattle.pair_protocol.specs.Refusals.{log_size};
@@ -10,9 +12,12 @@ ghost use Rattle.pair_progress.specs.Renewal.{IsOfParts};
 ghost use Rattle.pair_progress.specs.Settling.{IsPairing};
 ghost use Rattle.pair_progress.specs.Takeover.{IsItsOwn, IsLive};
 ghost use Rattle.pair_plan.specs.Allowed.{Asks, HasIndexes, IsAllowed, IsPartOf};
-ghost use Rattle.pair_plan.specs.Arriving.{ArrivesAs, ComesToNode};
+ghost use Rattle.pair_plan.specs.Arriving.{ArrivesAs, ComesNext, ComesToNode, HasJustSent, IsTakenBy, MayReceive, SentComesNext};
 ghost use Rattle.pair_plan.specs.Ending.{IsStill, IsThrough, MayRest, Rests};
-ghost use Rattle.pair_plan.specs.Serves.{IsOfALaw, MayCome, Serves};
+ghost use Rattle.pair_plan.specs.Outstanding.{AreNames};
+ghost use Rattle.pair_plan.specs.Hearing.{arrived_after, has_come, sent_by};
+ghost use Rattle.pair_plan.specs.declared.serving.Serving.TheVariants as who;
+ghost use Rattle.pair_plan.specs.Serves.{IsOfALaw, MayCome, NobodyServes, Serves, SomebodyServes};
 
 use crate::completing::{Stage, going_on, is_any_held, stage_of};
 use crate::names::{first_outstanding, outstanding};
@@ -42,7 +47,9 @@ pub struct Plan {
 
 impl Plan {
     /// A plan for a pair among so many hosts, whose image has so many parts. No event was made so far.
-    pub fn new(hosts: u64, parts: u64) -> Plan {
+    pub fn new(hosts: u64, parts: u64) -> Plan
+        ensures { result ≡ record { hosts = hosts; parts = parts; sent = None; arrived = 0 } }
+    {
         Plan {
             hosts,
             parts,
@@ -52,7 +59,9 @@ impl Plan {
     }
 
     /// Hears what was answered to the event that came next.
-    pub fn hear(&mut self, answer: R<Reply>) {
+    pub fn hear(&mut self, answer: R<Reply>)
+        ensures { self.new ≡ record self.old { sent = sent_by answer; arrived = arrived_after self.old.arrived answer } }
+    {
         self.sent = sent_by(answer);
         if has_come(answer) {
             self.arrived = self.arrived.saturating_add(1);
@@ -75,9 +84,15 @@ impl Plan {
         ensures outward { IfOk result (λ next. IfSome next (λ event. (c : Course B.State)
             → Shows B.state B.copied B.machine D.records world.now c
             → Asks B.machine c self.now.parts → (ComesToNode event → ⊥) → IsAllowed B.machine c event)) }
+        ensures delivered { (m : ℕ) → self.now.sent ≡ Some m → IfOk result (λ next. IfSome next (λ event. (c : Course B.State)
+            → Shows B.state B.copied B.machine D.records world.now c → Asks B.machine c self.now.parts
+            → HasJustSent (machine_of B.machine c) c.copying c.world m → IsAllowed B.machine c event)) }
+        ensures comes { (m : ℕ) → self.now.sent ≡ Some m → IfOk result (λ next. (c : Course B.State)
+            → Shows B.state B.copied B.machine D.records world.now c
+            → SentComesNext c.world self.now.hosts (highest c.world.nodes) m next) }
         ensures rests { IfOk result (λ next. next ≡ None → (c : Course B.State)
             → Shows B.state B.copied B.machine D.records world.now c
-            → Rests B.machine c.world (highest c.world.nodes)) }
+            → Rests B.machine c.world self.now.hosts self.now.parts self.now.arrived (highest c.world.nodes)) }
     {
         let serving = who_serves(world, self.hosts);
         if let Some(event) = self.arriving(world, serving) {
@@ -90,8 +105,13 @@ impl Plan {
     pub fn has_server<B: Copies<H> + Drop, D: SectorStore, H: Drop>(
         &self,
         world: &World<B, D, H>,
-    ) -> bool {
-        !matches!(who_serves(world, self.hosts), Serving::Nobody)
+    ) -> bool
+        ensures some { (c : Course B.State) → Shows B.state B.copied B.machine D.records world.now c
+            → IsTrue result → SomebodyServes c.world (highest c.world.nodes) }
+        ensures nobody { (c : Course B.State) → Shows B.state B.copied B.machine D.records world.now c
+            → result ≡ false → NobodyServes c.world self.now.hosts (highest c.world.nodes) }
+    {
+        who_serves(world, self.hosts).node().is_some()
     }
 
     // The nodes that may serve go on.
@@ -107,7 +127,7 @@ impl Plan {
             → Asks B.machine c self.now.parts → IsAllowed B.machine c event)) }
         ensures rests { IfOk result (λ next. next ≡ None → (c : Course B.State)
             → Shows B.state B.copied B.machine D.records world.now c → (generation : ℕ) → Serves c.world generation serving
-            → MayRest B.machine c.world generation serving) }
+            → MayRest B.machine c.world self.now.parts self.now.arrived generation serving) }
     {
         match serving {
             Serving::Nobody => Ok(None),
@@ -131,6 +151,11 @@ impl Plan {
         ensures outward { IfSome result (λ event. (c : Course B.State)
             → Shows B.state B.copied B.machine D.records world.now c
             → (ComesToNode event → ⊥) → IsAllowed B.machine c event) }
+        ensures delivered { (m : ℕ) → self.now.sent ≡ Some m → IfSome result (λ event. (c : Course B.State)
+            → Shows B.state B.copied B.machine D.records world.now c → Serves c.world (highest c.world.nodes) serving
+            → HasJustSent (machine_of B.machine c) c.copying c.world m → IsAllowed B.machine c event) }
+        ensures comes { (m : ℕ) → self.now.sent ≡ Some m → (c : Course B.State)
+            → Shows B.state B.copied B.machine D.records world.now c → ComesNext c.world serving m result }
     {
         let message = self.sent?;
         let sent = world.message(message)?;
@@ -141,6 +166,7 @@ impl Plan {
     fn sending_part(&self, node: u64) -> Option<Event>
         ensures kind { (host : ℕ) → IfSome result (IsOfParts node host) }
         ensures part { IfSome result (IsPartOf node self.now.parts) }
+        ensures rests { result ≡ None → self.now.parts ≤ self.now.arrived }
     {
         if self.arrived < self.parts {
             Some(Event::SendPart {
@@ -154,7 +180,9 @@ impl Plan {
 }
 
 // The message that an event has sent, if it has sent one.
-fn sent_by(answer: R<Reply>) -> Option<u64> {
+fn sent_by(answer: R<Reply>) -> Option<u64>
+    ensures { result ≡ sent_by answer }
+{
     match answer {
         Ok(Reply::Message { message }) => Some(message),
         _ => None,
@@ -162,14 +190,18 @@ fn sent_by(answer: R<Reply>) -> Option<u64> {
 }
 
 // Whether a part, or an entry, has come.
-fn has_come(answer: R<Reply>) -> bool {
+fn has_come(answer: R<Reply>) -> bool
+    ensures { result ≡ has_come answer }
+{
     matches!(answer, Ok(Reply::New | Reply::Old))
 }
 
 // The arrival of a message at a device, or at the node that it is for.
 fn arrival(sent: &Message, message: u64, serving: Serving) -> Option<Event>
     ensures kind { IfSome result (MayCome serving) }
+    ensures received { IfSome result (λ event. MayReceive serving) }
     ensures arrives { IfSome result (ArrivesAs sent.now message) }
+    ensures taken { IsTakenBy serving sent.now → IsSome result }
 {
     match serving {
         Serving::Alone { node } => arrival_alone(sent, message, node),
@@ -184,6 +216,7 @@ fn arrival(sent: &Message, message: u64, serving: Serving) -> Option<Event>
 fn arrival_of_part(sent: &Message, message: u64, host: u64) -> Option<Event>
     ensures kind { (primary : ℕ) → IfSome result (IsOfParts primary host) }
     ensures arrives { IfSome result (ArrivesAs sent.now message) }
+    ensures taken { (primary : ℕ) → IsTakenBy (who.Joining primary host) sent.now → IsSome result }
 {
     match sent {
         Message::Part(_) => Some(Event::PartComes {
@@ -198,6 +231,7 @@ fn arrival_of_part(sent: &Message, message: u64, host: u64) -> Option<Event>
 fn arrival_of_sector(sent: &Message, message: u64, node: u64) -> Option<Event>
     ensures kind { IfSome result (IsItsOwn node) }
     ensures arrives { IfSome result (ArrivesAs sent.now message) }
+    ensures taken { IsTakenBy (who.Draining node) sent.now → IsSome result }
 {
     match sent {
         Message::Sector(_) => Some(Event::Fetched { message, node }),
@@ -209,6 +243,7 @@ fn arrival_of_sector(sent: &Message, message: u64, node: u64) -> Option<Event>
 fn arrival_alone(sent: &Message, message: u64, node: u64) -> Option<Event>
     ensures kind { IfSome result (IsCompletion node) }
     ensures arrives { IfSome result (ArrivesAs sent.now message) }
+    ensures taken { IsTakenBy (who.Alone node) sent.now → IsSome result }
 {
     match sent {
         Message::Byte { .. } => Some(Event::Arrive { message }),
@@ -223,6 +258,7 @@ fn arrival_alone(sent: &Message, message: u64, node: u64) -> Option<Event>
 fn arrival_in_pair(sent: &Message, message: u64, node: u64, backup: u64) -> Option<Event>
     ensures kind { IfSome result (IsPairing node backup) }
     ensures arrives { IfSome result (ArrivesAs sent.now message) }
+    ensures taken { IsTakenBy (who.Pair node backup) sent.now → IsSome result }
 {
     match sent {
         Message::Log(_) => Some(Event::DeliverLog {
@@ -284,7 +320,10 @@ pub(crate) fn names_of<B: Copies<H> + OutstandingWrites + Drop, D: SectorStore, 
     alloc: Global,
     world: &World<B, D, H>,
     node: u64,
-) -> Result<Vec<OpId>, AllocError> {
+) -> Result<Vec<OpId>, AllocError>
+    ensures { IfOk result (λ names. (c : Course B.State) → Shows B.state B.copied B.machine D.records world.now c
+        → AreNames B.state B.OutstandingWrites.writes B.machine (machine_at c.world.nodes node) names.items) }
+{
     match world.guest(node) {
         Some(guest) => outstanding(alloc, guest),
         None => Ok(Vec::new(alloc)),

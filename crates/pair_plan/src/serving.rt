@@ -1,9 +1,9 @@
 //! Which nodes may serve.
-ghost use Rattle.std.specs.Prelude.{◌≡◌, IfSome, IsTrue, Some};
+ghost use Rattle.std.specs.Prelude.{◌≡◌, IfSome, IsTrue, None, Some, false};
 ghost use Rattle.ft_world.specs.Applies.{Shows};
 ghost use Rattle.ft_world.specs.Standing.{Course};
 ghost use Rattle.pair_protocol.specs.Settled.{highest};
-ghost use Rattle.pair_plan.specs.Serves.{IsRoleIn, Serves, node_in, undecided_as, won_as};
+ghost use Rattle.pair_plan.specs.Serves.{AreAll, HasOtherRole, HaveOtherRoles, IsRoleIn, Serves, node_in, undecided_as, won_as};
 
 use clone_state::Copies;
 use ft_world::World;
@@ -51,8 +51,10 @@ pub fn who_serves<B: Copies<H> + Drop, D: SectorStore, H: Drop>(
     world: &World<B, D, H>,
     hosts: u64,
 ) -> Serving
-    ensures { (c : Course B.State) → Shows B.state B.copied B.machine D.records world.now c
+    ensures serves { (c : Course B.State) → Shows B.state B.copied B.machine D.records world.now c
         → Serves c.world (highest c.world.nodes) result }
+    ensures all { (c : Course B.State) → Shows B.state B.copied B.machine D.records world.now c
+        → AreAll c.world hosts (highest c.world.nodes) result }
 {
     let generation = world.generation();
     match world.winner(generation) {
@@ -96,8 +98,10 @@ fn find<B: Copies<H> + Drop, D: SectorStore, H: Drop>(
     generation: u32,
     role: Role,
 ) -> Option<u64>
-    ensures { (c : Course B.State) → Shows B.state B.copied B.machine D.records world.now c
+    ensures some { (c : Course B.State) → Shows B.state B.copied B.machine D.records world.now c
         → IfSome result (λ node. IsRoleIn c.world node generation (Some role)) }
+    ensures none { result ≡ None → (c : Course B.State) → Shows B.state B.copied B.machine D.records world.now c
+        → HaveOtherRoles c.world hosts generation role }
 {
     for node in 0..hosts {
         if has_role(world, node, generation, role) {
@@ -114,8 +118,10 @@ fn has_role<B: Copies<H> + Drop, D: SectorStore, H: Drop>(
     generation: u32,
     role: Role,
 ) -> bool
-    ensures { (c : Course B.State) → Shows B.state B.copied B.machine D.records world.now c
+    ensures has { (c : Course B.State) → Shows B.state B.copied B.machine D.records world.now c
         → IsTrue result → IsRoleIn c.world node generation (Some role) }
+    ensures other { (c : Course B.State) → Shows B.state B.copied B.machine D.records world.now c
+        → result ≡ false → HasOtherRole c.world node generation role }
 {
     match role_of(world, node, generation) {
         Some(its) => its == role,

@@ -50,20 +50,21 @@ returns-in-Pair-clause-allowed g c =
 
 pub returns-in-Nobody-clause-rests : goal.returns-in-Nobody-clause-rests
 returns-in-Nobody-clause-rests g c = λ none course h generation serves.
-    subst (MayRest g.B.Lockstep.machine course.world generation) (sym c.in-Nobody.is) tt
+    subst (MayRest g.B.Lockstep.machine course.world c.args.self.now.parts c.args.self.now.arrived generation) (sym c.in-Nobody.is) tt
 
 pub returns-in-Alone-clause-rests : goal.returns-in-Alone-clause-rests
 returns-in-Alone-clause-rests g c = λ none course h generation serves.
-    subst (MayRest g.B.Lockstep.machine course.world generation) (sym c.in-Alone.is)
+    subst (MayRest g.B.Lockstep.machine course.world c.args.self.now.parts c.args.self.now.arrived generation) (sym c.in-Alone.is)
     (c.completing.ensures.rests none course h)
 
 pub returns-in-Joining-clause-rests : goal.returns-in-Joining-clause-rests
 returns-in-Joining-clause-rests g c = λ none course h generation serves.
-    subst (MayRest g.B.Lockstep.machine course.world generation) (sym c.in-Joining.is) tt
+    subst (MayRest g.B.Lockstep.machine course.world c.args.self.now.parts c.args.self.now.arrived generation) (sym c.in-Joining.is)
+    (c.sending_part.ensures.rests none)
 
 pub returns-in-Pair-clause-rests : goal.returns-in-Pair-clause-rests
 returns-in-Pair-clause-rests g c =
     when_ok _ _ c.paired.result
     (λ next rests. λ none course h generation serves.
-    subst (MayRest g.B.Lockstep.machine course.world generation) (sym c.in-Pair.is) (rests none course h generation))
+    subst (MayRest g.B.Lockstep.machine course.world c.args.self.now.parts c.args.self.now.arrived generation) (sym c.in-Pair.is) (rests none course h generation))
     c.paired.ensures.rests
