@@ -25,7 +25,7 @@ pub mod Reached
 pub mod Halted
 pub mod Sizes
 pub mod Owned
-pub mod Copies
+pub mod MayBeCopied
 pub mod Responding
 pub mod ImageParts
 pub mod Always

@@ -1,4 +1,4 @@
-use Rattle.altair_laws.proofs.Copies.{copyable}
+use Rattle.altair_laws.proofs.MayBeCopied.{copyable}
 use Rattle.altair_laws.proofs.laws.altairs_may_be_copied.Goals as goal
 
 pub returns : goal.returns
