@@ -1,5 +1,5 @@
 use Rattle.altair_laws.proofs.MayBeCopied.{copyable}
-use Rattle.altair_laws.proofs.laws.altairs_may_be_copied.Goals as goal
+use Rattle.altair_laws.proofs.copies.altairs_may_be_copied.Goals as goal
 
 pub returns : goal.returns
 returns c setup sectors is moves g whole r =

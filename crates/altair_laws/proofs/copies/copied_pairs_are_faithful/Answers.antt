@@ -1,6 +1,6 @@
 -- The laws of a pair that makes any copies, for the image.
 use Rattle.altair_laws.specs.Copies.{image_copy}
-use Rattle.altair_laws.proofs.laws.copied_pairs_are_faithful.Goals as goal
+use Rattle.altair_laws.proofs.copies.copied_pairs_are_faithful.Goals as goal
 
 pub returns-clause-faithful : goal.returns-clause-faithful
 returns-clause-faithful c setup sectors is =

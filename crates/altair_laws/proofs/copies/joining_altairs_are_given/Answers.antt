@@ -2,7 +2,7 @@ use Rattle.guest_board.specs.Guest.{altair}
 use Rattle.pair_protocol.proofs.Promises.Joining.{joining_is_given}
 use Rattle.pair_protocol.proofs.Promises.Runs.{run_reaches}
 use Rattle.altair_laws.specs.Copies.{image_copy}
-use Rattle.altair_laws.proofs.laws.joining_altairs_are_given.Goals as goal
+use Rattle.altair_laws.proofs.copies.joining_altairs_are_given.Goals as goal
 
 pub returns : goal.returns
 returns c setup sectors is events replies w run =

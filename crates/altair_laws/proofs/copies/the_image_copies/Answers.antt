@@ -6,7 +6,7 @@ use Rattle.clone_state.specs.Parts.{guest_in, part_count, parts_of}
 use Rattle.pair_protocol.specs.Copying.{Makes}
 use Rattle.altair_laws.specs.Copies.{image_copy}
 use Rattle.altair_laws.proofs.Owned.{owned_whole}
-use Rattle.altair_laws.proofs.laws.the_image_copies.Goals as goal
+use Rattle.altair_laws.proofs.copies.the_image_copies.Goals as goal
 
 pub returns : goal.returns
 unfolding image_copy

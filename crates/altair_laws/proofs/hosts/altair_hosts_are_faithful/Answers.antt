@@ -2,7 +2,7 @@
 use Rattle.altair_laws.specs.Copies.{image_copy}
 use Rattle.guest_board.specs.Guest.{altair}
 use Rattle.host_law.proofs.Interleaving.{runs-faithful, runs-kept}
-use Rattle.altair_laws.proofs.laws.altair_hosts_are_faithful.Goals as goal
+use Rattle.altair_laws.proofs.hosts.altair_hosts_are_faithful.Goals as goal
 
 pub returns-clause-faithful : goal.returns-clause-faithful
 returns-clause-faithful c setup sectors is spares deeds last happened =

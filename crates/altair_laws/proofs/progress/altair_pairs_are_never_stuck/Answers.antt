@@ -24,7 +24,7 @@ use Rattle.pair_progress.proofs.Settling.{pairs_settle}
 use Rattle.pair_progress.proofs.Takeover.{takes_over}
 use Rattle.altair_laws.proofs.Always.{of_altairs}
 use Rattle.altair_laws.proofs.ImageParts.{some_parts}
-use Rattle.altair_laws.proofs.laws.altair_pairs_are_never_stuck.Goals as goal
+use Rattle.altair_laws.proofs.progress.altair_pairs_are_never_stuck.Goals as goal
 
 pub returns-clause-takes_over : goal.returns-clause-takes_over
 returns-clause-takes_over c =

@@ -1,6 +1,6 @@
 -- What is outstanding at an Altair is due, and what is due is taken.
 use Rattle.altair_laws.proofs.Responding.{reads_sectors, responds}
-use Rattle.altair_laws.proofs.laws.altairs_respond.Goals as goal
+use Rattle.altair_laws.proofs.progress.altairs_respond.Goals as goal
 
 pub returns-clause-responds : goal.returns-clause-responds
 returns-clause-responds c =
