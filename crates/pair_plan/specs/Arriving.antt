@@ -55,6 +55,7 @@ pub record ComesNext {S : Type 0} (w : World S) (who : Serving) (m : ℕ) (next 
   pub shown : Agree IsMessage found (slice_get w.messages m)
   pub comes : IfSome found (λ sent. IsTakenBy who sent → IsSomeAnd next (ArrivesAs sent m))
 
+-- those are the ones of so many hosts who serve
 pub record SentComesNext {S : Type 0} (w : World S) (hosts generation m : ℕ) (next : Option Event) : Type 0 where
   pub who : Serving
   pub serves : Serves w generation who

@@ -101,7 +101,7 @@ impl Plan {
         self.going_on(alloc, world, serving)
     }
 
-    /// Whether some node may serve.
+    /// Whether one of the hosts may serve.
     pub fn has_server<B: Copies<H> + Drop, D: SectorStore, H: Drop>(
         &self,
         world: &World<B, D, H>,
