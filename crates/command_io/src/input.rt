@@ -47,7 +47,7 @@ pub fn read_input<R: Read + Drop>(
 }
 
 // The whole script of the reader.
-#[tactic(auto, using(crate::proofs::Inputs::reads_script, crate::proofs::Inputs::reads_no_script, crate::proofs::Inputs::reads_nothing))]
+#[tactic(auto, using(crate::proofs::Scripts::reads_script, crate::proofs::Scripts::reads_no_script, crate::proofs::Scripts::reads_nothing))]
 fn script_of<R: Read + Drop>(
     alloc: Global,
     language: Language,

@@ -1,7 +1,7 @@
 //! What a call does at the terminal of its port, if there is one.
 ghost use Rattle.std.specs.Prelude.{◌≡◌, Some, None, if◌then◌else◌, ok_or};
 ghost use Rattle.i8080_words.specs.declared.refusal.Fault.TheVariants.{Unknown};
-ghost use Rattle.outside_switch.specs.Calls as calls;
+ghost use Rattle.outside_switch.specs.DeviceCalls as calls;
 ghost use Rattle.outside_switch.specs.Terminal.{key_of};
 
 use crate::terminal::BoundedTerminal;

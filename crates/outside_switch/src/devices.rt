@@ -3,7 +3,7 @@ ghost use Rattle.std.specs.Prelude.{◌≡◌, Some, None, IfOk, IsOkUnless, if�
 ghost use Rattle.i8080_words.specs.declared.refusal.Fault.TheVariants.{OutOfMemory, Unknown};
 ghost use Rattle.shared_disk.specs.Failing.{before_failures};
 ghost use Rattle.shared_disk.specs.Records.{faults_in};
-ghost use Rattle.outside_switch.specs.Calls as calls;
+ghost use Rattle.outside_switch.specs.DeviceCalls as calls;
 ghost use Rattle.outside_switch.specs.Held.{at_boot};
 ghost use Rattle.outside_switch.specs.Terminal.{key_of};
 
