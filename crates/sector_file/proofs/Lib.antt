@@ -1,0 +1,10 @@
+mod Blocks
+mod Emptied
+mod Images
+mod Pasts
+mod Lists
+mod Moments
+mod Reading
+mod Redo
+mod Refusals
+mod Steps
