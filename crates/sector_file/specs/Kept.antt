@@ -1,5 +1,5 @@
 -- What a store keeps: its records stand in its file, and in whatever a crash may leave of it.
-use Rattle.std.specs.Prelude.{◌≡◌, ℕ, ◌≤◌, List, length, Option, Some, None, slice_get}
+use Rattle.std.specs.Prelude.{◌≡◌, ℕ, ◌+◌, ◌*◌, ◌≤◌, List, length, Option, Some, None, slice_get}
 use Rattle.std.specs.List.{flat_map}
 use Rattle.std.specs.Option.{option_map_or}
 use Rattle.disk_dcdd.specs.Address.{index_of}
@@ -28,11 +28,12 @@ pending_with (Some p) place bytes = Some p
 abbrev pub AreWhole : List Record → Type 0
 AreWhole records = (i : ℕ) (r : Record) → slice_get records i ≡ Some r → length r.bytes ≡ 137
 
--- the file is on the disk and stands for the records
+-- the file is on the disk and stands for the records; its journal has 4,096 blocks at most
 pub record Works {D : Type 0} (seen : D → List ℕ) (may_leave : D → List ℕ → Type 0) (k : Kept D) : Type 0 where
   pub rests : Resting (length k.records.items) k.end (seen k.device)
   pub same : contents (length k.records.items) (seen k.device) ≡ bytes_of k.records.items
   pub durable : Only (seen k.device) (may_leave k.device)
+  pub short : k.end ≤ 137 * length k.records.items + 573440
 
 -- every crash leaves a file that stands for the records; unless the device has failed, the file is whole and on the disk
 pub record IsKept {D : Type 0} (seen : D → List ℕ) (may_leave : D → List ℕ → Type 0) (k : Kept D) : Type 0 where
@@ -41,6 +42,7 @@ pub record IsKept {D : Type 0} (seen : D → List ℕ) (may_leave : D → List �
   pub stands : (c : List ℕ) → may_leave k.device c
       → StandsFor (length k.records.items) (bytes_of k.records.items) k.pending c
   pub works : k.pending ≡ None → Works seen may_leave k
+  pub told : k.error ≡ None → k.pending ≡ None
 
 -- a write of a sector is being made, if there is such a sector
 abbrev pub pending_in : Option Pending → SectorAddress → List ℕ → Option Pending

@@ -1,5 +1,5 @@
 //! A store of records in a file: each write is on the disk before it is answered.
-ghost use Rattle.std.specs.Prelude.{◌≡◌, ◌⊎◌, ◌+◌, ◌*◌, ◌≤◌, All, length, None, IfErr, IfOk, OnErr, OnOk};
+ghost use Rattle.std.specs.Prelude.{◌≡◌, ◌⊎◌, ◌+◌, ◌*◌, ◌≤◌, All, length, None, IsNone, IfErr, IfOk, OnErr, OnOk};
 ghost use Rattle.i8080_words.specs.declared.refusal.Fault.TheVariants.{DeviceFault};
 ghost use Rattle.shared_disk.specs.Failing.{before_failures};
 ghost use Rattle.shared_disk.specs.Records as table;
@@ -17,7 +17,8 @@ use shared_disk::{Record, SectorStore};
 use std::alloc::Global;
 use std::marker::Model;
 
-/// Records in a file. Once the device has failed in a write, no further write succeeds: the file has to be opened again.
+/// Records in a file. Once the device has failed or memory has run out in a write, which is answered `DeviceFault`, no
+/// further write succeeds: the file has to be opened again.
 #[derive(Drop)]
 pub struct FileStore<D: Device> {
     kept: Kept<D>,
@@ -56,6 +57,15 @@ impl<D: Device> FileStore<D> {
             Ok(kept) => Ok(FileStore { kept }),
             Err(error) => Err(error),
         }
+    }
+
+    /// Why no further write succeeds: `Memory` if memory ran out in one, and `Failed` if the device failed; `None` while
+    /// the store works.
+    pub fn error(&self) -> Option<DeviceError>
+        ensures error { result ≡ self.now.error }
+        ensures works { IsNone result → self.now.pending ≡ None }
+    {
+        self.kept.error
     }
 
     /// Ends the session. At `Ok` the file is an ordinary image of the disk. At `Err` the next opening takes the journal up.

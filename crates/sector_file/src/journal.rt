@@ -8,7 +8,7 @@ use crate::{Device, DeviceError};
 use disk_dcdd::SECTOR_BYTES;
 
 // How many bytes a block of the journal has: its gate, the place of a sector in two bytes, and the sector's bytes.
-const BLOCK_BYTES: usize = 140;
+pub(crate) const BLOCK_BYTES: usize = 140;
 
 // How long a file may be, in bytes.
 const MAX_BYTES: usize = 1 << 60;

@@ -1,13 +1,14 @@
 //! The records of a disk, in memory and in a file.
-ghost use Rattle.std.specs.Prelude.{◌≡◌, ◌<◌, ◌≤◌, length, slice_set, None, OnErr, OnOk};
+ghost use Rattle.std.specs.Prelude.{◌≡◌, ◌<◌, ◌≤◌, length, slice_set, None, Some, IfErr, OnErr, OnOk};
 ghost use Rattle.sector_file.specs.Device.{LeavesOnly};
 ghost use Rattle.sector_file.specs.Sectors.{IsBeforeOrAfter};
 ghost use Rattle.sector_file.specs.Kept.{IsKept, StandsFor, bytes_of, pending_with};
 
-use crate::journal::append;
+use crate::room::add;
 use crate::{Device, DeviceError};
 use disk_dcdd::SECTOR_BYTES;
 use shared_disk::Record;
+use std::alloc::Global;
 
 /// A write of a sector in which the device failed: it may be on the disk or not.
 #[derive(Clone, Copy)]
@@ -16,13 +17,15 @@ pub struct Pending {
     pub bytes: [u8; SECTOR_BYTES],
 }
 
-/// Records, the file that has them, the offset of its last gate, and the write in which the device failed.
+/// Records, the file that has them, the offset of its last gate, the write in which the device failed, and its error.
 #[derive(Drop)]
 pub struct Kept<D: Device> {
+    pub alloc: Global,
     pub device: D,
     pub records: Vec<Record>,
     pub end: usize,
     pub pending: Option<Pending>,
+    pub error: Option<DeviceError>,
 }
 
 // The bytes of a sector are as many as their type says.
@@ -63,18 +66,31 @@ impl<D: Device> Kept<D> {
         ensures ok { OnOk result (self.new.records.items ≡ slice_set self.old.records.items place content) }
         ensures unchanged { OnErr result (self.new.records.items ≡ self.old.records.items) }
         ensures durable { OnOk result (self.new.pending ≡ None) }
+        ensures told { IfErr result (λ error. self.new.error ≡ Some error) }
         ensures any_moment { LeavesOnly D.moment D.left_since self.old.device self.new.device
             (IsBeforeOrAfter (length self.old.records.items) (bytes_of self.old.records.items) place content.bytes) }
     {
         sized(&content.bytes);
         let sectors = self.records.len();
         let bytes = content.bytes;
-        if let Err(error) = append(&mut self.device, sectors, self.end, place as u16, &bytes) {
-            self.pending = Some(Pending { place, bytes });
-            return Err(error);
+        match add(
+            self.alloc,
+            &mut self.device,
+            sectors,
+            self.end,
+            place as u16,
+            &bytes,
+        ) {
+            Ok(end) => {
+                self.end = end;
+                self.records[place] = content;
+                Ok(())
+            }
+            Err(error) => {
+                self.pending = Some(Pending { place, bytes });
+                self.error = Some(error);
+                Err(error)
+            }
         }
-        self.end += 140;
-        self.records[place] = content;
-        Ok(())
     }
 }

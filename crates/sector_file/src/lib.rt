@@ -8,6 +8,7 @@ mod kept;
 mod memory;
 mod opening;
 mod recovery;
+mod room;
 mod through;
 
 pub use device::{Device, DeviceError};
@@ -17,6 +18,7 @@ pub use kept::{Kept, Pending};
 pub use memory::Memory;
 pub use opening::{close_kept, open_kept};
 pub use recovery::{finish, take_up};
+pub use room::add;
 pub use through::{cut_through, write_through};
 
 #[cfg(test)]

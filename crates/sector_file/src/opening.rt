@@ -72,10 +72,12 @@ pub fn open_kept<D: Device>(
         Err(error) => return Err((error, device)),
     };
     Ok(Kept {
+        alloc,
         device,
         records,
         end: SECTOR_BYTES * sectors,
         pending: None,
+        error: None,
     })
 }
 
@@ -109,10 +111,12 @@ pub fn close_kept<D: Device>(alloc: Global, kept: Kept<D>) -> (D, Result<(), Dev
         (StandsFor (length kept.records.items) (bytes_of kept.records.items) kept.pending) }
 {
     let Kept {
+        alloc: _,
         mut device,
         records,
         end: _,
         pending,
+        error: _,
     } = kept;
     match pending {
         Some(_) => (device, Err(DeviceError::Failed)),
