@@ -1,4 +1,6 @@
 mod Blocks
+mod DriveWrites
+mod Drives
 mod Emptied
 mod Images
 mod Pasts

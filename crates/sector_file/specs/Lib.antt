@@ -1,4 +1,5 @@
 pub mod Device
+pub mod Drives
 pub mod Kept
 pub mod Memory
 pub mod Past

@@ -59,6 +59,15 @@ impl<D: Device> FileStore<D> {
         }
     }
 
+    /// The record of a sector. `Unknown` if there is no such sector.
+    pub fn record(&self, address: SectorAddress) -> R<Record>
+        ensures ok { IfOk result (λ found. table.IsAt self.now.records.items address found) }
+        ensures refused { IfErr result (λ fault. fault ≡ table.refusal_at self.now.records.items address) }
+    {
+        let place = address.index().ok_or(Fault::Unknown)?;
+        self.kept.records.get(place).copied().ok_or(Fault::Unknown)
+    }
+
     /// Why no further write succeeds: `Memory` if memory ran out in one, and `Failed` if the device failed; `None` while
     /// the store works.
     pub fn error(&self) -> Option<DeviceError>
@@ -90,8 +99,7 @@ impl<D: Device> SectorStore for FileStore<D> {
     }
 
     fn read(&mut self, address: SectorAddress) -> R<Record> {
-        let place = address.index().ok_or(Fault::Unknown)?;
-        self.kept.records.get(place).copied().ok_or(Fault::Unknown)
+        self.record(address)
     }
 
     fn write(&mut self, address: SectorAddress, content: Record) -> R<()>

@@ -2,6 +2,7 @@
 #![tactic(auto)]
 
 mod device;
+mod drive_files;
 mod file_store;
 mod journal;
 mod kept;
@@ -12,6 +13,7 @@ mod room;
 mod through;
 
 pub use device::{Device, DeviceError};
+pub use drive_files::DriveFiles;
 pub use file_store::FileStore;
 pub use journal::append;
 pub use kept::{Kept, Pending};
