@@ -10,3 +10,4 @@ mod Reading
 mod Redo
 mod Refusals
 mod Steps
+mod Tears
