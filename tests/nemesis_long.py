@@ -10,8 +10,9 @@ from nemesis_runs import memory_of
 # How many primaries are killed, and how often memory is looked at, in seconds.
 KILLS, LOOK = 4, 5
 
-# By how many kB the outside's memory may grow while nobody fails, once threads and rings have been used, and with each host that comes.
-MOST_GROWTH, GROWTH_BY_HOST = 64, 512
+# By how many kB the outside's memory may grow while nobody fails, and with each host that comes: two rings of 4,096 places, of which those
+# of a spare are used for the first time by and by, the blocks that its streams carry, its threads.
+MOST_GROWTH, GROWTH_BY_HOST = 64, 768
 
 
 class LongSeat(Pair):
