@@ -294,12 +294,60 @@ impl<D: SectorStore, S: Steward + Drop> Session<D, S> {
         ensures { Went self.old self.new }
     {
         let Some(live) = live_of(self.switch.lines()) else {
+            self.see_left(alloc);
             return;
         };
+        self.moments.left = None;
         self.see_live(&live);
         self.send_keys(alloc, now, &live);
         if live.report.role == Some(Role::Alone) {
             self.begin(alloc, now, &live);
+        }
+    }
+
+    // While nobody is live, spares are gone that were given to a generation and know nothing of it: whoever was to send them the machine
+    // is gone.
+    #[tactic(auto, using(crate::proofs::Going::stays, crate::proofs::Going::and_then))]
+    fn see_left(&mut self, alloc: Global)
+        ensures { Went self.old self.new }
+    {
+        let since = self.left_since();
+        for place in 0..=u8::MAX {
+            if !self.has_place(place) {
+                break;
+            }
+            self.leave(alloc, place, since);
+        }
+    }
+
+    // The number of the last tick when it was first seen that nobody is live. A host that has heard a later one has heard before who is
+    // gone, and what that one has sent.
+    #[tactic(auto, using(crate::proofs::Going::same))]
+    fn left_since(&mut self) -> u64
+        ensures { Went self.old self.new }
+    {
+        let since = self.moments.left.unwrap_or(self.moments.tick);
+        self.moments.left = Some(since);
+        since
+    }
+
+    // The host at a place is gone, if it is such a spare.
+    #[tactic(auto, using(crate::proofs::Going::stays, crate::proofs::Going::switched))]
+    fn leave(&mut self, alloc: Global, place: u8, since: u64)
+        ensures { Went self.old self.new }
+    {
+        if !self.is_left(place, since) {
+            return;
+        }
+        self.switch.gone(alloc, place);
+        self.steward.hears(place, HostEvent::Gone);
+    }
+
+    // Whether the host at a place is a spare that was given to a generation, and says so after this tick.
+    fn is_left(&self, place: u8, since: u64) -> bool {
+        match self.switch.lines().get(usize::from(place)) {
+            Some(line) => is_left(line, since),
+            None => false,
         }
     }
 
@@ -464,5 +512,16 @@ fn generation_at(lines: &[HostLine], place: u8) -> u32 {
     match line.report() {
         Some(report) => report.generation,
         None => 0,
+    }
+}
+
+// Whether a host was given to a generation, and says after this tick that it is a spare.
+fn is_left(line: &HostLine, since: u64) -> bool {
+    if line.is_cut() || line.number().is_none() {
+        return false;
+    }
+    match line.report() {
+        Some(report) => report.role.is_none() && report.tick > since,
+        None => false,
     }
 }
