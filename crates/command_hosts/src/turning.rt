@@ -49,6 +49,7 @@ impl<D: SectorStore, S: Steward + Drop> Session<D, S> {
         let has_keys = self.take_keys(now);
         let has_bodies = self.hear_all(alloc, now);
         self.see_ends(alloc);
+        self.see_left(alloc);
         self.serve_live(alloc, now);
         self.tick(alloc, now);
         has_keys || has_bodies
@@ -294,10 +295,8 @@ impl<D: SectorStore, S: Steward + Drop> Session<D, S> {
         ensures { Went self.old self.new }
     {
         let Some(live) = live_of(self.switch.lines()) else {
-            self.see_left(alloc);
             return;
         };
-        self.moments.left = None;
         self.see_live(&live);
         self.send_keys(alloc, now, &live);
         if live.report.role == Some(Role::Alone) {
@@ -311,24 +310,34 @@ impl<D: SectorStore, S: Steward + Drop> Session<D, S> {
     fn see_left(&mut self, alloc: Global)
         ensures { Went self.old self.new }
     {
-        let since = self.left_since();
+        if let Some(since) = self.left_since() {
+            self.leave_all(alloc, since);
+        }
+    }
+
+    // Unless a host is live, the number of the last tick when it was first seen that none is. A host that has heard a later tick has heard
+    // before who is gone, and what that one has sent.
+    #[tactic(auto, using(crate::proofs::Going::same))]
+    fn left_since(&mut self) -> Option<u64>
+        ensures { Went self.old self.new }
+    {
+        let is_served = live_of(self.switch.lines()).is_some();
+        let since = self.moments.left.unwrap_or(self.moments.tick);
+        self.moments.left = if is_served { None } else { Some(since) };
+        self.moments.left
+    }
+
+    // Each host is gone that is such a spare.
+    #[tactic(auto, using(crate::proofs::Going::stays, crate::proofs::Going::and_then))]
+    fn leave_all(&mut self, alloc: Global, since: u64)
+        ensures { Went self.old self.new }
+    {
         for place in 0..=u8::MAX {
             if !self.has_place(place) {
                 break;
             }
             self.leave(alloc, place, since);
         }
-    }
-
-    // The number of the last tick when it was first seen that nobody is live. A host that has heard a later one has heard before who is
-    // gone, and what that one has sent.
-    #[tactic(auto, using(crate::proofs::Going::same))]
-    fn left_since(&mut self) -> u64
-        ensures { Went self.old self.new }
-    {
-        let since = self.moments.left.unwrap_or(self.moments.tick);
-        self.moments.left = Some(since);
-        since
     }
 
     // The host at a place is gone, if it is such a spare.
