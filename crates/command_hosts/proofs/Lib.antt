@@ -2,3 +2,4 @@ pub mod Typing
 pub mod Passing
 pub mod Cutting
 pub mod Going
+pub mod Deserted

@@ -5,7 +5,6 @@ use Rattle.outside_switch.specs.Goes.{GoesWith, SendsKey}
 use Rattle.outside_switch.specs.Meets.{Seen}
 use Rattle.outside_switch.specs.Passing.{Passed, Typed}
 use Rattle.console_terminal.specs.Lines.{IsSameEnd, found, heard}
-use Rattle.console_terminal.specs.declared.keyboard.Keyboard.{Keyboard}
 use Rattle.command_hosts.specs.declared.port.PortEnd.{PortEnd}
 
 -- the keys that were typed at the terminal are those that came from the keyboard, in order and each once: one may wait, since

@@ -1,8 +1,10 @@
 -- What a run of the outside comes to, and why it ends.
-use Rattle.std.specs.Prelude.{◌≡◌, ℕ, Bool, ◌||◌, is_none, true, false, List, [], ◌∷◌, ◌++◌, Some, slice_get, slice_index}
+use Rattle.std.specs.Prelude.{◌≡◌, ℕ, Bool, ◌||◌, ◌&&◌, is_none, nat_lt, true, false, List, [], ◌∷◌, ◌++◌, Option, None, Some, slice_get, slice_index}
 use Rattle.std.specs.List.{list_all}
 use Rattle.rtrb.specs.Ring.{received}
+use Rattle.host_frames.specs.declared.frame.Report.{Report}
 use Rattle.outside_switch.specs.Goes.{GoesWith}
+use Rattle.outside_switch.specs.Lines.{reports_spare}
 use Rattle.outside_switch.specs.Meets.{seen}
 use Rattle.outside_switch.specs.Passing.{Passed, shown_at, typed_at}
 use Rattle.outside_switch.specs.declared.heard.Heard.{Heard}
@@ -53,9 +55,25 @@ pub data SeesLive {D S : Type 0} (live : Live) (old new : Session D S) : Type 0 
       BeginsAt (slice_index live.report.taken 0) new.first → BeginsAt (slice_index live.report.taken 1) new.second →
       SeesLive live old new
 
--- every host that has a number is cut off; one without has no machine, and nobody is left to give it one
+-- a host is cut off; or it has no number, or says that it is a spare: then it has no machine, and nobody is left to give it one
+abbrev pub has_no_machine : HostLine → Bool
+has_no_machine line = is_none line.to || (is_none line.number || reports_spare line.report)
+
 abbrev pub have_no_machine : List HostLine → Bool
-have_no_machine lines = list_all (λ (line : HostLine). is_none line.to || is_none line.number) lines
+have_no_machine lines = list_all has_no_machine lines
+
+-- A host is out: it is cut off, or has no number; or it has said that it is a spare since a tick after that one when nobody was live
+-- any more.
+abbrev pub is_after : ℕ → Option ℕ → Bool
+is_after tick None = false
+is_after tick (Some left) = nat_lt left tick
+
+abbrev pub says_spare_after : Option ℕ → Option Report → Bool
+says_spare_after left None = false
+says_spare_after left (Some report) = is_none report.role && is_after report.tick left
+
+abbrev pub is_out : Option ℕ → HostLine → Bool
+is_out left line = is_none line.to || (is_none line.number || says_spare_after left line.report)
 
 -- the live host, and what it reported last
 pub record IsLive (lines : List HostLine) (live : Live) : Type 0 where

@@ -1,6 +1,7 @@
 //! The outside of a pair whose hosts are processes: a loop of turns, none of which waits for a stream.
 #![tactic(auto)]
 
+mod ending;
 mod flood;
 mod live;
 mod port;

@@ -66,6 +66,8 @@ pub(crate) struct Moments {
     pub(crate) asked: Option<(u64, u64)>,
     // Which host is live, and of which generation.
     pub(crate) live: Option<(u8, u32)>,
+    // While nobody is live, the number of the last tick when that was first seen.
+    pub(crate) left: Option<u64>,
 }
 
 impl<D: SectorStore, S: Steward + Drop> Session<D, S> {
@@ -101,6 +103,7 @@ impl<D: SectorStore, S: Steward + Drop> Session<D, S> {
                 moved: 0,
                 asked: None,
                 live: None,
+                left: None,
             },
             flood: Flood::new(),
         })

@@ -1,5 +1,5 @@
 //! One turn of the outside.
-ghost use Rattle.std.specs.Prelude.{IfSome, ◌≡◌, ◌∷◌, [], true};
+ghost use Rattle.std.specs.Prelude.{◌≡◌, ◌∷◌, []};
 ghost use Rattle.outside_switch.specs.Goes.{GoesWith};
 ghost use Rattle.outside_switch.specs.Meets.{seen};
 ghost use Rattle.outside_switch.specs.Passing.{Shown, passed_of};
@@ -8,12 +8,11 @@ ghost use Rattle.outside_switch.specs.declared.heard.Heard.TheVariants as of_hea
 ghost use Rattle.outside_switch.specs.Heeds.{HasRoomFor};
 ghost use Rattle.command_hosts.specs.Floods.{has_flooded, refused_one, sent_one, ticked};
 ghost use Rattle.command_hosts.specs.Judging.{HearsAndCounts, HearsOne, IsCutOff, Judges, TakesOne, is_due, is_open};
-ghost use Rattle.command_hosts.specs.Runs.{HasIdleGuest, IsTold, IsWhy, MayShow, SeesLive, Went, have_no_machine};
-ghost use Rattle.command_hosts.specs.declared.session.HostsEnd.TheVariants as ending;
+ghost use Rattle.command_hosts.specs.Runs.{IsTold, MayShow, SeesLive, Went};
 
 use crate::flood::{Came, came_of};
 use crate::live::{Live, live_of, spare_for};
-use crate::session::{HostsEnd, Session};
+use crate::session::Session;
 use crate::steward::{HostEvent, Steward};
 use event_callbacks::PORTS;
 use outside_switch::{Heard, HostLine};
@@ -30,12 +29,6 @@ const TICK: u64 = 50_000;
 /// After how many microseconds a host that is alone is told again to begin: it does once a copy has gone early.
 const BEGIN: u64 = 10_000;
 
-/// For how many microseconds nothing may be written and shown by a guest that runs.
-const SILENT: u64 = 10_000_000;
-
-/// For how many microseconds writes of the guest may be on their way after the user has asked for the end.
-const DRAINS: u64 = 2_000_000;
-
 /// After how many microseconds without a turn the outside was itself stopped: nothing that it has not seen says anything of a host.
 const STOPPED: u64 = 250_000;
 
@@ -49,6 +42,7 @@ impl<D: SectorStore, S: Steward + Drop> Session<D, S> {
         let has_keys = self.take_keys(now);
         let has_bodies = self.hear_all(alloc, now);
         self.see_ends(alloc);
+        self.see_left();
         self.serve_live(alloc, now);
         self.tick(alloc, now);
         has_keys || has_bodies
@@ -303,6 +297,16 @@ impl<D: SectorStore, S: Steward + Drop> Session<D, S> {
         }
     }
 
+    // Remembers since which tick nobody is live. Whoever has heard a later one has heard all that comes of a host that is gone.
+    #[tactic(auto, using(crate::proofs::Going::same))]
+    fn see_left(&mut self)
+        ensures { Went self.old self.new }
+    {
+        let is_served = live_of(self.switch.lines()).is_some();
+        let since = self.moments.left.unwrap_or(self.moments.tick);
+        self.moments.left = if is_served { None } else { Some(since) };
+    }
+
     // Another host may be live: all keys that it has not taken are sent to it.
     #[tactic(auto, using(crate::proofs::Going::stays, crate::proofs::Going::rests))]
     fn see_live(&mut self, live: &Live)
@@ -373,87 +377,6 @@ impl<D: SectorStore, S: Steward + Drop> Session<D, S> {
         self.steward
             .looks(self.switch.lines(), self.flood.all_refused());
     }
-
-    /// Why all ends now, if it does.
-    #[tactic(auto, using(crate::proofs::Going::same))]
-    pub(crate) fn end(&mut self, now: u64) -> Option<HostsEnd>
-        ensures went { Went self.old self.new }
-        ensures why { IfSome result (λ end. IsWhy end self.new) }
-    {
-        if self.has_quit(now) {
-            return Some(HostsEnd::UserQuit);
-        }
-        if self.steward.is_over() {
-            return Some(HostsEnd::Stopped);
-        }
-        if is_deserted(self.switch.lines()) {
-            return Some(HostsEnd::NoHosts);
-        }
-        self.end_of_keys(now)
-    }
-
-    // Whether the user has asked for the end, and no write of the guest is on its way to the disk.
-    #[tactic(auto, using(crate::proofs::Going::same))]
-    fn has_quit(&mut self, now: u64) -> bool
-        ensures went { Went self.old self.new }
-        ensures why { result ≡ true → IsWhy ending.UserQuit self.new }
-    {
-        if self.quits.is_empty() || !self.is_drained(now) {
-            return false;
-        }
-        self.quits.pop().is_ok()
-    }
-
-    // Whether a live host has said, since the user has asked for the end, that no write is on its way; or it has not for long.
-    #[tactic(auto, using(crate::proofs::Going::same))]
-    fn is_drained(&mut self, now: u64) -> bool
-        ensures went { Went self.old self.new }
-        ensures quits { self.new.quits ≡ self.old.quits }
-    {
-        let Some((asked, tick)) = self.moments.asked else {
-            self.moments.asked = Some((now, self.moments.tick));
-            return false;
-        };
-        match live_of(self.switch.lines()) {
-            Some(live) if live.report.tick > tick && live.report.writes == 0 => true,
-            _ => now.saturating_sub(asked) >= DRAINS,
-        }
-    }
-
-    // Why all ends now, if no keys are left.
-    fn end_of_keys(&self, now: u64) -> Option<HostsEnd>
-        ensures { IfSome result (λ end. IsWhy end self.now) }
-    {
-        if !self.first.is_over() || !self.second.is_over() {
-            return None;
-        }
-        if self.is_idle() {
-            return Some(HostsEnd::Settled);
-        }
-        if now.saturating_sub(self.moments.moved) >= SILENT {
-            return Some(HostsEnd::Silent);
-        }
-        None
-    }
-
-    // Whether the guest of the live host waits for a key, with nothing on its way to a device.
-    fn is_idle(&self) -> bool
-        ensures { result ≡ true → HasIdleGuest self.now.switch.lines.items }
-    {
-        match live_of(self.switch.lines()) {
-            Some(live) => live.report.is_idle,
-            None => false,
-        }
-    }
-}
-
-// Whether no host that is left has the machine, or is given it: those that have a number.
-fn is_deserted(lines: &[HostLine]) -> bool
-    ensures { result ≡ have_no_machine lines.now }
-{
-    lines
-        .iter()
-        .all(|line| line.is_cut() || line.number().is_none())
 }
 
 // Of which generation the host at a place is, by what it reported last; 0 if it has reported nothing.

@@ -2,7 +2,6 @@
 use Rattle.std.proofs.Common.{ℕ, ◌≡◌, ◌<◌, List, length, get_or, Some, sym, ap, ◌∙◌, subst}
 use Rattle.std.specs.Prelude.{slice_get}
 use Rattle.std.proofs.lemmas.Option.{slice_get-get_or}
-use Rattle.command_hosts.specs.Runs.{IsLive}
 use Rattle.outside_switch.specs.declared.line.HostLine.{HostLine}
 use Rattle.command_hosts.proofs.live.live_at.Goals as goal
 
