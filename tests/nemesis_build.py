@@ -14,52 +14,90 @@ from cases import Differs
 from console_sitting import TOP
 
 sys.path.insert(0, str(TOP / "tools"))
-from crates import crate_of
+from crates import crate_of, toolchain
 from edits import edited
 
 EDITS = TOP / "tests/nemesis_mistakes"
 
 
-class Mistake:
-    """A mistake: what it is in a sentence, how it is looked for, and the edit that makes it."""
+# The compiler of such a program: the toolchain's, but that it optimizes, since a program as slow as those that ./pair builds ends few runs.
+OPTIMIZES = """\
+#!/bin/bash
+words=()
+for it in "$@"; do [ "$it" = -O0 ] && it=-O2; words+=("$it"); done
+exec {clang} "${{words[@]}}"
+"""
 
-    def __init__(self, path):
-        self.name, self.edit = path.stem, path
-        rows = dict(line.split(": ", 1) for line in path.read_text().splitlines())
-        self.says, self.guest, self.deed = rows["says"], rows["guest"], rows["deed"]
-        self.room = TOP / "out/nemesis" / self.name
+
+class Built:
+    """A program that is built without proofs, from sources some of whose files have other texts."""
+
+    def __init__(self, name):
+        self.name = name
+        self.room = TOP / "out/nemesis" / name
         self.program = self.room / "program"
 
+    def texts(self):
+        """The texts of the files that are not those of this repository, by their paths: the right program has none."""
+        return {}
+
     def sum(self):
-        """A sum of all that its program is built from."""
-        return hashlib.sha256(crate_of("pair_main").sum.encode() + self.edit.read_bytes()).hexdigest()
+        """A sum of all that the program is built from."""
+        others = [f"{path}\n{text}" for path, text in sorted(self.texts().items())]
+        return hashlib.sha256("\n".join([crate_of("pair_main").sum, *others]).encode()).hexdigest()
 
     def build(self):
-        """Builds its program, unless that is there already. It is as slow as any that is not proved."""
-        kept = self.room / "sum"
-        if self.program.exists() and kept.exists() and kept.read_text() == self.sum():
+        """Builds the program, unless that is there already: three minutes of a processor."""
+        kept, whole = self.room / "sum", self.sum()
+        if self.program.exists() and kept.exists() and kept.read_text() == whole:
             return
-        try:
-            texts = edited(self.edit, TOP)
-        except (OSError, ValueError) as error:
-            raise Differs(f"{self.name} cannot be applied: {error}") from error
         shutil.rmtree(self.room, ignore_errors=True)
-        self.copy(texts)
+        self.copy()
         with open(self.room / "said", "wb") as said:
             tool = [self.room / "top/tools/unproved.py", self.program]
-            if subprocess.run(tool, stdin=subprocess.DEVNULL, stdout=said, stderr=said).returncode:
+            how = {"stdin": subprocess.DEVNULL, "stdout": said, "stderr": said}
+            if subprocess.run(tool, env={**os.environ, "COMPILER": self.compiler()}, **how).returncode:
                 raise Differs(f"{self.name} was not built; {self.room / 'said'} has what the toolchain says")
-        kept.write_text(self.sum())
+        kept.write_text(whole)
 
-    def copy(self, texts):
-        """Copies the sources, and makes the mistake in the copy."""
+    def copy(self):
+        """Copies the sources, with the other texts among them."""
         top = self.room / "top"
         shutil.copytree(TOP / "tools", top / "tools")
         shutil.copy(TOP / "crates.txt", top)
         for folder in glob.glob(f"{TOP}/crates/*/src"):
             shutil.copytree(folder, top / os.path.relpath(folder, TOP))
-        for path, text in texts.items():
+        for path, text in self.texts().items():
             (top / path).write_text(text)
+
+    def compiler(self):
+        """The folder of a compiler that optimizes."""
+        given, folder = pathlib.Path(toolchain()) / "toolchain", self.room / "compiler"
+        (folder / "bin").mkdir(parents=True)
+        (folder / "lib").symlink_to(given / "lib")
+        for it in (given / "bin").iterdir():
+            (folder / "bin" / it.name).symlink_to(it)
+        clang = folder / "bin/clang"
+        clang.unlink()
+        clang.write_text(OPTIMIZES.format(clang=given / "bin/clang"))
+        clang.chmod(0o755)
+        return folder
+
+
+class Mistake(Built):
+    """A program with a mistake: what that is in a sentence, how it is looked for, and the edit that makes it."""
+
+    def __init__(self, path):
+        super().__init__(path.stem)
+        self.edit = path
+        rows = dict(line.split(": ", 1) for line in path.read_text().splitlines())
+        self.says, self.guest, self.deed = rows["says"], rows["guest"], rows["deed"]
+
+    def texts(self):
+        try:
+            return edited(self.edit, TOP)
+        except (OSError, ValueError) as error:
+            raise Differs(f"{self.name} cannot be applied: {error}") from error
 
 
 def mistakes(names=()):
