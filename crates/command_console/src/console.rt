@@ -6,6 +6,7 @@ ghost use Rattle.console_terminal.specs.Greeting.{greeting_of};
 ghost use Rattle.command_console.specs.Console.{HasRun, HasServed, OpensFor};
 ghost use Rattle.command_console.specs.Sitting.{AreOpen};
 
+use crate::files::{Files, attach, end_files};
 use crate::mirror::Mirrored;
 use crate::seats::Seats;
 use crate::session::{Desktop, Ends, Left, sit};
@@ -17,9 +18,11 @@ use command_hosts::{HostsEnd, PortEnd, Session};
 use command_io::{Failure, Input, Language, read_input, save_disks};
 use command_line::ConsoleOrder;
 use console_terminal::{Keyboard, Screen, Signs, greeting};
+use disk_file::FileDevice;
 use i8080_words::R;
 use rtrb::RingBuffer;
 use script_language::Script;
+use sector_file::DriveFiles;
 use std::alloc::{AllocError, Global};
 use std::io::{IsTerminal, Read, Write};
 use std::sync::{Arc, Wait};
@@ -43,7 +46,7 @@ pub struct Streams<R, W, N> {
     pub notes: N,
 }
 
-/// Opens an outside as the images and the script say that come first, and lets one sit at its pair: further bytes are keys or commands,
+/// Opens the files that are disks, and an outside as the images and the script say that come first, and lets one sit at its pair: further bytes are keys or commands,
 /// and what its terminals accept is written as it is accepted. Its hosts are at the ends of named pipes. It ends at the command `quit`, once
 /// no more keys can come and the pair does nothing more, or if no host is left; then the disks that are saved are written, as they are then.
 pub fn run_console<
@@ -72,6 +75,7 @@ pub fn run_console<
         &order.images,
         &mut opening.as_slice(),
     )?;
+    let (input, attached) = attach(alloc, &files, order, input)?;
     write_greeting(alloc, order.escape, &mut notes)?;
     let streams = Streams {
         reader,
@@ -84,6 +88,7 @@ pub fn run_console<
         alloc,
         order,
         (input, Arc::new(alloc, opening)?),
+        attached,
         streams,
     )
 }
@@ -98,7 +103,8 @@ fn write_greeting<N: Write>(alloc: Global, escape: u8, notes: &mut N) -> Result<
     Ok(())
 }
 
-// Lets one sit at the pair of an input, which its hosts are given as it came, and writes the disks that are saved.
+// Lets one sit at the pair of an input, which its hosts are given as it came, ends the files that are disks, and writes the disks that
+// are saved.
 fn run_input<
     H: Threads + Wait + Clock + Copy + Drop + Send + Sync + 'static,
     R: Read + IsTerminal + Drop + Send + 'static,
@@ -110,12 +116,14 @@ fn run_input<
     alloc: Global,
     order: &ConsoleOrder,
     opening: (Input, Arc<Vec<u8>>),
+    attached: Files,
     streams: Streams<R, W, N>,
 ) -> Result<HostsEnd, Failure>
     ensures { IfOk result (λ end. HasRun R.remaining W.contents N.contents order.now opening.0 streams end) }
 {
     let (input, bytes) = opening;
-    let prepared = prepare(alloc, order, &input)?;
+    let Files { drives, paddings } = attached;
+    let prepared = prepare(alloc, order, &input, drives)?;
     let Prepared {
         mut session,
         ends,
@@ -143,15 +151,17 @@ fn run_input<
         end,
         disk,
         mut writer,
-        notes: _notes,
+        mut notes,
     } = left;
-    save_disks(
+    let saved = save_disks(
         alloc,
         disk,
         &order.saved,
         order.mark.as_bytes(),
         &mut writer,
-    )?;
+    );
+    end_files(alloc, &files, order, paddings, &mut notes)?;
+    saved?;
     Ok(end)
 }
 
@@ -165,11 +175,16 @@ struct Prepared {
 }
 
 // The outside of an input, with no place for a host yet.
-fn prepare(alloc: Global, order: &ConsoleOrder, input: &Input) -> R<Prepared>
+fn prepare(
+    alloc: Global,
+    order: &ConsoleOrder,
+    input: &Input,
+    drives: DriveFiles<FileDevice>,
+) -> R<Prepared>
     ensures opens { IfOk result (λ p. OpensFor input.now p.session) }
     ensures open { IfOk result (λ p. AreOpen p.session p.ends) }
 {
-    let (store, shelf) = mirrored_store(alloc, input)?;
+    let (store, shelf) = mirrored_store(alloc, input, drives)?;
     let seats = Arc::new(alloc, Seats::new(alloc))?;
     let signs = Arc::new(alloc, Signs::new())?;
     let (first, keys0) = RingBuffer::new(alloc, BYTES)?;
