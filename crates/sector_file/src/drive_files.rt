@@ -55,7 +55,6 @@ impl<D: Device> DriveFiles<D> {
     }
 
     /// Whether there are so many drives, with just the records of another store. What that one has at boot they have too.
-    #[tactic(auto, using(crate::proofs::Alike::are_alike))]
     pub fn is_like(&mut self, other: &mut MemoryStore, drives: u8) -> bool
         ensures unchanged { all_records self.new ≡ all_records self.old }
         ensures other { other.new ≡ other.old }
