@@ -150,10 +150,23 @@ fn image_of(alloc: Global, boot: &mut MemoryStore, drive: u8) -> Result<Vec<u8>,
 {
     let mut image = Vec::new(alloc);
     for place in 0..DRIVE_SECTORS {
-        let found = boot.read(address_at(drive, place))?;
-        image.extend_from_slice(&found.bytes)?;
+        add_sector(boot, address_at(drive, place), &mut image)?;
     }
     Ok(image)
+}
+
+// Adds what a sector has.
+fn add_sector(
+    boot: &mut MemoryStore,
+    address: SectorAddress,
+    image: &mut Vec<u8>,
+) -> Result<(), OpenError>
+    ensures boot { boot.new ≡ boot.old }
+{
+    match boot.read(address) {
+        Ok(found) => Ok(image.extend_from_slice(&found.bytes)?),
+        Err(_) => Err(OpenError::NoDrive),
+    }
 }
 
 // The sector at this place of a drive's image.
