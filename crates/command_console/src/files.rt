@@ -1,6 +1,7 @@
 //! The files that are disks of drives: opened before anything runs, and ended once all has.
 ghost use Rattle.std.specs.Prelude.{◌≡◌, IfOk};
 ghost use Rattle.command_console.specs.Attached.{HasAttached};
+ghost use Rattle.disk_file.specs.Names.{AreInFiles};
 
 use command_io::{Failure, Input};
 use command_line::ConsoleOrder;
@@ -27,7 +28,8 @@ pub(crate) fn attach(
     order: &ConsoleOrder,
     input: Input,
 ) -> Result<(Input, Files), Failure>
-    ensures { IfOk result (λ r. HasAttached order.now.attached.items input r.0) }
+    ensures sectors { IfOk result (λ r. HasAttached order.now.attached.items input r.0) }
+    ensures files { IfOk result (λ r. AreInFiles order.now.attached.items r.1.drives) }
 {
     let Attached {
         drives,
@@ -44,7 +46,9 @@ fn open_files(
     files: &HostRuntime,
     order: &ConsoleOrder,
     input: &Input,
-) -> Result<Attached, Failure> {
+) -> Result<Attached, Failure>
+    ensures { IfOk result (λ attached. AreInFiles order.now.attached.items attached.drives) }
+{
     let drives = input.script.setup.guest.drives;
     let mut boot = MemoryStore::at_boot(alloc, drives, &input.sectors)?;
     match open_drives(

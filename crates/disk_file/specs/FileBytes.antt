@@ -1,10 +1,14 @@
 -- What a device of a file holds.
-use Rattle.std.specs.Prelude.{ℕ, nat_eq, ◌&&◌, Bool, false, not, List, [], ◌∷◌, length, replicate, if◌then◌else◌}
+use Rattle.std.specs.Prelude.{ℕ, nat_eq, ◌&&◌, Bool, false, not, List, [], ◌∷◌, length, replicate, if◌then◌else◌, is_some}
 use Rattle.disk_file.specs.declared.file_device.FileDevice.{FileDevice}
 
 -- its bytes
 abbrev pub bytes_in : FileDevice → List ℕ
 bytes_in device = device.bytes.items
+
+-- it is an open file
+abbrev pub is_file : FileDevice → Bool
+is_file device = is_some device.medium.file
 
 -- the image of a drive on which nothing is written
 unfoldable pub blank_image : List ℕ

@@ -1,6 +1,6 @@
 //! The drives of a disk, of which some are in files.
 ghost use Rattle.std.specs.Prelude.{◌≡◌, ◌<◌, All, IfOk, true};
-ghost use Rattle.disk_file.specs.Names.{is_named};
+ghost use Rattle.disk_file.specs.Names.{AreInFiles, IsKept, is_named};
 
 use crate::file_device::FileDevice;
 use crate::opening::{OpenImage, Opening, open_image, take_up};
@@ -37,6 +37,7 @@ pub fn open_drives(
     drives: u8,
 ) -> Result<Attached, Unattached>
     ensures boot { boot.new ≡ boot.old }
+    ensures files { IfOk result (λ attached. AreInFiles names.now attached.drives) }
 {
     let mut attached = Attached {
         drives: DriveFiles::new(alloc),
@@ -56,7 +57,37 @@ pub fn open_drives(
             return Err(Unattached { drive, why });
         }
     }
-    Ok(attached)
+    if are_in_files(names, &attached.drives) {
+        Ok(attached)
+    } else {
+        Err(Unattached {
+            drive: 0,
+            why: OpenError::NotFile,
+        })
+    }
+}
+
+// Whether each drive that has a name is in a file.
+fn are_in_files(names: &[String], drives: &DriveFiles<FileDevice>) -> bool
+    ensures { result ≡ true → AreInFiles names.now drives.now }
+{
+    is_kept(names, drives, 0)
+        && is_kept(names, drives, 1)
+        && is_kept(names, drives, 2)
+        && is_kept(names, drives, 3)
+}
+
+// Whether a drive is in a file if it has a name.
+fn is_kept(names: &[String], drives: &DriveFiles<FileDevice>, drive: u8) -> bool
+    ensures { result ≡ true → IsKept names.now drives.now drive }
+{
+    if !is_named(names, drive) {
+        return true;
+    }
+    match drives.drive(drive) {
+        Some(file) => file.device().is_file(),
+        None => false,
+    }
 }
 
 /// Whether each of these sectors is of a drive that has a name.

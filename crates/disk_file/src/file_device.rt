@@ -21,7 +21,7 @@ pub struct FileDevice {
 }
 
 impl FileDevice {
-    ghost use Rattle.disk_file.specs.FileBytes.{bytes_in};
+    ghost use Rattle.disk_file.specs.FileBytes.{bytes_in, is_file};
 
     /// A file that holds these bytes. The caller has read them after a sync. Unless it is synced, a sync waits for nothing.
     pub fn new(file: File, bytes: Vec<u8>, is_synced: bool) -> FileDevice
@@ -47,6 +47,13 @@ impl FileDevice {
             past: Past::new(),
             failed: Past::new(),
         }
+    }
+
+    /// Whether it is an open file, and not in memory alone.
+    pub fn is_file(&self) -> bool
+        ensures { result ≡ is_file self.now }
+    {
+        self.medium.is_file()
     }
 
     /// How many bytes it holds.

@@ -1,4 +1,5 @@
 //! Where the bytes of a device are beside memory: in a file of the operating system, or nowhere.
+ghost use Rattle.std.specs.Prelude.{◌≡◌, is_some};
 
 use std::fs::File;
 use std::io;
@@ -26,6 +27,13 @@ impl Medium {
             file: None,
             is_synced: false,
         }
+    }
+
+    /// Whether there is a file.
+    pub(crate) fn is_file(&self) -> bool
+        ensures { result ≡ is_some self.now.file }
+    {
+        self.file.is_some()
     }
 
     /// Writes these bytes from an offset on.

@@ -1,5 +1,5 @@
 //! A disk of several drives, each in a file of its own.
-ghost use Rattle.std.specs.Prelude.{◌≡◌, ◌++◌, [], ◌∷◌, List, length, None, Some, IfErr, IfOk, OnErr, OnOk, true};
+ghost use Rattle.std.specs.Prelude.{◌≡◌, ◌++◌, [], ◌∷◌, List, length, None, Some, IfErr, IfOk, OnErr, OnOk, option_map, slice_get, true};
 ghost use Rattle.disk_dcdd.specs.declared.sector.SectorWrite.{SectorWrite};
 ghost use Rattle.shared_disk.specs.Failing.{before_failures};
 ghost use Rattle.shared_disk.specs.Records as table;
@@ -52,6 +52,13 @@ impl<D: Device> DriveFiles<D> {
         drive.has_whole_sectors();
         self.drives.push(drive)?;
         Ok(())
+    }
+
+    /// The file of a drive, if there is that drive.
+    pub fn drive(&self, drive: u8) -> Option<&FileStore<D>>
+        ensures { option_map (λ file. file.now) result ≡ slice_get self.now drive }
+    {
+        self.drives.get(usize::from(drive))
     }
 
     /// Whether there are so many drives, with just the records of another store. What that one has at boot they have too.

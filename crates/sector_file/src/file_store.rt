@@ -68,6 +68,13 @@ impl<D: Device> FileStore<D> {
         self.kept.records.get(place).copied().ok_or(Fault::Unknown)
     }
 
+    /// The file.
+    pub fn device(&self) -> &D
+        ensures { result.now ≡ self.now.device }
+    {
+        &self.kept.device
+    }
+
     /// Why no further write succeeds: `Memory` if memory ran out in one, and `Failed` if the device failed; `None` while
     /// the store works.
     pub fn error(&self) -> Option<DeviceError>
