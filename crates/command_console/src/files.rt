@@ -60,11 +60,7 @@ fn open_files(
         drives,
     ) {
         Ok(attached) => Ok(attached),
-        Err(refused) => Err(refusal(
-            alloc,
-            name_of(order, refused.drive),
-            &refused.why,
-        )),
+        Err(refused) => Err(refusal(alloc, name_of(order, refused.drive), &refused.why)),
     }
 }
 

@@ -57,7 +57,9 @@ impl From<DeviceError> for OpenError {
         match error {
             DeviceError::Memory => OpenError::OutOfMemory,
             DeviceError::Short => OpenError::Short,
-            DeviceError::Failed | DeviceError::Full => { OpenError::File(io::ErrorKind::Other.into()) }
+            DeviceError::Failed | DeviceError::Full => {
+                OpenError::File(io::ErrorKind::Other.into())
+            }
         }
     }
 }

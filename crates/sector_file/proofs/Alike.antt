@@ -1,5 +1,5 @@
 -- Drives that agree with another disk in each sector have at boot what that one has, and nothing past it.
-use Rattle.std.proofs.Common.{◌≡◌, ◌⊎◌, ⊎_elim, ℕ, ◌<◌, ◌≤◌, Bool, true, false, ◌&&◌, All, List, length, Option, Some, None, refl, sym, ap, ◌∙◌, arith}
+use Rattle.std.proofs.Common.{◌≡◌, ⊎_elim, ℕ, ◌<◌, ◌≤◌, Bool, true, false, ◌&&◌, All, List, length, Option, Some, None, refl, sym, ap, ◌∙◌, arith}
 use Rattle.std.specs.Prelude.{nat_lt, if◌then◌else◌, replicate, slice_get}
 use Rattle.std.specs.Option.{option_and_then}
 use Rattle.std.proofs.lemmas.Bool.{ltb-true, ltb-false}
@@ -10,7 +10,7 @@ use Rattle.disk_dcdd.specs.declared.sector.SectorWrite.{SectorWrite}
 use Rattle.disk_dcdd.specs.declared.sector.TheConstants.{SECTOR_BYTES}
 use Rattle.shared_disk.specs.Records.{IsAtBoot, boot_record, record_at}
 use Rattle.shared_disk.specs.declared.store.Record.{Record}
-use Rattle.sector_file.specs.Drives.{Agree, AgreeOnDrive, IsBooted, IsDrive, all_records}
+use Rattle.sector_file.specs.Drives.{AgreeOnDrive, IsBooted, IsDrive, all_records}
 use Rattle.sector_file.specs.declared.kept.Kept.{Kept}
 use Rattle.sector_file.proofs.Drives.{Nowhere, Place, at_none, place_of}
 

@@ -1,11 +1,11 @@
 -- What a read and a write of a disk of several drives answer, by the file of the sector's drive; and that a write leaves
 -- the other files.
-use Rattle.std.proofs.Common.{◌≡◌, ℕ, zero, suc, ◌<◌, ◌≤◌, Bool, All, List, [], ◌∷◌, length, Option, Some, None, refl, sym, ap, ◌∙◌, subst, arith}
+use Rattle.std.proofs.Common.{◌≡◌, ℕ, zero, suc, ◌<◌, ◌≤◌, All, List, [], ◌∷◌, length, Option, Some, None, refl, sym, ap, ◌∙◌, subst, arith}
 use Rattle.std.specs.Prelude.{if◌then◌else◌, is_some, IsSome, slice_get, slice_set, slice_index_or}
 use Rattle.std.proofs.lemmas.Option.{same_Some, slice_get-get_or, slice_get_within}
 use Rattle.disk_dcdd.specs.declared.address.SectorAddress.{SectorAddress}
 use Rattle.i8080_words.specs.declared.refusal.Fault.TheVariants.{DeviceFault, Unknown}
-use Rattle.shared_disk.specs.Records.{IsThere, record_at, refusal_at}
+use Rattle.shared_disk.specs.Records.{IsThere, refusal_at}
 use Rattle.shared_disk.specs.declared.store.Record.{Record}
 use Rattle.sector_file.specs.Device.{LeavesOnly}
 use Rattle.sector_file.specs.Drives.{IsDrive, IsOnDisk, OnlyDrive, WritesDrive, all_records, in_drive}

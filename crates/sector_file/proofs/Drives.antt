@@ -1,6 +1,6 @@
 -- The records of a drive stand among those of all drives from 2,464 times its number on: so a sector is found, and put,
 -- in the file of its drive.
-use Rattle.std.proofs.Common.{◌≡◌, ◌⊎◌, inl, inr, ⊎_elim, ℕ, zero, suc, ◌+◌, ◌*◌, ◌<◌, ◌≤◌, Bool, true, false, ◌&&◌, All, List, [], ◌∷◌, ◌++◌, length, Option, Some, None, refl, sym, ap, ◌∙◌, subst, arith}
+use Rattle.std.proofs.Common.{◌≡◌, ◌⊎◌, inl, inr, ⊎_elim, ℕ, zero, suc, ◌+◌, ◌*◌, ◌<◌, Bool, true, false, ◌&&◌, All, List, [], ◌∷◌, ◌++◌, length, Option, Some, None, refl, sym, ap, ◌∙◌, subst, arith}
 use Rattle.std.specs.Prelude.{nat_lt, if◌then◌else◌, slice_get, slice_set}
 use Rattle.std.specs.Option.{option_and_then, option_map_or}
 use Rattle.std.proofs.lemmas.Bool.{ltb-true}
@@ -10,7 +10,7 @@ use Rattle.disk_dcdd.specs.Address.{index_of}
 use Rattle.disk_dcdd.specs.declared.address.SectorAddress.{SectorAddress}
 use Rattle.disk_dcdd.specs.declared.drive.TheConstants.{TRACKS}
 use Rattle.disk_dcdd.specs.declared.sector.TheConstants.{SECTORS}
-use Rattle.shared_disk.specs.Records.{HasWholeSectors, IsAt, record_at, with_record}
+use Rattle.shared_disk.specs.Records.{HasWholeSectors, record_at, with_record}
 use Rattle.shared_disk.specs.declared.store.Record.{Record}
 use Rattle.sector_file.specs.Drives.{IsDrive, all_records, in_drive}
 use Rattle.sector_file.specs.declared.kept.Kept.{Kept}

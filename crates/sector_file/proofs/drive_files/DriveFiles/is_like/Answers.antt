@@ -1,5 +1,5 @@
 -- Each drive agrees with the other disk once the loop has passed them all.
-use Rattle.std.proofs.Common.{rules, arith, ◌≡◌, ◌<◌, ◌≤◌, ℕ, All, List, length, subst, sym, ap, ◌∙◌}
+use Rattle.std.proofs.Common.{rules, arith, ◌≡◌, List, length, subst, sym}
 use Rattle.sector_file.specs.Drives.{AgreeOnDrive, IsBooted, all_records}
 use Rattle.sector_file.specs.declared.kept.Kept.{Kept}
 use Rattle.sector_file.proofs.Alike.{are_alike}

@@ -1,10 +1,9 @@
-use Rattle.std.proofs.Common.{rules, arith, ◌≡◌, ◌<◌, ◌≤◌, length, List, Some, sym, ◌∙◌, ap, subst}
+use Rattle.std.proofs.Common.{rules, arith, ◌≡◌, ◌<◌, ◌≤◌, length, List, Some, sym, ◌∙◌, ap}
 use Rattle.std.specs.Prelude.{slice_get}
 use Rattle.std.proofs.lemmas.Option.{slice_get_past}
 use Rattle.std.proofs.lemmas.Result.{IfOk-weaker, IfErr-weaker}
-use Rattle.disk_dcdd.specs.declared.address.SectorAddress.{SectorAddress}
 use Rattle.shared_disk.specs.Records.{record_at, refusal_at}
-use Rattle.sector_file.specs.Drives.{all_records, in_drive}
+use Rattle.sector_file.specs.Drives.{all_records}
 use Rattle.sector_file.specs.declared.kept.Kept.{Kept}
 use Rattle.sector_file.proofs.Drives.{at_drive}
 use Rattle.sector_file.proofs.DriveWrites.{found, refused_none, refused_at}

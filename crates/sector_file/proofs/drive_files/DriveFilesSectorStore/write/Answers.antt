@@ -1,4 +1,4 @@
-use Rattle.std.proofs.Common.{rules, arith, ◌≡◌, ◌<◌, ◌≤◌, ℕ, length, List, Some, sym, ◌∙◌, ap, subst}
+use Rattle.std.proofs.Common.{rules, arith, ◌≡◌, ◌<◌, ◌≤◌, length, List, Some, ◌∙◌, ap, subst}
 use Rattle.std.specs.Prelude.{slice_get, slice_set}
 use Rattle.std.proofs.lemmas.List.Elements.{All-set}
 use Rattle.std.proofs.lemmas.Option.{slice_get_past}
@@ -6,7 +6,7 @@ use Rattle.std.proofs.lemmas.Result.{IfErr-weaker, on_ok_weaker, on_err_weaker}
 use Rattle.disk_dcdd.specs.declared.address.SectorAddress.{SectorAddress}
 use Rattle.shared_disk.specs.Records.{IsThere, refusal_at, with_record}
 use Rattle.sector_file.specs.Device.{LeavesOnly}
-use Rattle.sector_file.specs.Drives.{IsDrive, OnlyDrive, WritesDrive, all_records, in_drive}
+use Rattle.sector_file.specs.Drives.{IsDrive, OnlyDrive, WritesDrive, all_records}
 use Rattle.sector_file.specs.Kept.{StandsFor, bytes_of, pending_in}
 use Rattle.sector_file.specs.declared.kept.Kept.{Kept}
 use Rattle.sector_file.proofs.Drives.{drive_at, same_drive, with_drive}
