@@ -1,10 +1,12 @@
 //! A console whose hosts are processes, from the files that come first to the disks that are saved.
-ghost use Rattle.std.specs.Prelude.{◌≡◌, ◌⊎◌, IfErr, IfOk, OnOk};
+ghost use Rattle.std.specs.Prelude.{◌≡◌, ◌⊎◌, ◌++◌, IfErr, IfOk, OnOk, string_bytes};
 ghost use Rattle.std.specs.Io.KnownBytes.{Appends};
 ghost use Rattle.command_io.specs.declared.failure.Failure.TheVariants.{InputOrOutput, OutOfMemory};
+ghost use Rattle.command_io.specs.Saving.{images_of};
 ghost use Rattle.console_terminal.specs.Greeting.{greeting_of};
 ghost use Rattle.command_console.specs.Console.{HasRun, HasServed, OpensFor};
 ghost use Rattle.command_console.specs.Sitting.{AreOpen};
+ghost use Rattle.sector_file.specs.Drives.{all_records};
 
 use crate::files::{Files, attach, end_files};
 use crate::mirror::Mirrored;
@@ -23,6 +25,7 @@ use i8080_words::R;
 use rtrb::RingBuffer;
 use script_language::Script;
 use sector_file::DriveFiles;
+use shared_disk::SharedDisk;
 use std::alloc::{AllocError, Global};
 use std::io::{IsTerminal, Read, Write};
 use std::sync::{Arc, Wait};
@@ -75,7 +78,7 @@ pub fn run_console<
         &order.images,
         &mut opening.as_slice(),
     )?;
-    let (input, attached) = attach(alloc, &files, order, input)?;
+    let (booted, attached) = attach(alloc, &files, order, input)?;
     write_greeting(alloc, order.escape, &mut notes)?;
     let streams = Streams {
         reader,
@@ -87,7 +90,7 @@ pub fn run_console<
         files,
         alloc,
         order,
-        (input, Arc::new(alloc, opening)?),
+        (booted, Arc::new(alloc, opening)?),
         attached,
         streams,
     )
@@ -153,16 +156,29 @@ fn run_input<
         mut writer,
         mut notes,
     } = left;
-    let saved = save_disks(
+    let saved = save_ordered(alloc, order, disk, &mut writer);
+    end_files(alloc, &files, order, paddings, &mut notes)?;
+    saved?;
+    Ok(end)
+}
+
+// Writes the disks that an order wants saved, and lets the disk go.
+fn save_ordered<W: Write + Drop>(
+    alloc: Global,
+    order: &ConsoleOrder,
+    disk: SharedDisk<Mirrored>,
+    writer: &mut W,
+) -> Result<(), Failure>
+    ensures { OnOk result (Appends (W.contents writer.old) (W.contents writer.new)
+        (string_bytes order.now.mark ++ images_of (all_records disk.store) order.now.saved.items)) }
+{
+    save_disks(
         alloc,
         disk,
         &order.saved,
         order.mark.as_bytes(),
-        &mut writer,
-    );
-    end_files(alloc, &files, order, paddings, &mut notes)?;
-    saved?;
-    Ok(end)
+        writer,
+    )
 }
 
 /// What a console begins with.
