@@ -53,8 +53,7 @@ from story import Story
 # The options that say how many hosts there are, and how they are run.
 OF_HOSTS = {"--hosts", "--host", "--later", "--patience", "--remote", "--remote-program"}
 MONITOR = os.path.join(os.path.dirname(os.path.dirname(os.path.realpath(__file__))), "examples/guests/monitor.hex")
-# Where lines about the pair may appear; and how one of them begins that a program hands over, and how a wish for a picture.
-WHERE = {"row", "here"}
+# How a line about the pair begins that a program hands over, and how a wish for a picture.
 LINE, WISH = b"pair: ", b"picture "
 # These words ask for the program's own help.
 HELP = {"-h", "--help"}
@@ -79,10 +78,10 @@ def escape_in(word):
     return key_in("--escape", word)
 
 
-def where_in(word):
-    """Where lines about the pair appear."""
-    if word not in WHERE:
-        complain(f"--lines {word}: expected `row` or `here`")
+def word_in(option, word, words):
+    """The word that an option was given, if it is one of two."""
+    if word not in words:
+        complain(f"{option} {word}: expected `{words[0]}` or `{words[1]}`")
     return word
 
 
@@ -91,7 +90,7 @@ class Asked:
     there are."""
 
     def __init__(self, words):
-        self.own, self.images, self.saves = [], {}, {}
+        self.own, self.images, self.saves, self.attached = [], {}, {}, {}
         self.setup, self.memory, self.keys, self.lines = b"", None, [], None
         # How many hosts begin, how many may later, by which command those elsewhere are run, what each is given, and where the pipes are.
         self.hosts, self.later, self.remote, self.of_hosts, self.folder = None, None, {}, [], None
@@ -103,6 +102,8 @@ class Asked:
             self.take(option, value)
         if self.memory is None:
             self.memory = hex_lines(MONITOR)
+        for drive in self.attached.keys() & self.images.keys():
+            complain(f"--attach {drive}={self.attached[drive]}: drive {drive} has --disk too, so give one of them")
         self.count_hosts()
 
     def take(self, option, value):
@@ -115,12 +116,23 @@ class Asked:
         elif option == "--save-disk":
             drive, path = numbered(option, value, 3)
             self.saves[drive] = place_in(path)
+        elif option == "--attach":
+            self.attach(*numbered(option, value, 3))
+        elif option == "--sync":
+            self.own += ["--unsynced"] * (word_in(option, value, ("on", "off")) == "off")
         elif option == "--lines":
-            self.lines = where_in(value)
+            self.lines = word_in(option, value, ("row", "here"))
         elif option in OF_HOSTS:
             self.take_hosts(option, value)
         else:
             self.take_guest(option, value)
+
+    def attach(self, drive, path):
+        """A file is the disk of a drive. The program opens it, and refuses it if it has to."""
+        if drive in self.attached or not path:
+            complain(f"--attach {drive}={path}: " + ("expected the name of a file" if not path else f"drive {drive} has {self.attached[drive]}"))
+        self.attached[drive] = path
+        self.own += [f"--attach{drive}={path}"]
 
     def take_hosts(self, option, value):
         """How many hosts there are, and how they are run."""
@@ -292,8 +304,10 @@ class Run:
         """The outside, as long as it runs, and all hosts."""
         try:
             with self.program_at(path, asked, mark) as outside:
-                self.say(f"the outside is process {outside.pid}")
-                self.hosts.begin()
+                begin(threading.Thread(target=self.keys.pass_on))
+                if not asked.attached or self.has_opened(outside):
+                    self.say(f"the outside is process {outside.pid}")
+                    self.hosts.begin()
                 yield outside
         finally:
             self.hosts.end()
@@ -313,6 +327,16 @@ class Run:
             self.program.kill()
 
     @staticmethod
+    def has_opened(outside):
+        """Whether the outside has opened the files that are disks: it greets then, and otherwise says why and ends."""
+        select.select([outside.stderr or outside.stdout], [], [])
+        ended = os.pidfd_open(outside.pid)
+        try:
+            return not select.select([ended], [], [], LONGEST_WAIT)[0]
+        finally:
+            os.close(ended)
+
+    @staticmethod
     def prepare():
         """In the outside's process, before it begins: it hears no signal of this command's terminal, and is killed if this command is."""
         for it in OF_TERMINALS:
@@ -325,8 +349,7 @@ class Run:
             Output(2).write(self.told(line.encode()))
 
     def pass_on(self, mark):
-        """Passes on keys, and what the program writes, until it ends."""
-        begin(threading.Thread(target=self.keys.pass_on))
+        """Passes on what the program writes, until it ends."""
         ends = [(self.program.stdout, self.row or Output(1)), (self.program.stderr, Output(2))]
         self.screens = [Screen(self.program, pipe, output, mark, self.heard) for pipe, output in ends if pipe]
         showing = [begin(threading.Thread(target=screen.pass_on)) for screen in self.screens]

@@ -13,7 +13,7 @@ import sys
 from option_tables import INNER, PAGE, Option, commands, help_of, rows
 
 # Options whose value is a file, or ends with one after `=`; and words of options whose help does not list them.
-FILES = {"--load", "--setup", "--disk", "--save-disk"}
+FILES = {"--load", "--setup", "--disk", "--attach", "--save-disk"}
 WORDS = {"--lines": "row here", "--host": "here"}
 # What a list of possible values looks like, and not a default alone.
 LISTED = re.compile(r"[a-z]+(?:, [a-z]+)+")

@@ -18,7 +18,7 @@ TOP = pathlib.Path(__file__).resolve().parent.parent
 PAGE = TOP / "docs/COMMANDS.md"
 
 # What ./pair itself tells the program; nobody else has to.
-INNER = {"--images", "--saved", "--before", "--mark", "--apart", "--folder", "--places"}
+INNER = {"--images", "--saved", "--before", "--mark", "--apart", "--folder", "--places", "--attach0", "--attach1", "--attach2", "--attach3", "--unsynced", "--recover"}
 
 # The most words of a cell.
 MOST_WORDS = 24

@@ -5,6 +5,8 @@ usage: tools/options.py [COMMAND]     prints those of a command; without one, al
 
   --load FILE           for all commands but `host`: a program in Intel HEX, in memory at boot, as lines `mem` before the input
   --disk D=FILE         for all commands but `lint` and `host`: the image of a disk in drive D, before the input
+  --attach D=FILE       for `console`: the file is the disk of drive D: each write that is done is in it; a missing one is made
+  --sync WHEN           for `console`: a write to such a file is done once the disk has it (`on`), or the file system (`off`)
   --save-disk D=FILE    for `live`, `shell` and `console`: at the end the disk of drive D is written to a file
   --type P=TEXT         for `live` and `console`: keys typed at port P, after those of the script; \\r is Enter, and \\xHH any byte
   --setup FILE          for `console`: lines of a setup, as a script has them, before those of --load
@@ -29,6 +31,8 @@ import sys
 OPTIONS = {
     "--load": ("script", "check", "picture", "lint", "live", "shell", "console"),
     "--disk": ("script", "check", "picture", "live", "shell", "console"),
+    "--attach": ("console",),
+    "--sync": ("console",),
     "--save-disk": ("live", "shell", "console"),
     "--type": ("live", "console"),
     "--setup": ("console",),

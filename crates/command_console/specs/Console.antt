@@ -11,6 +11,7 @@ use Rattle.command_io.specs.Inputs.{IsInput}
 use Rattle.command_io.specs.declared.input.Input.{Input}
 use Rattle.command_line.specs.declared.console_order.ConsoleOrder.{ConsoleOrder}
 use Rattle.command_io.specs.Saving.{images_of}
+use Rattle.command_console.specs.Attached.{HasAttached}
 use Rattle.command_console.specs.Sitting.{HasAppeared, WasHeard, passed_to}
 use Rattle.command_console.specs.declared.console.Streams.{Streams}
 use Rattle.command_console.specs.declared.teller.Teller.{Teller}
@@ -47,7 +48,8 @@ pub record HasRun {R W N : Type 0} (remaining : R → Option (List ℕ)) (conten
       (bytes_of pieces ++ (string_bytes order.mark ++ images_of last.switch.devices.records order.saved.items))
   pub noted : Appends (notes streams.notes) (notes beside) (texts_of pieces)
 
--- Images and a script came first, as many bytes as are ordered. What was left after them are keys.
+-- Images and a script came first, as many bytes as are ordered. What was left after them are keys. The drives that have files begin with
+-- what is on these.
 pub record HasServed {R W N : Type 0} (remaining : R → Option (List ℕ)) (contents : W → Option (List ℕ))
     (notes : N → Option (List ℕ)) (order : ConsoleOrder) (streams : Streams R W N) (end : HostsEnd) : Type 0 where
   pub opening : List ℕ
@@ -58,4 +60,6 @@ pub record HasServed {R W N : Type 0} (remaining : R → Option (List ℕ)) (con
   pub greeted : Appends (notes streams.notes) (notes after.notes) (greeting_of order.escape)
   pub input : Input
   pub says : IsInput live_script_of order.images.items (Some opening) input
-  pub run : HasRun remaining contents notes order input after end
+  pub attached : Input
+  pub files : HasAttached order.attached.items input attached
+  pub run : HasRun remaining contents notes order attached after end

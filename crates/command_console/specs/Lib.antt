@@ -1,3 +1,4 @@
+pub mod Attached
 pub mod Mirrors
 pub mod Frames
 pub mod Keys

@@ -33,3 +33,5 @@ line_text (Line.Flooded host) = codes "host " ++ (decimal host ++ codes " is cut
 line_text (Line.Begins generation primary backup) = begins_text generation primary backup
 line_text (Line.Alone host) = codes "no spare host is left; host "
     ++ (decimal host ++ codes " goes on without a backup until `spare` brings one")
+line_text (Line.Unwritten host) = codes "a write of host "
+    ++ (decimal host ++ codes " is not on its disk, whose file has failed; it is tried again")

@@ -1,7 +1,7 @@
 -- Which hosts have the machine, by what becomes of them, and the lines that tell of it.
 use Rattle.std.specs.Prelude.{ℕ, ◌==◌, Bool, true, false, not, if◌then◌else◌, Option, Some, None}
 use Rattle.command_hosts.specs.declared.steward.HostEvent.{HostEvent}
-use Rattle.command_hosts.specs.declared.steward.HostEvent.TheVariants.{Alone, Became, Failed, Flooded, Gone, Joins, Won}
+use Rattle.command_hosts.specs.declared.steward.HostEvent.TheVariants.{Alone, Became, Failed, Flooded, Gone, Joins, Unwritten, Won}
 use Rattle.command_console.specs.declared.line.Line.{Line}
 use Rattle.command_console.specs.declared.story.Story.{Story}
 use Rattle.pair_events.specs.declared.reply.Role.TheVariants.{Backup, Primary}
@@ -23,6 +23,7 @@ story_after place (Won generation) s =
 story_after place (Joins generation) s = record s { joining = Some place; is_alone = false }
 story_after place Alone s = record s { is_alone = true }
 story_after place Gone s = if is_at place s.joining then record s { joining = None } else s
+story_after place Unwritten s = record s { is_unwritten = true }
 story_after place event s = s
 
 abbrev begins_with : ℕ → Option ℕ → Option ℕ → Option Line
@@ -43,6 +44,7 @@ line_of place Failed s = Some (Line.CutOff place)
 line_of place Flooded s = Some (Line.Flooded place)
 line_of place Gone s = if is_at place s.joining then Some (Line.Lost place) else None
 line_of place Alone s = if s.is_alone then None else Some (Line.Alone place)
+line_of place Unwritten s = if s.is_unwritten then None else Some (Line.Unwritten place)
 line_of place event s = None
 
 abbrev pub asks : Option ℕ → ℕ → Option Line

@@ -1,11 +1,14 @@
 //! A console whose hosts are processes, from the files that come first to the disks that are saved.
-ghost use Rattle.std.specs.Prelude.{◌≡◌, ◌⊎◌, IfErr, IfOk, OnOk};
+ghost use Rattle.std.specs.Prelude.{◌≡◌, ◌⊎◌, ◌++◌, IfErr, IfOk, OnOk, string_bytes};
 ghost use Rattle.std.specs.Io.KnownBytes.{Appends};
 ghost use Rattle.command_io.specs.declared.failure.Failure.TheVariants.{InputOrOutput, OutOfMemory};
+ghost use Rattle.command_io.specs.Saving.{images_of};
 ghost use Rattle.console_terminal.specs.Greeting.{greeting_of};
 ghost use Rattle.command_console.specs.Console.{HasRun, HasServed, OpensFor};
 ghost use Rattle.command_console.specs.Sitting.{AreOpen};
+ghost use Rattle.sector_file.specs.Drives.{all_records};
 
+use crate::files::{Files, attach, end_files};
 use crate::mirror::Mirrored;
 use crate::seats::Seats;
 use crate::session::{Desktop, Ends, Left, sit};
@@ -17,9 +20,12 @@ use command_hosts::{HostsEnd, PortEnd, Session};
 use command_io::{Failure, Input, Language, read_input, save_disks};
 use command_line::ConsoleOrder;
 use console_terminal::{Keyboard, Screen, Signs, greeting};
+use disk_file::FileDevice;
 use i8080_words::R;
 use rtrb::RingBuffer;
 use script_language::Script;
+use sector_file::DriveFiles;
+use shared_disk::SharedDisk;
 use std::alloc::{AllocError, Global};
 use std::io::{IsTerminal, Read, Write};
 use std::sync::{Arc, Wait};
@@ -43,7 +49,7 @@ pub struct Streams<R, W, N> {
     pub notes: N,
 }
 
-/// Opens an outside as the images and the script say that come first, and lets one sit at its pair: further bytes are keys or commands,
+/// Opens the files that are disks, and an outside as the images and the script say that come first, and lets one sit at its pair: further bytes are keys or commands,
 /// and what its terminals accept is written as it is accepted. Its hosts are at the ends of named pipes. It ends at the command `quit`, once
 /// no more keys can come and the pair does nothing more, or if no host is left; then the disks that are saved are written, as they are then.
 pub fn run_console<
@@ -72,6 +78,7 @@ pub fn run_console<
         &order.images,
         &mut opening.as_slice(),
     )?;
+    let (booted, attached) = attach(alloc, &files, order, input)?;
     write_greeting(alloc, order.escape, &mut notes)?;
     let streams = Streams {
         reader,
@@ -83,7 +90,8 @@ pub fn run_console<
         files,
         alloc,
         order,
-        (input, Arc::new(alloc, opening)?),
+        (booted, Arc::new(alloc, opening)?),
+        attached,
         streams,
     )
 }
@@ -98,7 +106,8 @@ fn write_greeting<N: Write>(alloc: Global, escape: u8, notes: &mut N) -> Result<
     Ok(())
 }
 
-// Lets one sit at the pair of an input, which its hosts are given as it came, and writes the disks that are saved.
+// Lets one sit at the pair of an input, which its hosts are given as it came, ends the files that are disks, and writes the disks that
+// are saved.
 fn run_input<
     H: Threads + Wait + Clock + Copy + Drop + Send + Sync + 'static,
     R: Read + IsTerminal + Drop + Send + 'static,
@@ -110,12 +119,14 @@ fn run_input<
     alloc: Global,
     order: &ConsoleOrder,
     opening: (Input, Arc<Vec<u8>>),
+    attached: Files,
     streams: Streams<R, W, N>,
 ) -> Result<HostsEnd, Failure>
     ensures { IfOk result (λ end. HasRun R.remaining W.contents N.contents order.now opening.0 streams end) }
 {
     let (input, bytes) = opening;
-    let prepared = prepare(alloc, order, &input)?;
+    let Files { drives, paddings } = attached;
+    let prepared = prepare(alloc, order, &input, drives)?;
     let Prepared {
         mut session,
         ends,
@@ -143,16 +154,31 @@ fn run_input<
         end,
         disk,
         mut writer,
-        notes: _notes,
+        mut notes,
     } = left;
+    let saved = save_ordered(alloc, order, disk, &mut writer);
+    end_files(alloc, &files, order, paddings, &mut notes)?;
+    saved?;
+    Ok(end)
+}
+
+// Writes the disks that an order wants saved, and lets the disk go.
+fn save_ordered<W: Write + Drop>(
+    alloc: Global,
+    order: &ConsoleOrder,
+    disk: SharedDisk<Mirrored>,
+    writer: &mut W,
+) -> Result<(), Failure>
+    ensures { OnOk result (Appends (W.contents writer.old) (W.contents writer.new)
+        (string_bytes order.now.mark ++ images_of (all_records disk.store) order.now.saved.items)) }
+{
     save_disks(
         alloc,
         disk,
         &order.saved,
         order.mark.as_bytes(),
-        &mut writer,
-    )?;
-    Ok(end)
+        writer,
+    )
 }
 
 /// What a console begins with.
@@ -165,11 +191,16 @@ struct Prepared {
 }
 
 // The outside of an input, with no place for a host yet.
-fn prepare(alloc: Global, order: &ConsoleOrder, input: &Input) -> R<Prepared>
+fn prepare(
+    alloc: Global,
+    order: &ConsoleOrder,
+    input: &Input,
+    drives: DriveFiles<FileDevice>,
+) -> R<Prepared>
     ensures opens { IfOk result (λ p. OpensFor input.now p.session) }
     ensures open { IfOk result (λ p. AreOpen p.session p.ends) }
 {
-    let (store, shelf) = mirrored_store(alloc, input)?;
+    let (store, shelf) = mirrored_store(alloc, input, drives)?;
     let seats = Arc::new(alloc, Seats::new(alloc))?;
     let signs = Arc::new(alloc, Signs::new())?;
     let (first, keys0) = RingBuffer::new(alloc, BYTES)?;

@@ -2,6 +2,7 @@
 #![tactic(auto)]
 
 mod console;
+mod files;
 mod frame;
 mod hearing;
 mod line;

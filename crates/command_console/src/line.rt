@@ -43,6 +43,10 @@ pub(crate) enum Line {
     Alone {
         host: u32,
     },
+    /// The disk has refused a write of this host.
+    Unwritten {
+        host: u32,
+    },
 }
 
 impl fmt::Display for Line {
@@ -77,6 +81,12 @@ impl fmt::Display for Line {
                 "no spare host is left; host ",
                 host,
                 " goes on without a backup until `spare` brings one",
+            ),
+            Line::Unwritten { host } => write_host(
+                f,
+                "a write of host ",
+                host,
+                " is not on its disk, whose file has failed; it is tried again",
             ),
         }
     }

@@ -1,15 +1,18 @@
 //! The pair's disk, and a copy of it that another thread saves.
-ghost use Rattle.std.specs.Prelude.{◌≡◌, ◌∷◌, [], ◌++◌, ◌<◌, Some, IfErr, IfOk, IsTrue, OnErr, OnOk, false};
+ghost use Rattle.std.specs.Prelude.{◌≡◌, ◌∷◌, [], ◌++◌, ◌<◌, None, IfErr, IfOk, IsTrue, OnErr, OnOk, false};
 ghost use Rattle.command_console.specs.Mirrors.{Follows, IsMirrored, IsOfCopy, IsOfMoment, write_of};
 ghost use Rattle.rtrb.specs.Ring.{SameProducer, known_free, known_items, sent};
+ghost use Rattle.sector_file.specs.Drives.{IsOnDisk, all_records};
 ghost use Rattle.shared_disk.specs.Arrivals.{after_put};
 ghost use Rattle.shared_disk.specs.Failing.{before_failures};
 ghost use Rattle.shared_disk.specs.Records as table;
 
 use command_io::images_of;
 use disk_dcdd::{SectorAddress, SectorWrite};
+use disk_file::FileDevice;
 use i8080_words::{Fault, R};
 use rtrb::{Consumer, Producer};
+use sector_file::DriveFiles;
 use shared_disk::{MemoryStore, Record, SectorStore, SharedDisk};
 use std::alloc::Global;
 use std::sync::atomic::{AtomicBool, Ordering};
@@ -116,10 +119,10 @@ impl Shelf {
     }
 }
 
-/// Records in memory. Each that is written goes through a ring too.
+/// The records of drives, some of them in files. Each that is written goes through a ring too.
 #[derive(Drop)]
 pub struct Mirrored {
-    store: MemoryStore,
+    store: DriveFiles<FileDevice>,
     writes: Producer<SectorWrite>,
     shelf: Arc<Shelf>,
     // Whether there was no room for a write, however long it waited.
@@ -129,7 +132,7 @@ pub struct Mirrored {
 impl Mirrored {
     /// These records, whose copy is at the other end of the ring.
     pub(crate) fn new(
-        store: MemoryStore,
+        store: DriveFiles<FileDevice>,
         writes: Producer<SectorWrite>,
         shelf: Arc<Shelf>,
     ) -> Mirrored
@@ -185,9 +188,9 @@ fn write_of(address: SectorAddress, content: Record) -> SectorWrite
 }
 
 impl SectorStore for Mirrored {
-    ghost records = { λ m. m.store };
+    ghost records = { λ m. all_records m.store };
 
-    ghost may_fail = { λ _. Some 0 };
+    ghost may_fail = { λ _. None };
 
     fn has_whole_sectors(&self) {
         self.store.has_whole_sectors()
@@ -198,11 +201,13 @@ impl SectorStore for Mirrored {
     }
 
     fn write(&mut self, address: SectorAddress, content: Record) -> R<()>
-        ensures there { OnOk result (table.IsThere self.old.store address) }
-        ensures ok { OnOk result (self.new.store ≡ table.with_record self.old.store address content) }
-        ensures refused { IfErr result (λ fault. fault ≡ table.refusal_at self.old.store address) }
-        ensures unchanged { OnErr result (self.new.store ≡ self.old.store) }
-        ensures counted { Some 0 ≡ before_failures (table.faults_in result) (Some 0) }
+        ensures there { OnOk result (table.IsThere (all_records self.old.store) address) }
+        ensures ok { OnOk result (all_records self.new.store ≡ table.with_record (all_records self.old.store) address content) }
+        ensures refused { IfErr result (λ fault. fault ≡ table.refusal_at (all_records self.old.store) address) }
+        ensures unchanged { OnErr result (all_records self.new.store ≡ all_records self.old.store) }
+        ensures counted { None ≡ before_failures (table.faults_in result) None }
+        // A drive that is in a file has it there.
+        ensures durable { OnOk result (IsOnDisk address self.new.store) }
         ensures mirrored { OnOk result (IsMirrored self.old self.new (write_of address content)) }
     {
         let has_room = self.has_room();

@@ -5,6 +5,7 @@ ghost use Rattle.command_console.specs.Rings.{ComesOutOf};
 ghost use Rattle.command_console.specs.Sitting.{AreOpen, HasSat};
 ghost use Rattle.console_terminal.specs.Lines.{came_by};
 ghost use Rattle.pair_protocol.specs.Faithful.{IsPrefix};
+ghost use Rattle.sector_file.specs.Drives.{all_records};
 ghost use Rattle.rtrb.specs.Ring.{IsPair, SameConsumer, SameProducer, known_free, received, sent};
 
 use crate::console::Streams;
@@ -88,7 +89,7 @@ pub(crate) fn sit<
 ) -> Result<Left<W, N>, Failure>
     requires { AreOpen session ends }
     ensures { IfOk result (λ left. HasSat R.remaining W.contents N.contents desktop.escape desktop.lines.items session streams
-        left.disk.store left.end left.writer left.notes) }
+        (all_records left.disk.store) left.end left.writer left.notes) }
 {
     let wake = Arc::try_clone(&desktop.wake)?;
     let signs = Arc::try_clone(&desktop.signs)?;

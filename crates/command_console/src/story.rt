@@ -16,6 +16,8 @@ pub(crate) struct Story {
     pub(crate) joining: Option<u8>,
     /// Whether it was told that no spare is left for the host that is alone.
     pub(crate) is_alone: bool,
+    /// Whether it was told that the disk refuses writes.
+    pub(crate) is_unwritten: bool,
 }
 
 impl Story {
@@ -27,6 +29,7 @@ impl Story {
             backup: None,
             joining: None,
             is_alone: false,
+            is_unwritten: false,
         }
     }
 
@@ -64,6 +67,10 @@ impl Story {
                 joining: None,
                 ..self
             },
+            HostEvent::Unwritten => Story {
+                is_unwritten: true,
+                ..self
+            },
             _ => self,
         }
     }
@@ -96,6 +103,7 @@ impl Story {
             HostEvent::Flooded => Some(Line::Flooded { host }),
             HostEvent::Gone if self.joining == Some(place) => Some(Line::Lost { host }),
             HostEvent::Alone if !self.is_alone => Some(Line::Alone { host }),
+            HostEvent::Unwritten if !self.is_unwritten => Some(Line::Unwritten { host }),
             _ => None,
         }
     }

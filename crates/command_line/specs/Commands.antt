@@ -59,9 +59,22 @@ sitting_options = by_default (codes ".") (text_option (codes "folder"))
     ∷ by_default (codes "0") (number_option (codes "before") 0 1099511627776)
     ∷ []
 
+-- the files of the drives of `console`, and whether their disks may be late
+abbrev pub attach_options : List Rule
+attach_options = text_option (codes "attach0")
+    ∷ text_option (codes "attach1")
+    ∷ text_option (codes "attach2")
+    ∷ text_option (codes "attach3")
+    ∷ flag_option (codes "unsynced")
+    ∷ []
+
+-- the options of `disk`
+abbrev pub disk_options : List Rule
+disk_options = text_option (codes "recover") ∷ []
+
 -- the options of `console`
 abbrev pub console_options : List Rule
-console_options = sitting_options
+console_options = sitting_options ++ attach_options
     ++ (text_option (codes "images") ∷ text_option (codes "saved") ∷ text_option (codes "mark") ∷ flag_option (codes "apart") ∷ [])
 
 -- a command with these options
@@ -84,6 +97,7 @@ pair_app = record {
       ∷ command (codes "live") live_options
       ∷ command (codes "console") console_options
       ∷ command (codes "host") host_options
+      ∷ command (codes "disk") disk_options
       ∷ [];
 }
 

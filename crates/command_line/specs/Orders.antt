@@ -80,8 +80,16 @@ pub record IsHostOrdered (rows : List Row) (images : List ℕ) (order : HostOrde
   pub before : IsGivenOr 64 0 (one_of (codes "before") rows) order.before
   pub images_are : order.images.items ≡ images
 
+-- the texts that the options for the files of drives were given, that of drive 0 first
+abbrev pub attached_in : List Row → List Text
+attached_in rows = text_given rows (codes "attach0")
+    ∷ text_given rows (codes "attach1")
+    ∷ text_given rows (codes "attach2")
+    ∷ text_given rows (codes "attach3")
+    ∷ []
+
 -- the same of `console`: its folder, how many places there are, the key that opens a command line, how much comes before the first key, the drives
--- whose disks are saved, and the mark before these
+-- whose disks are saved, the mark before these, and the files that are disks
 pub record IsConsoleOrdered (rows : List Row) (images : List ℕ) (order : ConsoleOrder) : Type 0 where
   pub folder : string_bytes order.folder ≡ text_given rows (codes "folder")
   pub places : IsGivenOr 64 3 (one_of (codes "places") rows) order.places
@@ -91,6 +99,8 @@ pub record IsConsoleOrdered (rows : List Row) (images : List ℕ) (order : Conso
   pub saved : order.saved.items ≡ drives_in rows (codes "saved")
   pub mark : string_bytes order.mark ≡ text_given rows (codes "mark")
   pub apart : IsFlag (one_of (codes "apart") rows) order.apart
+  pub attached : map (λ name. string_bytes name) order.attached.items ≡ attached_in rows
+  pub unsynced : IsFlag (one_of (codes "unsynced") rows) order.unsynced
 
 -- the word that names the command: the one after the program's name; [] if there is none
 abbrev pub command_word : List Text → Text
@@ -110,6 +120,7 @@ pub record IsOfScript (name : Text) : Type 0 where
   pub live : name ≢ codes "live"
   pub console : name ≢ codes "console"
   pub host : name ≢ codes "host"
+  pub disk : name ≢ codes "disk"
 
 -- the command of this name is asked for, with the options that clap has found after it
 abbrev pub Asks : Text → List Row → Request → Type 0
@@ -120,6 +131,7 @@ Asks name rows request.Lint = name ≡ codes "lint"
 Asks name rows (request.Live order) = (name ≡ codes "live") × IsOrdered rows (drives_in rows (codes "images")) order
 Asks name rows (request.Console order) = (name ≡ codes "console") × IsConsoleOrdered rows (drives_in rows (codes "images")) order
 Asks name rows (request.Host order) = (name ≡ codes "host") × IsHostOrdered rows (drives_in rows (codes "images")) order
+Asks name rows (request.Recover path) = (name ≡ codes "disk") × (string_bytes path ≡ text_given rows (codes "recover"))
 Asks name rows request.Shell = name ≡ codes "shell"
 Asks name rows (request.Help text) = ⊥
 

@@ -1,6 +1,6 @@
 //! The program's commands and their options, as clap takes them.
 ghost use Rattle.std.specs.Prelude.{◌≡◌, [], IfOk, codes};
-ghost use Rattle.command_line.specs.Commands.{Adds, AddsScriptCommands, IsCommand, IsOption, alone, by_default, command, console_options, flag_option, host_options, link_and_disks, live_options, number_option, pair_app, program_shape, script_options, sitting_options, text_option, turn_options};
+ghost use Rattle.command_line.specs.Commands.{Adds, AddsScriptCommands, IsCommand, IsOption, alone, attach_options, by_default, command, console_options, disk_options, flag_option, host_options, link_and_disks, live_options, number_option, pair_app, program_shape, script_options, sitting_options, text_option, turn_options};
 
 use clap::builder::ValueParser;
 use clap::{Arg, ArgAction, Command};
@@ -62,6 +62,15 @@ const MARK: &str =
 const APART: &str =
     "Hands each line about the pair over between marks, apart from what else is said; ./pair shows it";
 
+const ATTACH_HELP: &str =
+    "The file that is the disk of this drive, as an image of 337568 bytes; ./pair gives it for --attach";
+
+const UNSYNCED_HELP: &str =
+    "A write is done once the file system has it, and not only once the disk has; ./pair says so for --sync off";
+
+const RECOVER_HELP: &str =
+    "The image whose journal, which a crash has left, is taken up; ./pair gives it for `disk recover FILE`";
+
 const ROLE_HELP: &str =
     "What the host is when its pair boots; a spare is given a copy of the guest when a host has failed";
 
@@ -114,6 +123,11 @@ const CONSOLE: (&str, &str) = (
     "pair console [OPTIONS] (keys come from standard input, after what --before says)",
 );
 
+const DISK: (&str, &str) = (
+    "Takes up what a crash has left in a file that was attached to a drive",
+    "pair disk recover FILE",
+);
+
 const HOST: (&str, &str) = (
     "Runs one host of a pair: frames from standard input, frames to standard output",
     "pair host [OPTIONS] (frames come from standard input, after what --before says)",
@@ -136,7 +150,8 @@ pub(crate) fn pair_command<'a>(alloc: Global, lists: Lists) -> Result<Command<'a
     let pair = pair.subcommand(plain_command(alloc, "shell", SHELL))?;
     let pair = pair.subcommand(live_command(alloc, lists)?)?;
     let pair = pair.subcommand(console_command(alloc, lists)?)?;
-    pair.subcommand(host_command(alloc, lists)?)
+    let pair = pair.subcommand(host_command(alloc, lists)?)?;
+    pair.subcommand(disk_command(alloc)?)
 }
 
 // The program without its commands.
@@ -204,11 +219,19 @@ fn host_command<'a>(alloc: Global, lists: Lists) -> Result<Command<'a>, AllocErr
         .arg(images(alloc, lists))
 }
 
+// The command that takes up a disk.
+fn disk_command<'a>(alloc: Global) -> Result<Command<'a>, AllocError>
+    ensures { IfOk result (IsCommand (alone (command (codes "disk") disk_options))) }
+{
+    plain_command(alloc, "disk", DISK).arg(recover(alloc))
+}
+
 // The command that runs a pair that one sits at.
 fn console_command<'a>(alloc: Global, lists: Lists) -> Result<Command<'a>, AllocError>
     ensures { IfOk result (λ c. lists ≡ Lists.Whole → IsCommand (alone (command (codes "console") console_options)) c) }
 {
     let console = with_sitting(alloc, plain_command(alloc, "console", CONSOLE))?;
+    let console = with_attached(alloc, console)?;
     console
         .arg(images(alloc, lists))?
         .arg(saved(alloc, lists))?
@@ -225,6 +248,18 @@ fn with_sitting<'a>(alloc: Global, console: Command<'a>) -> Result<Command<'a>, 
         .arg(places(alloc))?
         .arg(escape(alloc))?
         .arg(before(alloc))
+}
+
+// The command with its options for the files of its drives.
+fn with_attached<'a>(alloc: Global, console: Command<'a>) -> Result<Command<'a>, AllocError>
+    ensures { IfOk result (Adds attach_options console.entry) }
+{
+    console
+        .arg(attach(alloc, "attach0"))?
+        .arg(attach(alloc, "attach1"))?
+        .arg(attach(alloc, "attach2"))?
+        .arg(attach(alloc, "attach3"))?
+        .arg(unsynced(alloc))
 }
 
 // The command with its options that say for how many turns, and when somebody asks.
@@ -319,6 +354,24 @@ fn apart<'a>(alloc: Global) -> Arg<'a>
     ensures { IsOption (flag_option (codes "apart")) result }
 {
     flag(alloc, "apart").help(APART)
+}
+
+fn attach<'a>(alloc: Global, name: &'a str) -> Arg<'a>
+    ensures { IsOption (text_option name.now) result }
+{
+    text(alloc, name, "FILE").help(ATTACH_HELP)
+}
+
+fn unsynced<'a>(alloc: Global) -> Arg<'a>
+    ensures { IsOption (flag_option (codes "unsynced")) result }
+{
+    flag(alloc, "unsynced").help(UNSYNCED_HELP)
+}
+
+fn recover<'a>(alloc: Global) -> Arg<'a>
+    ensures { IsOption (text_option (codes "recover")) result }
+{
+    text(alloc, "recover", "FILE").help(RECOVER_HELP)
 }
 
 fn link<'a>(alloc: Global, lists: Lists) -> Arg<'a>

@@ -19,4 +19,8 @@ pub struct ConsoleOrder {
     pub mark: String,
     /// Whether lines about the hosts are handed over between marks.
     pub apart: bool,
+    /// The names of the files that are the disks of drives, that of drive 0 first; an empty one if the drive has no file.
+    pub attached: Vec<String>,
+    /// Whether a write of such a disk is done once the file system has it, and not only once the disk has.
+    pub unsynced: bool,
 }

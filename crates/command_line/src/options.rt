@@ -1,10 +1,10 @@
 //! The command line.
-ghost use Rattle.std.specs.Prelude.{◌≡◌, ◌≢◌, [], IfErr, IfOk, Some, codes, map, string_bytes, true, false};
+ghost use Rattle.std.specs.Prelude.{◌≡◌, ◌≢◌, [], ◌∷◌, ◌++◌, IfErr, IfOk, Some, codes, map, string_bytes, true, false};
 ghost use Rattle.clap.specs.Words.{HasKind, fault_of, found_of, kind_of, one_of, rows_of, subcommand_of, subcommand_rows_of};
 ghost use Rattle.command_io.specs.Statuses.{is_of_command_line};
 ghost use Rattle.command_line.specs.Commands.{pair_app};
 ghost use Rattle.command_line.specs.Lists.{pieces_in};
-ghost use Rattle.command_line.specs.Orders.{Asks, AsksHelp, HasFound, IsAsked, IsConsoleOrdered, IsFlag, IsGiven, IsHostOrdered, IsOrdered, IsRefused, command_word, drive_of, drives_in, fate_of, role_of, text_given};
+ghost use Rattle.command_line.specs.Orders.{Asks, AsksHelp, HasFound, IsAsked, IsConsoleOrdered, IsFlag, IsGiven, IsHostOrdered, IsOrdered, IsRefused, attached_in, command_word, drive_of, drives_in, fate_of, role_of, text_given};
 
 use crate::commands::{Lists, pair_command};
 use crate::console_order::ConsoleOrder;
@@ -34,6 +34,8 @@ pub enum Request {
     Console(ConsoleOrder),
     /// To run one host of a pair, over standard input and standard output.
     Host(HostOrder),
+    /// To take up what a crash has left in this file, which was attached to a drive.
+    Recover(String),
     /// To answer lines as they come.
     Shell,
     /// To print this text, which says what there is to ask for; it ends with a line end.
@@ -159,6 +161,7 @@ fn request_named(
         "live" => Ok(Request::Live(live_order(alloc, found, images)?)),
         "console" => Ok(Request::Console(console_order(alloc, found, images)?)),
         "host" => Ok(Request::Host(host_order(found, images))),
+        "disk" => Ok(Request::Recover(text(alloc, found, "recover")?)),
         _ => Ok(Request::Script(images)),
     }
 }
@@ -251,6 +254,8 @@ fn console_order(
     let saved = saved_in(alloc, matches)?;
     let mark = text(alloc, matches, "mark")?;
     let apart = flag(matches, "apart");
+    let attached = attached_in(alloc, matches)?;
+    let unsynced = flag(matches, "unsynced");
     Ok(ConsoleOrder {
         folder,
         places,
@@ -260,7 +265,35 @@ fn console_order(
         saved,
         mark,
         apart,
+        attached,
+        unsynced,
     })
+}
+
+// The names of the files of drives, that of drive 0 first.
+fn attached_in(alloc: Global, matches: &ArgMatches<'_>) -> Result<Vec<String>, AllocError>
+    ensures { IfOk result (λ names. map (λ name. string_bytes name) names.items ≡ attached_in (rows_of (found_of matches.now))) }
+{
+    let mut names = Vec::new(alloc);
+    add_name(alloc, matches, "attach0", &mut names)?;
+    add_name(alloc, matches, "attach1", &mut names)?;
+    add_name(alloc, matches, "attach2", &mut names)?;
+    add_name(alloc, matches, "attach3", &mut names)?;
+    Ok(names)
+}
+
+// Adds the text that an option was given; an empty one if it was not.
+fn add_name(
+    alloc: Global,
+    matches: &ArgMatches<'_>,
+    option: &str,
+    names: &mut Vec<String>,
+) -> Result<(), AllocError>
+    ensures { IfOk result (λ _. map (λ name. string_bytes name) names.new.items
+        ≡ map (λ name. string_bytes name) names.old.items ++ text_given (rows_of (found_of matches.now)) option.now ∷ []) }
+{
+    names.push(text(alloc, matches, option)?)?;
+    Ok(())
 }
 
 // The number that an option was given, if it was.

@@ -230,3 +230,9 @@ module _ {R W : Type 0} (remaining : R → Option (List ℕ)) (contents : W → 
       → IsObeyed remaining contents reader reader writer writer asked (Ok tt)
   obeys_console asked how is =
       subst (λ r. IsObeyed remaining contents reader reader writer writer r (Ok tt)) (sym is) (refl, refl)
+
+  -- a disk is taken up over files
+  pub obeys_recover : (asked : Request) (path : String Global) → asked ≡ request.Recover path
+      → IsObeyed remaining contents reader reader writer writer asked (Ok tt)
+  obeys_recover asked path is =
+      subst (λ r. IsObeyed remaining contents reader reader writer writer r (Ok tt)) (sym is) (refl, refl)

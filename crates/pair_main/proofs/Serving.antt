@@ -1,6 +1,7 @@
 -- What the words ask for was run as a process of a pair.
 use Rattle.std.proofs.Common.{◌≡◌, ℕ, List, Option, Some, None, Result, Ok, Err, refl, subst, sym}
-use Rattle.std.specs.Prelude.{IfSome}
+use Rattle.std.specs.Prelude.{IfSome, String}
+use Rattle.std.specs.declared.alloc.Global.{Global}
 use Rattle.std.specs.declared.borrow.CowStr.{CowStr}
 use Rattle.command_console.specs.Console.{HasServed}
 use Rattle.command_console.specs.declared.console.Streams.{Streams}
@@ -27,7 +28,7 @@ module _ {R W N Z : Type 0} (remaining : R → Option (List ℕ)) (contents : W 
       → Sits remaining contents notes order streams ending
   failed order failure ending ends = record { result = Err failure; served = tt; ends = ends }
 
-  -- a request that is one for a console, or for a host
+  -- a request that is one for a console, for a host, or to take a disk up
   pub as_console : (asked : Request) (order : ConsoleOrder) (ending : ℕ × CowStr Z) → asked ≡ request.Console order
       → Sits remaining contents notes order streams ending → IsRunAs remaining contents notes asked streams ending
   as_console asked order ending is sits = subst (λ r. IsRunAs remaining contents notes r streams ending) (sym is) sits
@@ -35,6 +36,10 @@ module _ {R W N Z : Type 0} (remaining : R → Option (List ℕ)) (contents : W 
   pub as_host : (asked : Request) (order : HostOrder) (ending : ℕ × CowStr Z) → asked ≡ request.Host order
       → IsRunAs remaining contents notes asked streams ending
   as_host asked order ending is = subst (λ r. IsRunAs remaining contents notes r streams ending) (sym is) tt
+
+  pub as_recovery : (asked : Request) (path : String Global) (ending : ℕ × CowStr Z) → asked ≡ request.Recover path
+      → IsRunAs remaining contents notes asked streams ending
+  as_recovery asked path ending is = subst (λ r. IsRunAs remaining contents notes r streams ending) (sym is) tt
 
   -- it was that of the words
   pub by_words : (words : List (List ℕ)) (asked : Request) (result : Option (ℕ × CowStr Z)) → IsAsked words asked

@@ -24,10 +24,11 @@ module _ {R W N : Type 0} (remaining : R → Option (List ℕ)) (contents : W �
     pub served : IfOk result (HasServed remaining contents notes order streams)
     pub ends : EndsWith result ending
 
-  -- a console is obeyed, and so is a host, of which nothing is said here; no other request is one of a process
+  -- a console is obeyed, and so is a host, and a disk is taken up, of which nothing is said here; no other request is one of a process
   abbrev pub IsRunAs : {Z : Type 0} → Request → Streams R W N → ℕ × CowStr Z → Type 0
   IsRunAs (request.Console order) streams ending = Sits order streams ending
   IsRunAs (request.Host order) streams ending = Unit {0}
+  IsRunAs (request.Recover path) streams ending = Unit {0}
   IsRunAs other streams ending = ⊥
 
   -- the words ask for a process of a pair, and it has run and ends so

@@ -41,7 +41,7 @@ pub record IsOfReader (meaning : Meaning) (images : List ℕ) (remaining : Optio
 
 -- what a command prints: the lines of a script are answered, or the pair at their end is compared, or what happens is drawn, or
 -- bad lines are named; a pair runs on threads, lines are answered as they come, or it is said what there is to ask
--- for; a process of a pair runs over other streams, and nothing is read or printed here
+-- for; a process of a pair runs over other streams, a disk is taken up over files, and nothing is read or printed here
 abbrev pub Obeys : Request → Option (List ℕ) → Option (List ℕ) → Result (Unit {0}) Failure → Option (List ℕ) → Option (List ℕ) →
     Type 0
 Obeys (request.Script images) remaining after result old new = IsOfReader script_of images.items remaining (λ input.
@@ -58,6 +58,7 @@ Obeys (request.Live how) remaining after result old new = IsOfReader live_script
 Obeys request.Shell remaining after result old new = Hears remaining result old new
 Obeys (request.Host how) remaining after result old new = (after ≡ remaining) × (new ≡ old)
 Obeys (request.Console how) remaining after result old new = (after ≡ remaining) × (new ≡ old)
+Obeys (request.Recover path) remaining after result old new = (after ≡ remaining) × (new ≡ old)
 Obeys (request.Help text) remaining after result old new = Writes (string_bytes text) result old new
 
 -- the request of an order

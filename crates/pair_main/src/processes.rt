@@ -1,10 +1,12 @@
-//! One run of the program as a process of a pair: a host, or the console that its user sits at.
+//! One run of the program as a process of a pair: a host, or the console that its user sits at; or over files alone.
 ghost use Rattle.std.specs.Prelude.{IfSome, map, string_bytes};
 ghost use Rattle.pair_main.specs.Processes.{IsProcess, IsRunAs, Sits};
 
 use command_console::{Streams, run_console};
 use command_host::{ending_of_console, ending_of_host, run_host};
+use command_io::Failure;
 use command_line::{ConsoleOrder, HostOrder, Request, request_of};
+use disk_file::{recover_image, refusal_text};
 use std::alloc::Global;
 use std::borrow::CowStr;
 use std::io::{IsTerminal, Read, Write};
@@ -35,8 +37,8 @@ pub fn run_process<
     }
 }
 
-// Runs what is asked for, if it is a process of a pair.
-#[tactic(auto, using(crate::proofs::Serving::as_console, crate::proofs::Serving::as_host))]
+// Runs what is asked for, if it is a process of a pair, or takes a disk up.
+#[tactic(auto, using(crate::proofs::Serving::as_console, crate::proofs::Serving::as_host, crate::proofs::Serving::as_recovery))]
 fn run_request<
     H: Threads + Wait + Clock + Copy + Drop + Send + Sync + 'static,
     R: Read + IsTerminal + Drop + Send + 'static,
@@ -54,7 +56,19 @@ fn run_request<
     match request {
         Request::Host(order) => Some(host(rt, alloc, &order, streams)),
         Request::Console(order) => Some(console(rt, files, alloc, &order, streams)),
+        Request::Recover(path) => Some(recover(files, alloc, path.as_str())),
         _ => None,
+    }
+}
+
+// Takes up what a crash has left in a file.
+fn recover(files: HostRuntime, alloc: Global, path: &str) -> (u8, CowStr<'static>) {
+    let Err(why) = recover_image(alloc, &files, path) else {
+        return (0, CowStr::Borrowed(""));
+    };
+    match refusal_text(alloc, path, &why) {
+        Some(text) => (2, CowStr::Owned(text)),
+        None => Failure::OutOfMemory.ending(alloc),
     }
 }
 

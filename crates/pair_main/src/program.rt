@@ -62,7 +62,7 @@ fn run<
 }
 
 // Does what is asked for.
-#[tactic(auto, using(crate::proofs::Runs::obeys_script, crate::proofs::Runs::obeys_check, crate::proofs::Runs::obeys_picture, crate::proofs::Runs::obeys_lint, crate::proofs::Runs::obeys_live, crate::proofs::Runs::obeys_shell, crate::proofs::Runs::obeys_host, crate::proofs::Runs::obeys_console, crate::proofs::Runs::obeys_help))]
+#[tactic(auto, using(crate::proofs::Runs::obeys_script, crate::proofs::Runs::obeys_check, crate::proofs::Runs::obeys_picture, crate::proofs::Runs::obeys_lint, crate::proofs::Runs::obeys_live, crate::proofs::Runs::obeys_shell, crate::proofs::Runs::obeys_host, crate::proofs::Runs::obeys_console, crate::proofs::Runs::obeys_recover, crate::proofs::Runs::obeys_help))]
 fn obey<
     H: Threads + Clock + Sync,
     R: Read + IsTerminal + Drop + Send,
@@ -113,6 +113,8 @@ fn obey<
         // A process of a pair runs over other streams.
         Request::Host(_order) => Ok(()),
         Request::Console(_order) => Ok(()),
+        // A disk is taken up over files alone.
+        Request::Recover(_path) => Ok(()),
     };
     (streams, ended)
 }

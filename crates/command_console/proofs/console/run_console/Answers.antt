@@ -21,5 +21,7 @@ returns g c = IfOk-weaker c.run_input.result _ _ (λ end run. record {
   says = subst (λ l. IsInput live_script_of l (Some c.in_ok-opening.opening.items) c.in_ok-input.input) c.deref.ensures.value
       (subst (λ l. IsInput live_script_of c.deref.result.now (Some l) c.in_ok-input.input) c.as_slice.ensures.value
       c.in_ok-input.ensures);
+  attached = c.in_ok-booted.booted;
+  files = c.in_ok-booted.ensures.sectors;
   run = run;
 }) c.run_input.ensures

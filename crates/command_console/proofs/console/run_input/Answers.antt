@@ -1,5 +1,7 @@
 -- Places are added, one sits, and the disks are saved.
+use Rattle.std.proofs.Common.{refl, string_bytes}
 use Rattle.command_console.proofs.Running.{has_run, open_later, opens_later}
+use Rattle.sector_file.specs.Drives.{all_records}
 use Rattle.command_console.proofs.console.run_input.Goals as goal
 
 pub sit-requires-after_bounds : goal.sit-requires-after_bounds
@@ -9,7 +11,7 @@ sit-requires-after_bounds g c κs within = open_later c.in_ok-prepared.prepared.
 pub returns : goal.returns
 returns g c =
     has_run g.R.Read.remaining g.W.Write.contents g.N.Write.contents c.args.order.now c.args.opening.0 c.args.streams
-    c.add_places.new.session c.in_ok-left.left.disk.store c.in_ok-left.left.end c.in_ok-left.left.writer c.in_ok-left.left.notes
+    c.add_places.new.session (all_records c.in_ok-left.left.disk.store) c.in_ok-left.left.end c.in_ok-left.left.writer c.in_ok-left.left.notes
     (opens_later c.args.opening.0 c.in_ok-prepared.prepared.session c.add_places.new.session c.in_ok-prepared.ensures.opens
-    c.add_places.ensures) c.in_ok-left.ensures c.as_bytes.result.now c.deref.result.now c.as_bytes.ensures.value
-    c.deref.ensures.value c.save_disks.new.writer c.in_ok-save_disks.ensures.saved
+    c.add_places.ensures) c.in_ok-left.ensures (string_bytes c.args.order.now.mark) c.args.order.now.saved.items refl refl
+    c.save_ordered.new.writer (c.save_ordered.ensures c.in_ok-saved.is)

@@ -1,0 +1,3 @@
+pub mod FileBytes
+pub mod Names
+pub mod Past

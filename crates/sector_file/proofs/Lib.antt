@@ -1,0 +1,14 @@
+mod Alike
+mod Blocks
+mod DriveWrites
+mod Drives
+mod Emptied
+mod Images
+mod Pasts
+mod Lists
+mod Moments
+mod Reading
+mod Redo
+mod Refusals
+mod Steps
+mod Tears
