@@ -20,7 +20,7 @@ use Rattle.pair_events.specs.declared.reply.Reply.TheVariants as reply
 use Rattle.pair_protocol.specs.World as protocol
 use Rattle.sequence_diagram.specs.declared.moment.Cargo.{Cargo}
 use Rattle.sequence_diagram.specs.declared.moment.Cargo.TheVariants as cargo
-use Rattle.sequence_diagram.specs.declared.moment.Look.{Look}
+use Rattle.sequence_diagram.specs.declared.moment.NodeLook.{NodeLook}
 
 -- what a released operation carries
 abbrev pub released_cargo : Operation → Cargo
@@ -47,17 +47,17 @@ abbrev pub TellsCargo : List protocol.Message → Result Reply Fault → Option 
 TellsCargo messages answer told = Agree Carries (message_in messages answer) told
 
 -- what a node shows of itself
-abbrev pub look_of : ℕ → NodeStatus → Look
+abbrev pub look_of : ℕ → NodeStatus → NodeLook
 look_of node status = record { node = node; role = status.role; count = status.count }
 
 module _ {S : Type 0} (M : Machine S) (c : Course S) where
-  pub record LooksAt (node : ℕ) (told : Option Look) : Type 0 where
+  pub record LooksAt (node : ℕ) (told : Option NodeLook) : Type 0 where
     pub status : Option NodeStatus
     pub is_there : IsStatusAt M (slice_get c.world.nodes node) status
     pub is : told ≡ option_map (look_of node) status
 
   -- the look of an event is that at its node, if it happens at one
-  abbrev pub TellsLook : Option ℕ → Option Look → Type 0
+  abbrev pub TellsLook : Option ℕ → Option NodeLook → Type 0
   TellsLook (Some node) told = LooksAt node told
   TellsLook None told = told ≡ None
 

@@ -17,7 +17,7 @@ use i8080_words::R;
 use log_channel::Packet;
 use log_entry::Entry;
 use pair_events::{Event, Reply};
-use sequence_diagram::{Cargo, Look, Moment, node_of};
+use sequence_diagram::{Cargo, Moment, NodeLook, node_of};
 use shared_disk::Disk;
 
 /// An event that has just happened in a world: its answer, the cargo of the message that it sent, and what its node
@@ -130,7 +130,10 @@ fn bare_of(entry: &Entry) -> Option<Bare>
 }
 
 // What the node shows at which an event happened, if it happened at one.
-fn look_for<B: Copies<H> + Drop, H: Drop>(world: &World<B, Disk, H>, event: Event) -> Option<Look>
+fn look_for<B: Copies<H> + Drop, H: Drop>(
+    world: &World<B, Disk, H>,
+    event: Event,
+) -> Option<NodeLook>
     ensures { (c : Course B.State) → Shows B.state B.copied B.machine records_in world.now c
         → TellsLook B.machine c (node_of event) result }
 {
@@ -142,12 +145,12 @@ fn look_for<B: Copies<H> + Drop, H: Drop>(world: &World<B, Disk, H>, event: Even
 
 // What a node shows.
 #[tactic(auto, using(crate::proofs::Carrying::looks))]
-fn look_at<B: Copies<H> + Drop, H: Drop>(world: &World<B, Disk, H>, node: u64) -> Option<Look>
+fn look_at<B: Copies<H> + Drop, H: Drop>(world: &World<B, Disk, H>, node: u64) -> Option<NodeLook>
     ensures { (c : Course B.State) → Shows B.state B.copied B.machine records_in world.now c
         → LooksAt B.machine c node result }
 {
     match world.node(node) {
-        Some(status) => Some(Look {
+        Some(status) => Some(NodeLook {
             node,
             role: status.role,
             count: status.count,

@@ -4,7 +4,7 @@ mod machine;
 
 use i8080_core::{Bus, Cpu};
 use i8080_words::{AddressRegister, Interrupts, Processor, R, Regs, Stepped};
-use machine::Machine;
+use machine::TestBus;
 use std::alloc::Global;
 use std::process::Abort;
 
@@ -23,17 +23,17 @@ fn at_start(interrupts: Interrupts) -> Cpu {
 }
 
 // A memory with a program followed by zeros.
-fn load(alloc: Global, program: &[u8]) -> R<Machine> {
+fn load(alloc: Global, program: &[u8]) -> R<TestBus> {
     let mut bytes = Vec::from_slice(alloc, program)?;
     bytes.resize(65536, 0x00)?;
-    Ok(Machine::of(bytes))
+    Ok(TestBus::of(bytes))
 }
 
 // A program; whether a request of level 7 is there at each step, and the kind of the step; and the low byte of the address that
 // the last step pushes, whose high byte is 00.
-type Wait = (&'static [u8], &'static [(bool, Stepped)], u8);
+type WaitingRequest = (&'static [u8], &'static [(bool, Stepped)], u8);
 
-static WAITS: [Wait; 3] = [
+static WAITS: [WaitingRequest; 3] = [
     // It waits for one instruction after EI, and for one more after a second one.
     (
         &[0xfb, 0x00, 0x00],
@@ -138,7 +138,7 @@ static EACH_KIND: [u8; 80] = [
 ];
 
 // Two processors do the same, one in place and one step by step, and have interrupts on at the end.
-fn expect_alike(rt: &impl Abort, in_place: &mut Machine, one_by_one: &mut Machine) {
+fn expect_alike(rt: &impl Abort, in_place: &mut TestBus, one_by_one: &mut TestBus) {
     let mut first = at_start(Interrupts::On);
     let mut second = at_start(Interrupts::On);
     assert!(rt; first.run_quietly(in_place, 13) == 13);

@@ -61,7 +61,7 @@ const FIRST_READ: Input = Input::Sector {
 };
 
 // What is done to the guest that is recorded.
-enum Act {
+enum GuestAct {
     // It runs this many turns, makes this many steps, and stops for this reason.
     Run(u64, u64, StopReason),
     // It takes an input, which is logged under this index.
@@ -69,19 +69,19 @@ enum Act {
 }
 
 // Two keys are sent back, and the byte of the first is accepted. A sector comes under the head, and is written.
-static ACTS: [Act; 12] = [
-    Act::Run(7, 7, StopReason::Turns),
-    Act::Take(Input::Rx(0, 0x48), 0),
-    Act::Run(99, 5, StopReason::Operation(OpId::Byte(0, 1))),
-    Act::Run(3, 3, StopReason::Turns),
-    Act::Take(Input::Sent(0), 2),
-    Act::Take(Input::Rx(0, 0x49), 3),
-    Act::Run(99, 7, StopReason::Operation(OpId::Byte(0, 2))),
-    Act::Run(10, 10, StopReason::Turns),
-    Act::Take(FIRST_READ, 5),
-    Act::Run(9999, 962, StopReason::Operation(OpId::Write(1))),
-    Act::Run(1, 1, StopReason::Turns),
-    Act::Take(Input::Written(1), 7),
+static ACTS: [GuestAct; 12] = [
+    GuestAct::Run(7, 7, StopReason::Turns),
+    GuestAct::Take(Input::Rx(0, 0x48), 0),
+    GuestAct::Run(99, 5, StopReason::Operation(OpId::Byte(0, 1))),
+    GuestAct::Run(3, 3, StopReason::Turns),
+    GuestAct::Take(Input::Sent(0), 2),
+    GuestAct::Take(Input::Rx(0, 0x49), 3),
+    GuestAct::Run(99, 7, StopReason::Operation(OpId::Byte(0, 2))),
+    GuestAct::Run(10, 10, StopReason::Turns),
+    GuestAct::Take(FIRST_READ, 5),
+    GuestAct::Run(9999, 962, StopReason::Operation(OpId::Write(1))),
+    GuestAct::Run(1, 1, StopReason::Turns),
+    GuestAct::Take(Input::Written(1), 7),
 ];
 
 // A memory with the program at address 0.
@@ -147,18 +147,18 @@ fn offer<B: Lockstep>(rt: &impl Abort, recorder: &mut Recorder<B>, input: Input,
 }
 
 // Does this to the guest of a recorder.
-fn make<B: Lockstep>(rt: &impl Abort, recorder: &mut Recorder<B>, act: &Act)
+fn make<B: Lockstep>(rt: &impl Abort, recorder: &mut Recorder<B>, act: &GuestAct)
     requires { recorder.old.reads ≡ Logged }
     ensures reads { recorder.new.reads ≡ Logged }
     ensures records { (moves : List Move) × Records B.machine Logged (B.state recorder.old.board) recorder.old.log
         moves (B.state recorder.new.board) recorder.new.log }
 {
     match act {
-        Act::Run(turns, steps, reason) => {
+        GuestAct::Run(turns, steps, reason) => {
             let (steps, reason) = (*steps, *reason);
             advance(rt, recorder, *turns, Stopped { steps, reason });
         }
-        Act::Take(input, index) => offer(rt, recorder, *input, *index),
+        GuestAct::Take(input, index) => offer(rt, recorder, *input, *index),
     }
 }
 
@@ -242,7 +242,7 @@ fn record_all<T: Completes, S: Completes, W: Completes>(
     rt: &(impl Abort + AllocGlobal),
     recorder: &mut Recorder<Board<T, S, W>>,
     receiver: &mut Receiver,
-) -> R<Shown>
+) -> R<GuestView>
     requires reads { recorder.old.reads ≡ Logged }
     requires log { recorder.old.log ≡ record { first = 0; entries = [] } }
     requires receiver { receiver.old ≡ record { generation = 1; held = 0; entries = [] } }
@@ -262,7 +262,7 @@ fn record_on<T: Completes + Drop, S: Completes + Drop, W: Completes + Drop>(
     sent: T,
     sector: S,
     written: W,
-) -> R<Shown>
+) -> R<GuestView>
     requires sent { Keeps (T.may sent) (T.gives sent) SENT }
     requires sector { Keeps (S.may sector) (S.gives sector) SECTOR }
     requires written { Keeps (W.may written) (W.gives written) WRITTEN }
@@ -279,7 +279,7 @@ fn replay_all<T: Completes, S: Completes, W: Completes>(
     rt: &(impl Abort + AllocGlobal),
     replayer: &mut Replayer<Board<T, S, W>>,
     receiver: &mut Receiver,
-) -> R<Shown>
+) -> R<GuestView>
     requires { IsOnTrace some_altair replayer.old.board.guest receiver.old.entries replayer.old.fetched }
 {
     let few = Replayed {
@@ -304,7 +304,7 @@ fn replay_on<T: Completes + Drop, S: Completes + Drop, W: Completes + Drop>(
     sent: T,
     sector: S,
     written: W,
-) -> R<Shown>
+) -> R<GuestView>
     requires sent { Keeps (T.may sent) (T.gives sent) SENT }
     requires sector { Keeps (S.may sector) (S.gives sector) SECTOR }
     requires written { Keeps (W.may written) (W.gives written) WRITTEN }
@@ -318,7 +318,7 @@ fn replay_on<T: Completes + Drop, S: Completes + Drop, W: Completes + Drop>(
 // unaccepted, the status of its drives, the drive and track of the head, the last completed write of the sector, and which
 // of the given operations are outstanding.
 #[derive(Drop)]
-struct Shown {
+struct GuestView {
     processor: Processor,
     memory: Vec<u8>,
     count: u64,
@@ -345,9 +345,9 @@ fn memory_of<T: Completes, S: Completes, W: Completes>(
 fn show<T: Completes, S: Completes, W: Completes>(
     alloc: Global,
     board: &Board<T, S, W>,
-) -> R<Shown> {
+) -> R<GuestView> {
     let memory = memory_of(alloc, board)?;
-    Ok(Shown {
+    Ok(GuestView {
         processor: *board.processor(),
         memory,
         count: board.count(),
@@ -365,7 +365,7 @@ fn show<T: Completes, S: Completes, W: Completes>(
 }
 
 // It ends like this: after this many steps, two keys, an accepted byte, an unaccepted one, and a write that is done.
-fn expect_end(rt: &impl Abort, shown: &Shown) {
+fn expect_end(rt: &impl Abort, shown: &GuestView) {
     assert!(rt; shown.count == 995);
     assert!(rt; shown.keys == [2, 0]);
     assert!(rt; shown.unaccepted == [1, 0]);
@@ -375,7 +375,7 @@ fn expect_end(rt: &impl Abort, shown: &Shown) {
 }
 
 // Both show the same.
-fn expect_alike(rt: &impl Abort, recorded: &Shown, replayed: &Shown) {
+fn expect_alike(rt: &impl Abort, recorded: &GuestView, replayed: &GuestView) {
     expect_end(rt, recorded);
     expect_end(rt, replayed);
     assert!(rt; recorded.processor == replayed.processor);

@@ -20,10 +20,10 @@ const NOWHERE: Entry = Entry::Rx {
 };
 
 // An entry, how many turns there are, and how it is followed.
-type Step = (Entry, u64, R<Followed>);
+type FollowedStep = (Entry, u64, R<Followed>);
 
 // For how many operations a guest has room, what it follows, and how many steps it has made then.
-static RUNS: [(u64, &[Step], u64); 4] = [
+static RUNS: [(u64, &[FollowedStep], u64); 4] = [
     // Its own entries.
     (
         1,

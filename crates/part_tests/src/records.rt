@@ -15,7 +15,7 @@ const KEYS: u64 = 1000;
 
 // What a recorder is asked, and its answer: to advance this many turns, so many steps and why they stopped; to take a key of port 0
 // or 1, or the acceptance of a byte, the index of its entry.
-enum Asked {
+enum Question {
     Advance(u64, u64, StopReason),
     Stands(Fault),
     Key(R<u64>),
@@ -24,20 +24,20 @@ enum Asked {
 }
 
 // For how many operations a guest has room, what its recorder is asked, and two entries at their indexes; the first is entry 7.
-static RUNS: [(u64, &[Asked], [(u64, Entry); 2]); 2] = [
+static RUNS: [(u64, &[Question], [(u64, Entry); 2]); 2] = [
     // It stops after each operation, and logs its mark.
     (
         2,
         &[
-            Asked::Advance(3, 3, StopReason::Turns),
-            Asked::Sent(Err(Fault::NotDue)),
-            Asked::Key(Ok(7)),
-            Asked::Advance(9, 2, StopReason::Operation(OpId::Byte(0, 1))),
-            Asked::Stands(Fault::Idle),
-            Asked::OtherKey(Ok(9)),
-            Asked::Advance(9, 1, StopReason::Refused(Fault::Idle)),
-            Asked::Sent(Ok(10)),
-            Asked::Advance(1, 1, StopReason::Operation(OpId::Byte(0, 2))),
+            Question::Advance(3, 3, StopReason::Turns),
+            Question::Sent(Err(Fault::NotDue)),
+            Question::Key(Ok(7)),
+            Question::Advance(9, 2, StopReason::Operation(OpId::Byte(0, 1))),
+            Question::Stands(Fault::Idle),
+            Question::OtherKey(Ok(9)),
+            Question::Advance(9, 1, StopReason::Refused(Fault::Idle)),
+            Question::Sent(Ok(10)),
+            Question::Advance(1, 1, StopReason::Operation(OpId::Byte(0, 2))),
         ],
         [
             (8, Entry::Mark { count: 5 }),
@@ -48,10 +48,10 @@ static RUNS: [(u64, &[Asked], [(u64, Entry); 2]); 2] = [
     (
         0,
         &[
-            Asked::Key(Ok(7)),
-            Asked::OtherKey(Ok(8)),
-            Asked::Advance(9, 1, StopReason::Refused(Fault::OutOfMemory)),
-            Asked::Stands(Fault::OutOfMemory),
+            Question::Key(Ok(7)),
+            Question::OtherKey(Ok(8)),
+            Question::Advance(9, 1, StopReason::Refused(Fault::OutOfMemory)),
+            Question::Stands(Fault::OutOfMemory),
         ],
         [(7, KEY), (8, OTHER_KEY)],
     ),
@@ -80,16 +80,16 @@ fn advance(rt: &impl Abort, recorder: &mut Recorder<Echo>, turns: u64, wanted: R
     assert!(rt; recorder.advance(turns) == wanted);
 }
 
-fn ask(rt: &impl Abort, recorder: &mut Recorder<Echo>, asked: &Asked) {
+fn ask(rt: &impl Abort, recorder: &mut Recorder<Echo>, asked: &Question) {
     match asked {
-        Asked::Advance(turns, steps, reason) => {
+        Question::Advance(turns, steps, reason) => {
             let (steps, reason) = (*steps, *reason);
             advance(rt, recorder, *turns, Ok(Stopped { steps, reason }));
         }
-        Asked::Stands(fault) => advance(rt, recorder, 9, Err(*fault)),
-        Asked::Key(index) => offer(rt, recorder, Input::Rx(0, 0x48), *index),
-        Asked::OtherKey(index) => offer(rt, recorder, Input::Rx(1, 0x48), *index),
-        Asked::Sent(index) => offer(rt, recorder, Input::Sent(0), *index),
+        Question::Stands(fault) => advance(rt, recorder, 9, Err(*fault)),
+        Question::Key(index) => offer(rt, recorder, Input::Rx(0, 0x48), *index),
+        Question::OtherKey(index) => offer(rt, recorder, Input::Rx(1, 0x48), *index),
+        Question::Sent(index) => offer(rt, recorder, Input::Sent(0), *index),
     }
 }
 

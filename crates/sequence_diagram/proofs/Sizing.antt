@@ -6,7 +6,7 @@ use Rattle.sequence_diagram.specs.Lines.{AreLines}
 use Rattle.sequence_diagram.specs.Plans.{bottom_of, height_over, width_in}
 use Rattle.sequence_diagram.specs.Svg.{HasSize, IsPicture, svg_text}
 use Rattle.sequence_diagram.specs.declared.moment.Moment.{Moment}
-use Rattle.sequence_diagram.specs.declared.place.Place.{Place}
+use Rattle.sequence_diagram.specs.declared.place.Lifeline.{Lifeline}
 
 -- a text is of the size that its first tag says
 pub has_size : {A E : Type 0} (bytes : A → List ℕ) (result : Result A E) (width height w h : ℕ) (style elements : List ℕ)
@@ -18,7 +18,7 @@ has_size bytes (Ok picture) width height w h style elements wide high is =
 has_size bytes (Err refused) width height w h style elements wide high is = tt
 
 -- it is the picture of a run whose columns and lines it has room for
-pub is_picture : {A E : Type 0} (bytes : A → List ℕ) (result : Result A E) (moments : List Moment) (places : List Place)
+pub is_picture : {A E : Type 0} (bytes : A → List ℕ) (result : Result A E) (moments : List Moment) (places : List Lifeline)
     (of : List ℕ) (lines bottom : ℕ) → places ≡ columns_of moments → AreLines 0 moments of lines → bottom ≡ bottom_of lines
     → IfOk result (λ picture. HasSize (width_of (width_in places)) (height_over bottom) (bytes picture))
     → IfOk result (λ picture. IsPicture moments (bytes picture))

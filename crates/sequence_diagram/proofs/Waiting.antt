@@ -6,8 +6,8 @@ use Rattle.sequence_diagram.specs.Waits.{AreWaits, HasCargo, Standing, StandsThe
 use Rattle.sequence_diagram.specs.declared.arrows.Arrow.{Arrow}
 use Rattle.sequence_diagram.specs.declared.moment.Cargo.{Cargo}
 use Rattle.sequence_diagram.specs.declared.moment.Moment.{Moment}
-use Rattle.sequence_diagram.specs.declared.waits.Operation.{Operation}
-use Rattle.sequence_diagram.specs.declared.waits.Wait.{Wait}
+use Rattle.sequence_diagram.specs.declared.waits.WaitingOperation.{WaitingOperation}
+use Rattle.sequence_diagram.specs.declared.waits.OutputWait.{OutputWait}
 
 module _ (moments : List Moment) (place : ℕ) where
   -- the event has brought nothing, or a message whose event is not there, or one that is
@@ -27,20 +27,20 @@ module _ (moments : List Moment) (place : ℕ) where
   stands_then moment cargo before after here brings is = (moment, (here, (cargo, (brings, is))))
 
   -- one event more
-  pub waits_then : (before after : Standing) (waited waits : List Wait) → StandsThen moments place before after
+  pub waits_then : (before after : Standing) (waited waits : List OutputWait) → StandsThen moments place before after
       → waits ≡ waited ++ wait_of after ∷ [] → WaitsAfter moments place before waited → WaitsAfter moments (place + 1) after waits
   waits_then before after waited waits stands more so_far =
       let on : place + 1 ≡ suc place = omega arith in
       subst (λ n. WaitsAfter moments n after waits) (sym on) (before, (waited, (so_far, (stands, more))))
 
 -- all events
-pub waits_all : (moments : List Moment) (place : ℕ) (s : Standing) (waits : List Wait) → length moments ≤ place
+pub waits_all : (moments : List Moment) (place : ℕ) (s : Standing) (waits : List OutputWait) → length moments ≤ place
     → place ≤ length moments → WaitsAfter moments place s waits → AreWaits moments waits
 waits_all moments place s waits past within so_far =
     let all : place ≡ length moments = omega (arith, past, within) in
     (s, subst (λ n. WaitsAfter moments n s waits) all so_far)
 
 -- what is acknowledged waits no longer
-pub covers : (s : Standing) (held replayed : ℕ) (items : List Operation) → items ≡ filter (still_waits held replayed) s.waiting
+pub covers : (s : Standing) (held replayed : ℕ) (items : List WaitingOperation) → items ≡ filter (still_waits held replayed) s.waiting
     → record s { held = held; replayed = replayed; waiting = items } ≡ acknowledged held replayed s
 covers s held replayed items is = ap (λ l. record s { held = held; replayed = replayed; waiting = l }) is

@@ -11,8 +11,8 @@ use Rattle.sequence_diagram.specs.Arrows.{HasArrow}
 use Rattle.sequence_diagram.specs.Places.{node_of, sender_of}
 use Rattle.sequence_diagram.specs.declared.arrows.Arrow.{Arrow}
 use Rattle.sequence_diagram.specs.declared.moment.Moment.{Moment}
-use Rattle.sequence_diagram.specs.declared.place.Place.{Place}
-use Rattle.sequence_diagram.specs.declared.place.Place.TheVariants.{Terminal, Node, Disk}
+use Rattle.sequence_diagram.specs.declared.place.Lifeline.{Lifeline}
+use Rattle.sequence_diagram.specs.declared.place.Lifeline.TheVariants.{Terminal, Node, Disk}
 
 -- ---- the other node of a node's pair
 
@@ -41,16 +41,16 @@ module _ (moments : List Moment) where
   peer_at place node = peer_after node (first_peer node) (take place moments)
 
   -- where the message was sent that the event at a place has brought
-  abbrev sender_by : Option Arrow → Option Place
+  abbrev sender_by : Option Arrow → Option Lifeline
   sender_by (Some arrow) = option_map (λ (m : Moment). sender_of m.event) (slice_get moments arrow.sent)
   sender_by None = None
 
-  abbrev pub HasOrigin : ℕ → Option Place → Type 0
+  abbrev pub HasOrigin : ℕ → Option Lifeline → Type 0
   HasOrigin place found = (arrow : Option Arrow) × (HasArrow moments place arrow × (found ≡ sender_by arrow))
 
   -- an entry, an acknowledgement or a part goes to the peer, a released operation to its device, the answer to a write to the one
   -- that wrote, and any other message to the node of its event
-  abbrev pub HasAimBy : ℕ → Event → Option Place → Type 0
+  abbrev pub HasAimBy : ℕ → Event → Option Lifeline → Type 0
   HasAimBy place (event.Send node index) found = found ≡ Some (Node (peer_at place node))
   HasAimBy place (event.Acknowledge node) found = found ≡ Some (Node (peer_at place node))
   HasAimBy place (event.SendPart node index) found = found ≡ Some (Node (peer_at place node))
@@ -59,5 +59,5 @@ module _ (moments : List Moment) where
   HasAimBy place (event.Put message) found = HasOrigin place found
   HasAimBy place other found = found ≡ option_map Node (node_of other)
 
-  abbrev pub HasAim : ℕ → Option Place → Type 0
+  abbrev pub HasAim : ℕ → Option Lifeline → Type 0
   HasAim place found = MatchOption (slice_get moments place) (found ≡ None) (λ moment. HasAimBy place moment.event found)

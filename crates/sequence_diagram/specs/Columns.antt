@@ -9,8 +9,8 @@ use Rattle.pair_events.specs.declared.event.Event.TheVariants as event
 use Rattle.pair_events.specs.declared.reply.Reply.{Reply}
 use Rattle.pair_events.specs.declared.reply.Reply.TheVariants as reply
 use Rattle.sequence_diagram.specs.declared.moment.Moment.{Moment}
-use Rattle.sequence_diagram.specs.declared.place.Place.{Place}
-use Rattle.sequence_diagram.specs.declared.place.Place.TheVariants.{Terminal, Node, Arbiter, Disk}
+use Rattle.sequence_diagram.specs.declared.place.Lifeline.{Lifeline}
+use Rattle.sequence_diagram.specs.declared.place.Lifeline.TheVariants.{Terminal, Node, Arbiter, Disk}
 
 -- the port of an event, if it is one of a terminal; that of a byte that arrives is not known from the event alone
 abbrev pub event_port : Event → Option ℕ
@@ -45,32 +45,32 @@ asks_arbiter (event.Suspect node) = true
 asks_arbiter other = false
 
 -- a place other than a node takes part in an event
-abbrev pub takes_part : Place → Moment → Bool
+abbrev pub takes_part : Lifeline → Moment → Bool
 takes_part (Terminal port) moment = is_port port (event_port moment.event) || is_port port (answer_port moment.answer)
 takes_part (Node node) moment = false
 takes_part Arbiter moment = asks_arbiter moment.event
 takes_part Disk moment = uses_disk moment.event
 
 -- it does in some event of a run
-abbrev pub used : Place → List Moment → List Place
+abbrev pub used : Lifeline → List Moment → List Lifeline
 used place moments = if list_any (takes_part place) moments then place ∷ [] else []
 
 -- the host with which a pair has begun
-abbrev pub host_by : Event → Result Reply Fault → List Place
+abbrev pub host_by : Event → Result Reply Fault → List Lifeline
 host_by (event.BeginPair node host) (Ok (reply.Generation generation)) = Node host ∷ []
 host_by happened answer = []
 
-abbrev pub host_in : Moment → List Place
+abbrev pub host_in : Moment → List Lifeline
 host_in moment = host_by moment.event moment.answer
 
-abbrev pub hosts_in : List Moment → List Place
+abbrev pub hosts_in : List Moment → List Lifeline
 hosts_in moments = flat_map host_in moments
 
 -- nodes 0 and 1 always take part
-abbrev pub nodes_in : List Moment → List Place
+abbrev pub nodes_in : List Moment → List Lifeline
 nodes_in moments = Node 0 ∷ Node 1 ∷ hosts_in moments
 
 -- from left to right: terminals, nodes, the arbiter and the disk
-abbrev pub columns_of : List Moment → List Place
+abbrev pub columns_of : List Moment → List Lifeline
 columns_of moments =
     used (Terminal 0) moments ++ used (Terminal 1) moments ++ nodes_in moments ++ used Arbiter moments ++ used Disk moments

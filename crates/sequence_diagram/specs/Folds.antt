@@ -12,21 +12,21 @@ use Rattle.sequence_diagram.specs.Lines.{line_at}
 use Rattle.sequence_diagram.specs.Places.{HasFlight, exchange_of}
 use Rattle.sequence_diagram.specs.Waits.{next}
 use Rattle.sequence_diagram.specs.declared.flights.Flight.{Flight}
-use Rattle.sequence_diagram.specs.declared.folds.Keys.{Keys}
-use Rattle.sequence_diagram.specs.declared.folds.Parts.{Parts}
+use Rattle.sequence_diagram.specs.declared.folds.FoldedKeys.{FoldedKeys}
+use Rattle.sequence_diagram.specs.declared.folds.FoldedParts.{FoldedParts}
 use Rattle.sequence_diagram.specs.declared.moment.Moment.{Moment}
 
 -- ---- parts
 
-abbrev pub no_parts : Parts
+abbrev pub no_parts : FoldedParts
 no_parts = record { sent = 0; came = 0; index = None; flight = None; is_whole = false }
 
 -- one more part was sent; the first one gives the index
-abbrev pub sent_part : ℕ → Parts → Parts
+abbrev pub sent_part : ℕ → FoldedParts → FoldedParts
 sent_part index parts = record parts { sent = next parts.sent; index = Some (unwrap_or parts.index index) }
 
 -- an event has sent a part, or has brought one; with the last of them the copy is whole
-abbrev pub counted_part : Event → Result Reply Fault → Parts → Parts
+abbrev pub counted_part : Event → Result Reply Fault → FoldedParts → FoldedParts
 counted_part (event.SendPart node index) (Ok answer) parts = sent_part index parts
 counted_part happened (Ok reply.New) parts = record parts { came = next parts.came }
 counted_part happened (Ok reply.Whole) parts = record parts { came = next parts.came; is_whole = true }
@@ -37,26 +37,26 @@ abbrev pub IsFirstFlight : List Moment → ℕ → Option Flight → Option Flig
 IsFirstFlight moments place (Some flight) after = after ≡ Some flight
 IsFirstFlight moments place None after = HasFlight moments place after
 
-abbrev pub HasNotedPart : List Moment → ℕ → Parts → Parts → Type 0
+abbrev pub HasNotedPart : List Moment → ℕ → FoldedParts → FoldedParts → Type 0
 HasNotedPart moments place before after = MatchOption (slice_get moments place) (after ≡ before)
     (λ moment. (after ≡ record (counted_part moment.event moment.answer before) { flight = after.flight })
     × IsFirstFlight moments place before.flight after.flight)
 
 -- ---- keys
 
-abbrev pub no_keys : Keys
+abbrev pub no_keys : FoldedKeys
 no_keys = record { typed = 0; taken = 0; exchange = None }
 
 -- one more key was typed, or was taken
-abbrev pub counted_key : Event → Keys → Keys
+abbrev pub counted_key : Event → FoldedKeys → FoldedKeys
 counted_key (event.TypeByte port byte) keys = record keys { typed = next keys.typed }
 counted_key other keys = record keys { taken = next keys.taken }
 
 -- the first key that was taken gives the way
-abbrev pub noted_key : Moment → Keys → Keys
+abbrev pub noted_key : Moment → FoldedKeys → FoldedKeys
 noted_key moment keys = record (counted_key moment.event keys) { exchange = option_or keys.exchange (exchange_of moment) }
 
-abbrev pub NotesKey : List Moment → ℕ → Keys → Keys → Type 0
+abbrev pub NotesKey : List Moment → ℕ → FoldedKeys → FoldedKeys → Type 0
 NotesKey moments place before after =
     MatchOption (slice_get moments place) (after ≡ before) (λ moment. after ≡ noted_key moment before)
 
@@ -91,7 +91,7 @@ counted_parts (suc zero) (Some index) = codes "part" ␣ (decimal index ++ codes
 counted_parts (suc zero) None = codes "a part of the copy"
 counted_parts count index = many_parts count
 
-abbrev pub parts_text : Parts → List ℕ
+abbrev pub parts_text : FoldedParts → List ℕ
 parts_text parts = counted_parts (part_count parts.flight parts.sent parts.came) parts.index
 
 abbrev pub many_keys : ℕ → ℕ → List ℕ

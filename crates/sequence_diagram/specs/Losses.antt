@@ -4,7 +4,7 @@ use Rattle.std.specs.Int.{abs_diff}
 use Rattle.std.specs.List.{list_any}
 use Rattle.sequence_diagram.specs.Plans.{x_in}
 use Rattle.sequence_diagram.specs.declared.geometry.Point.{Point}
-use Rattle.sequence_diagram.specs.declared.place.Place.{Place}
+use Rattle.sequence_diagram.specs.declared.place.Lifeline.{Lifeline}
 use Rattle.sequence_diagram.specs.declared.ways.Way.{Way}
 
 -- sums and products stop at the greatest number
@@ -33,10 +33,10 @@ touches at way =
     && nat_le (at.x - 8) (max (x_at way (at.y - 8)) (x_at way (most (at.y + 8))))
 
 -- a column is too near if it is nearer than eighteen
-abbrev pub is_near : List Place → ℕ → Place → Bool
+abbrev pub is_near : List Lifeline → ℕ → Lifeline → Bool
 is_near places x place = nat_lt (abs_diff (x_in places place) x) 18
 
-abbrev pub is_free : List Place → List Way → Point → Bool
+abbrev pub is_free : List Lifeline → List Way → Point → Bool
 is_free places ways at = not (list_any (touches at) ways) && not (list_any (is_near places at.x) places)
 
 -- after so many hundredths of its way
@@ -44,11 +44,11 @@ abbrev pub x_after : ℕ → ℕ → ℕ → ℕ
 x_after from aim hundredths = towards from aim (most (abs_diff from aim * hundredths) / 100)
 
 -- a message ends after the first of these hundredths at which its cross touches nothing; after eighty if there is none
-abbrev pub first_free : List Place → List Way → Point → ℕ → List ℕ → ℕ
+abbrev pub first_free : List Lifeline → List Way → Point → ℕ → List ℕ → ℕ
 first_free places ways from aim [] = x_after from.x aim 80
 first_free places ways from aim (reach ∷ reaches) =
     if is_free places ways (record { x = x_after from.x aim reach; y = from.y }) then x_after from.x aim reach
     else first_free places ways from aim reaches
 
-abbrev pub end_of_loss : List Place → List Way → Point → ℕ → ℕ
+abbrev pub end_of_loss : List Lifeline → List Way → Point → ℕ → ℕ
 end_of_loss places ways from aim = first_free places ways from aim (80 ∷ 90 ∷ 70 ∷ 60 ∷ 50 ∷ 40 ∷ 30 ∷ [])

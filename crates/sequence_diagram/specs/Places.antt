@@ -15,21 +15,21 @@ use Rattle.sequence_diagram.specs.declared.exchanges.Exchange.{Exchange}
 use Rattle.sequence_diagram.specs.declared.flights.Flight.{Flight}
 use Rattle.sequence_diagram.specs.declared.moment.Cargo.{Cargo}
 use Rattle.sequence_diagram.specs.declared.moment.Cargo.TheVariants.{Byte}
-use Rattle.sequence_diagram.specs.declared.moment.Look.{Look}
+use Rattle.sequence_diagram.specs.declared.moment.NodeLook.{NodeLook}
 use Rattle.sequence_diagram.specs.declared.moment.Moment.{Moment}
-use Rattle.sequence_diagram.specs.declared.place.Place.{Place}
-use Rattle.sequence_diagram.specs.declared.place.Place.TheVariants.{Terminal, Node, Arbiter, Disk}
+use Rattle.sequence_diagram.specs.declared.place.Lifeline.{Lifeline}
+use Rattle.sequence_diagram.specs.declared.place.Lifeline.TheVariants.{Terminal, Node, Arbiter, Disk}
 
 -- ---- columns
 
 -- the name of a place
-abbrev pub place_text : Place → List ℕ
+abbrev pub place_text : Lifeline → List ℕ
 place_text (Terminal port) = codes "terminal " ++ decimal port
 place_text (Node node) = codes "node " ++ decimal node
 place_text Arbiter = codes "arbiter"
 place_text Disk = codes "disk"
 
-abbrev pub is_place : Place → Place → Bool
+abbrev pub is_place : Lifeline → Lifeline → Bool
 is_place (Terminal port) (Terminal other) = port == other
 is_place (Node node) (Node other) = node == other
 is_place Arbiter Arbiter = true
@@ -37,11 +37,11 @@ is_place Disk Disk = true
 is_place _ _ = false
 
 -- the column of a place, from this one on; the first of all if it has none
-abbrev pub column_from : ℕ → List Place → Place → ℕ
+abbrev pub column_from : ℕ → List Lifeline → Lifeline → ℕ
 column_from column [] place = 0
 column_from column (other ∷ places) place = if is_place other place then column else column_from (column + 1) places place
 
-abbrev pub column_of : List Place → Place → ℕ
+abbrev pub column_of : List Lifeline → Lifeline → ℕ
 column_of places place = column_from 0 places place
 
 -- ---- events
@@ -79,7 +79,7 @@ node_of (event.Release node name) = Some node
 node_of other = later_node_of other
 
 -- where the message that an event sent leaves
-abbrev pub sender_of : Event → Place
+abbrev pub sender_of : Event → Lifeline
 sender_of (event.Send node index) = Node node
 sender_of (event.Acknowledge node) = Node node
 sender_of (event.Release node name) = Node node
@@ -87,18 +87,18 @@ sender_of (event.SendPart node index) = Node node
 sender_of _ = Disk
 
 -- a node, or the terminal of port 0 if there is none
-abbrev pub node_or_terminal : Option ℕ → Place
+abbrev pub node_or_terminal : Option ℕ → Lifeline
 node_or_terminal (Some node) = Node node
 node_or_terminal None = Terminal 0
 
 -- where a message of this cargo arrives that an event brings
-abbrev pub receiver_by : Event → Option Cargo → Place
+abbrev pub receiver_by : Event → Option Cargo → Lifeline
 receiver_by (event.Put message) cargo = Disk
 receiver_by (event.Arrive message) (Some (Byte port number byte)) = Terminal port
 receiver_by other cargo = node_or_terminal (node_of other)
 
 -- where an event happens that neither sends nor brings a message
-abbrev pub place_of : Event → Place
+abbrev pub place_of : Event → Lifeline
 place_of (event.TypeByte port byte) = Terminal port
 place_of (event.Put message) = Disk
 place_of other = node_or_terminal (node_of other)
@@ -134,12 +134,12 @@ first_role (suc zero) = Some Backup
 first_role (suc (suc n)) = None
 
 -- what a node shows of itself
-abbrev pub look_role : ℕ → Option Look → Option Role
+abbrev pub look_role : ℕ → Option NodeLook → Option Role
 look_role node None = None
 look_role node (Some look) = if look.node == node then Some look.role else None
 
 -- a host that a pair begins with is joining
-abbrev pub role_by : ℕ → Event → Result Reply Fault → Option Look → Option Role
+abbrev pub role_by : ℕ → Event → Result Reply Fault → Option NodeLook → Option Role
 role_by node (event.BeginPair first host) (Ok answer) look = if host == node then Some Joining else look_role node look
 role_by node happened answer look = look_role node look
 

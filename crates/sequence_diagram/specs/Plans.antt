@@ -3,17 +3,17 @@ use Rattle.std.specs.Prelude.{ℕ, ◌+◌, ◌-◌, ◌^◌, List, length, min}
 use Rattle.sequence_diagram.specs.Geometry.{x_of, y_of}
 use Rattle.sequence_diagram.specs.Lines.{line_at}
 use Rattle.sequence_diagram.specs.Places.{column_of}
-use Rattle.sequence_diagram.specs.declared.place.Place.{Place}
+use Rattle.sequence_diagram.specs.declared.place.Lifeline.{Lifeline}
 
 -- a picture has at most a thousand million columns, and as many lines
 abbrev at_most : ℕ → ℕ
 at_most n = min n 1000000000
 
-abbrev pub width_in : List Place → ℕ
+abbrev pub width_in : List Lifeline → ℕ
 width_in places = at_most (length places)
 
 -- how far right the column of a place is, and how far down the line of an event
-abbrev pub x_in : List Place → Place → ℕ
+abbrev pub x_in : List Lifeline → Lifeline → ℕ
 x_in places place = x_of (width_in places) (at_most (column_of places place))
 
 abbrev pub y_in : List ℕ → ℕ → ℕ

@@ -8,8 +8,8 @@ use Rattle.pair_events.specs.declared.event.Event.TheVariants as event
 use Rattle.pair_events.specs.declared.reply.Reply.{Reply}
 use Rattle.sequence_diagram.specs.Columns.{is_port}
 use Rattle.sequence_diagram.specs.declared.moment.Moment.{Moment}
-use Rattle.sequence_diagram.specs.declared.runs.Kind.{Kind}
-use Rattle.sequence_diagram.specs.declared.runs.Kind.TheVariants.{Parts, Keys}
+use Rattle.sequence_diagram.specs.declared.runs.RunKind.{RunKind}
+use Rattle.sequence_diagram.specs.declared.runs.RunKind.TheVariants.{Parts, Keys}
 
 -- ---- one event
 
@@ -45,11 +45,11 @@ taker_in port (moment ∷ moments) =
     if is_port port (key_of moment) then option_or (taker_of moment.event) (taker_in port moments) else None
 
 -- what an event is like with which these events begin
-abbrev keys_of : Option ℕ → List Moment → Option Kind
+abbrev keys_of : Option ℕ → List Moment → Option RunKind
 keys_of None moments = None
 keys_of (Some port) moments = Some (Keys port (taker_in port moments))
 
-abbrev pub kind_of : Moment → List Moment → Option Kind
+abbrev pub kind_of : Moment → List Moment → Option RunKind
 kind_of moment moments = if is_part moment then Some Parts else keys_of (key_of moment) moments
 
 -- keys of one terminal are alike if none of them is taken by another node
@@ -58,16 +58,16 @@ is_taken_by (event.TakeKey taker port index) (Some node) = taker == node
 is_taken_by (event.TakeKey taker port index) None = false
 is_taken_by other by = true
 
-abbrev pub is_of_kind : Kind → Moment → Bool
+abbrev pub is_of_kind : RunKind → Moment → Bool
 is_of_kind Parts moment = is_part moment
 is_of_kind (Keys port by) moment = is_port port (key_of moment) && is_taken_by moment.event by
 
 -- all parts in a row share one line, and keys in a row if they are more than eight
-abbrev pub shared : Kind → ℕ → ℕ
+abbrev pub shared : RunKind → ℕ → ℕ
 shared Parts count = count
 shared (Keys port by) count = if nat_lt 8 count then count else 1
 
-abbrev run_by : Option Kind → List Moment → ℕ
+abbrev run_by : Option RunKind → List Moment → ℕ
 run_by None after = 1
 run_by (Some kind) after = shared kind (1 + prefix_len (is_of_kind kind) after)
 

@@ -14,11 +14,11 @@ use Rattle.sequence_diagram.specs.Arrows.{HasArrow}
 use Rattle.sequence_diagram.specs.declared.arrows.Arrow.{Arrow}
 use Rattle.sequence_diagram.specs.declared.moment.Cargo.{Cargo}
 use Rattle.sequence_diagram.specs.declared.moment.Cargo.TheVariants.{Acknowledgement}
-use Rattle.sequence_diagram.specs.declared.moment.Look.{Look}
+use Rattle.sequence_diagram.specs.declared.moment.NodeLook.{NodeLook}
 use Rattle.sequence_diagram.specs.declared.moment.Moment.{Moment}
-use Rattle.sequence_diagram.specs.declared.waits.Operation.{Operation}
+use Rattle.sequence_diagram.specs.declared.waits.WaitingOperation.{WaitingOperation}
 use Rattle.sequence_diagram.specs.declared.waits.Tally.{Tally}
-use Rattle.sequence_diagram.specs.declared.waits.Wait.{Wait}
+use Rattle.sequence_diagram.specs.declared.waits.OutputWait.{OutputWait}
 
 -- Of the generation's primary: how many entries it has logged, how many there were at its last read of a sector, how many its
 -- backup holds and has replayed, and its operations that wait.
@@ -28,7 +28,7 @@ pub record Standing : Type 0 where
   pub last_read : ℕ
   pub held : ℕ
   pub replayed : ℕ
-  pub waiting : List Operation
+  pub waiting : List WaitingOperation
 
 abbrev pub standing_of : Tally → Standing
 standing_of tally = record {
@@ -40,7 +40,7 @@ standing_of tally = record {
   waiting = tally.waiting.items;
 }
 
-abbrev pub wait_of : Standing → Wait
+abbrev pub wait_of : Standing → OutputWait
 wait_of s = record { node = s.node; operations = length s.waiting }
 
 -- a generation begins or ends: nothing waits
@@ -83,7 +83,7 @@ noted_by happened reply.Won node role s = begun node
 noted_by happened reply.Stopped node role s = if node == s.node then begun node else s
 noted_by happened answer node role s = logged_by role happened answer node s
 
-abbrev pub noted_if : Option Look → Event → Result Reply Fault → Standing → Standing
+abbrev pub noted_if : Option NodeLook → Event → Result Reply Fault → Standing → Standing
 noted_if (Some look) happened (Ok answer) s = noted_by happened answer look.node look.role s
 noted_if look happened answer s = s
 
@@ -91,7 +91,7 @@ abbrev pub noted : Moment → Standing → Standing
 noted moment s = noted_if moment.look moment.event moment.answer s
 
 -- an operation waits until its entry is held, and the reads before it are replayed
-abbrev pub still_waits : ℕ → ℕ → Operation → Bool
+abbrev pub still_waits : ℕ → ℕ → WaitingOperation → Bool
 still_waits held replayed operation = nat_le held operation.index || nat_lt replayed operation.after
 
 abbrev pub acknowledged : ℕ → ℕ → Standing → Standing
@@ -130,10 +130,10 @@ StandsThen moments place before after = (moment : Moment) × ((slice_get moments
     × ((cargo : Option Cargo) × (HasCargo moments place cargo × (after ≡ after_event moment cargo before))))
 
 -- what stands after so many events, and what has waited after each of them
-abbrev pub WaitsAfter : List Moment → ℕ → Standing → List Wait → Type 0
+abbrev pub WaitsAfter : List Moment → ℕ → Standing → List OutputWait → Type 0
 WaitsAfter moments zero s waits = (s ≡ begun 0) × (waits ≡ [])
-WaitsAfter moments (suc place) s waits = (before : Standing) × ((waited : List Wait)
+WaitsAfter moments (suc place) s waits = (before : Standing) × ((waited : List OutputWait)
     × (WaitsAfter moments place before waited × (StandsThen moments place before s × (waits ≡ waited ++ wait_of s ∷ []))))
 
-abbrev pub AreWaits : List Moment → List Wait → Type 0
+abbrev pub AreWaits : List Moment → List OutputWait → Type 0
 AreWaits moments waits = (s : Standing) × WaitsAfter moments (length moments) s waits

@@ -20,7 +20,7 @@ use Rattle.pair_events.specs.declared.reply.Reply.TheVariants as reply
 use Rattle.sequence_diagram.specs.Messages.{delivered_by}
 use Rattle.sequence_diagram.specs.declared.moment.Cargo.{Cargo}
 use Rattle.sequence_diagram.specs.declared.moment.Cargo.TheVariants as cargo
-use Rattle.sequence_diagram.specs.declared.moment.Look.{Look}
+use Rattle.sequence_diagram.specs.declared.moment.NodeLook.{NodeLook}
 use Rattle.sequence_diagram.specs.declared.moment.Moment.{Moment}
 
 -- ---- numbers, bytes and operations
@@ -216,7 +216,7 @@ result_text reply.Dropped = codes "dropped"
 result_text reply.Whole = codes "the copy is whole"
 result_text other = []
 
-abbrev pub winner_text : Option Look → List ℕ
+abbrev pub winner_text : Option NodeLook → List ℕ
 winner_text (Some look) = codes "node" ␣ decimal look.node ++ codes " has won"
 winner_text None = []
 
@@ -224,11 +224,11 @@ abbrev pub arbiter_text : Event → List ℕ
 arbiter_text (event.Suspect node) = codes "refuses: the other won"
 arbiter_text other = reason_text refusal.Lost
 
-abbrev pub came_text : Event → Reply → Option Look → List ℕ
+abbrev pub came_text : Event → Reply → Option NodeLook → List ℕ
 came_text (event.Suspect node) answer look = winner_text look
 came_text other answer look = result_text answer
 
-abbrev pub outcome_by : Event → Result Reply Fault → Option Look → List ℕ
+abbrev pub outcome_by : Event → Result Reply Fault → Option NodeLook → List ℕ
 outcome_by happened (Err refusal.Lost) look = arbiter_text happened
 outcome_by happened (Err fault) look = reason_text fault
 outcome_by happened (Ok answer) look = came_text happened answer look

@@ -4,35 +4,35 @@ ghost use Rattle.sequence_diagram.specs.Aims.{HasAim, HasOrigin, first_peer, pai
 
 use crate::arrows::arrow_to;
 use crate::moment::Moment;
-use crate::place::{Place, node_of, sender_of};
+use crate::place::{Lifeline, node_of, sender_of};
 use event_callbacks::OpId;
 use pair_events::{Event, Reply};
 
 /// Where the message that the event at a place of the run sent should arrive.
-pub fn aim_of(moments: &[Moment], place: usize) -> Option<Place>
+pub fn aim_of(moments: &[Moment], place: usize) -> Option<Lifeline>
     ensures { HasAim moments.now place result }
 {
     let moment = moments.get(place)?;
     match moment.event {
         Event::Send { node, .. } | Event::Acknowledge { node } | Event::SendPart { node, .. } => {
-            Some(Place::Node(peer_at(moments, place, node)))
+            Some(Lifeline::Node(peer_at(moments, place, node)))
         }
         Event::Release {
             id: OpId::Byte(port, _),
             ..
-        } => Some(Place::Terminal(port)),
+        } => Some(Lifeline::Terminal(port)),
         Event::Release {
             id: OpId::Write(_),
             ..
-        } => Some(Place::Disk),
+        } => Some(Lifeline::Disk),
         Event::Put { .. } => origin_of(moments, place),
-        other => Some(Place::Node(node_of(other)?)),
+        other => Some(Lifeline::Node(node_of(other)?)),
     }
 }
 
 // Where the message was sent that an event has brought.
 #[tactic(auto, using(crate::proofs::Aiming::brings_nothing, crate::proofs::Aiming::brings_lost, crate::proofs::Aiming::brings_sent))]
-fn origin_of(moments: &[Moment], place: usize) -> Option<Place>
+fn origin_of(moments: &[Moment], place: usize) -> Option<Lifeline>
     ensures { HasOrigin moments.now place result }
 {
     let arrow = arrow_to(moments, place)?;

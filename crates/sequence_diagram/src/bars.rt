@@ -3,7 +3,7 @@ ghost use Rattle.std.specs.Prelude.{◌≡◌, ◌+◌, ◌<◌, MatchOption, le
 ghost use Rattle.sequence_diagram.specs.Bars.{HasBar, SomeWaits};
 ghost use Rattle.sequence_diagram.specs.Marks.{operations_at, operations_before};
 
-use crate::waits::Wait;
+use crate::waits::OutputWait;
 
 /// A bar: the node beside whose line it is, and the place in the run of the event at which it ends; none if some operation waits to the
 /// end of the run.
@@ -14,7 +14,7 @@ pub struct Bar {
 }
 
 /// The bar that begins at an event, by its place in the run.
-pub fn bar_from(waits: &[Wait], place: usize) -> Option<Bar>
+pub fn bar_from(waits: &[OutputWait], place: usize) -> Option<Bar>
     ensures { HasBar waits.now place result }
 {
     let wait = waits.get(place)?;
@@ -28,7 +28,7 @@ pub fn bar_from(waits: &[Wait], place: usize) -> Option<Bar>
 }
 
 // The first event after a place after which none waits.
-fn end_after(waits: &[Wait], place: usize) -> Option<usize>
+fn end_after(waits: &[OutputWait], place: usize) -> Option<usize>
     ensures { MatchOption result (SomeWaits waits.now (place + 1) (length waits.now)) (λ end. (place < end)
         × (operations_at waits.now end ≡ 0) × SomeWaits waits.now (place + 1) end) }
 {
@@ -41,7 +41,7 @@ fn end_after(waits: &[Wait], place: usize) -> Option<usize>
 }
 
 /// How many operations wait before an event.
-pub fn operations_before(waits: &[Wait], place: usize) -> usize
+pub fn operations_before(waits: &[OutputWait], place: usize) -> usize
     ensures { result ≡ operations_before waits.now place }
 {
     if place == 0 {
@@ -51,7 +51,7 @@ pub fn operations_before(waits: &[Wait], place: usize) -> usize
 }
 
 // How many operations wait after an event.
-fn operations_at(waits: &[Wait], place: usize) -> usize
+fn operations_at(waits: &[OutputWait], place: usize) -> usize
     ensures { result ≡ operations_at waits.now place }
 {
     match waits.get(place) {

@@ -23,7 +23,7 @@ struct Hexadecimal(u8);
 
 // The input of an entry of the log; none if it is a mark.
 #[derive(Clone, Copy)]
-struct Input(Option<Bare>);
+struct InputText(Option<Bare>);
 
 impl fmt::Display for Carried {
     ghost output = { λ carried. Some (carried_text carried.0) };
@@ -75,7 +75,7 @@ fn write_entry<W: fmt::Write>(
 ) -> fmt::Result
     ensures { WritesOnOk W.write_str_gives f.old result (entry_text index count input) f.new }
 {
-    write!(f, "entry {index}: {} at count {count}", Input(input))
+    write!(f, "entry {index}: {} at count {count}", InputText(input))
 }
 
 // How many entries a backup holds, and how many it has replayed, if it reports that.
@@ -118,7 +118,7 @@ fn write_sector<W: fmt::Write>(f: &mut fmt::Formatter<W>, number: u64, sector: u
     }
 }
 
-impl fmt::Display for Input {
+impl fmt::Display for InputText {
     ghost output = { λ input. Some (input_text input.0) };
 
     fn fmt<W: fmt::Write>(&self, f: &mut fmt::Formatter<W>) -> fmt::Result {

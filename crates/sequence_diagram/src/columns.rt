@@ -3,10 +3,10 @@ ghost use Rattle.std.specs.Prelude.{◌≡◌, ◌++◌, IfOk};
 ghost use Rattle.std.specs.List.{list_any};
 ghost use Rattle.sequence_diagram.specs.Columns.{answer_port, columns_of, event_port, host_in, hosts_in, is_port, nodes_in, takes_part, used, uses_disk};
 ghost use Rattle.sequence_diagram.specs.Places.{column_of, is_place};
-ghost use Rattle.sequence_diagram.specs.declared.place.Place.TheVariants.{Terminal, Arbiter, Disk};
+ghost use Rattle.sequence_diagram.specs.declared.place.Lifeline.TheVariants.{Terminal, Arbiter, Disk};
 
 use crate::moment::Moment;
-use crate::place::Place;
+use crate::place::Lifeline;
 use event_callbacks::OpId;
 use guest_lockstep::StopReason;
 use i8080_words::R;
@@ -16,7 +16,7 @@ use std::alloc::{AllocError, Global};
 /// The places that take part in a run. Nodes 0 and 1 always do.
 #[derive(Drop)]
 pub struct Columns {
-    pub places: Vec<Place>,
+    pub places: Vec<Lifeline>,
 }
 
 impl Columns {
@@ -30,7 +30,7 @@ impl Columns {
     }
 
     /// The column of a place, from 0; the first if it has none.
-    pub fn column(&self, place: Place) -> usize
+    pub fn column(&self, place: Lifeline) -> usize
         ensures { result ≡ column_of self.now.places.items place }
     {
         let mut rest = self.places.as_slice();
@@ -47,31 +47,35 @@ impl Columns {
 }
 
 // Whether two places are the same.
-fn is_place(place: Place, other: Place) -> bool
+fn is_place(place: Lifeline, other: Lifeline) -> bool
     ensures { result ≡ is_place place other }
 {
     match (place, other) {
-        (Place::Terminal(port), Place::Terminal(other)) => port == other,
-        (Place::Node(node), Place::Node(other)) => node == other,
-        (Place::Arbiter, Place::Arbiter) | (Place::Disk, Place::Disk) => true,
+        (Lifeline::Terminal(port), Lifeline::Terminal(other)) => port == other,
+        (Lifeline::Node(node), Lifeline::Node(other)) => node == other,
+        (Lifeline::Arbiter, Lifeline::Arbiter) | (Lifeline::Disk, Lifeline::Disk) => true,
         _ => false,
     }
 }
 
 // Adds the places of a run to others.
-fn add_all(moments: &[Moment], places: &mut Vec<Place>) -> Result<(), AllocError>
+fn add_all(moments: &[Moment], places: &mut Vec<Lifeline>) -> Result<(), AllocError>
     ensures { IfOk result (λ _. places.new.items ≡ places.old.items ++ used (Terminal 0) moments.now
         ++ used (Terminal 1) moments.now ++ nodes_in moments.now ++ used Arbiter moments.now ++ used Disk moments.now) }
 {
-    add_if_used(Place::Terminal(0), moments, places)?;
-    add_if_used(Place::Terminal(1), moments, places)?;
+    add_if_used(Lifeline::Terminal(0), moments, places)?;
+    add_if_used(Lifeline::Terminal(1), moments, places)?;
     add_nodes(moments, places)?;
-    add_if_used(Place::Arbiter, moments, places)?;
-    add_if_used(Place::Disk, moments, places)
+    add_if_used(Lifeline::Arbiter, moments, places)?;
+    add_if_used(Lifeline::Disk, moments, places)
 }
 
 // Adds a place, if it takes part.
-fn add_if_used(place: Place, moments: &[Moment], places: &mut Vec<Place>) -> Result<(), AllocError>
+fn add_if_used(
+    place: Lifeline,
+    moments: &[Moment],
+    places: &mut Vec<Lifeline>,
+) -> Result<(), AllocError>
     ensures { IfOk result (λ _. places.new.items ≡ places.old.items ++ used place moments.now) }
 {
     if is_used(place, moments) {
@@ -81,7 +85,7 @@ fn add_if_used(place: Place, moments: &[Moment], places: &mut Vec<Place>) -> Res
 }
 
 // Whether a place takes part in an event of a run.
-fn is_used(place: Place, moments: &[Moment]) -> bool
+fn is_used(place: Lifeline, moments: &[Moment]) -> bool
     ensures { result ≡ list_any (takes_part place) moments.now }
 {
     let mut rest = moments;
@@ -96,16 +100,16 @@ fn is_used(place: Place, moments: &[Moment]) -> bool
 
 // Adds nodes 0 and 1, and the hosts with which pairs have begun.
 #[tactic(auto, using(crate::proofs::Joining::nodes_added))]
-fn add_nodes(moments: &[Moment], places: &mut Vec<Place>) -> Result<(), AllocError>
+fn add_nodes(moments: &[Moment], places: &mut Vec<Lifeline>) -> Result<(), AllocError>
     ensures { IfOk result (λ _. places.new.items ≡ places.old.items ++ nodes_in moments.now) }
 {
-    places.push(Place::Node(0))?;
-    places.push(Place::Node(1))?;
+    places.push(Lifeline::Node(0))?;
+    places.push(Lifeline::Node(1))?;
     add_hosts(moments, places)
 }
 
 #[tactic(auto, using(crate::proofs::Joining::host_added, crate::proofs::Joining::hosts_added))]
-fn add_hosts(moments: &[Moment], places: &mut Vec<Place>) -> Result<(), AllocError>
+fn add_hosts(moments: &[Moment], places: &mut Vec<Lifeline>) -> Result<(), AllocError>
     ensures { IfOk result (λ _. places.new.items ≡ places.old.items ++ hosts_in moments.now) }
 {
     let mut rest = moments;
@@ -117,29 +121,29 @@ fn add_hosts(moments: &[Moment], places: &mut Vec<Place>) -> Result<(), AllocErr
 }
 
 // Adds the host with which a pair has begun at an event, if one has.
-fn add_host(moment: &Moment, places: &mut Vec<Place>) -> Result<(), AllocError>
+fn add_host(moment: &Moment, places: &mut Vec<Lifeline>) -> Result<(), AllocError>
     ensures { IfOk result (λ _. places.new.items ≡ places.old.items ++ host_in moment.now) }
 {
     if let (Event::BeginPair { host, .. }, Ok(Reply::Generation { .. })) = (
         moment.event,
         moment.answer,
     ) {
-        places.push(Place::Node(host))?;
+        places.push(Lifeline::Node(host))?;
     }
     Ok(())
 }
 
 // Whether a place other than a node takes part in an event.
-fn takes_part(place: Place, moment: &Moment) -> bool
+fn takes_part(place: Lifeline, moment: &Moment) -> bool
     ensures { result ≡ takes_part place moment.now }
 {
     match place {
-        Place::Terminal(port) => {
+        Lifeline::Terminal(port) => {
             is_port(port, event_port(moment.event)) || is_port(port, answer_port(moment.answer))
         }
-        Place::Node(_) => false,
-        Place::Arbiter => matches!(moment.event, Event::Suspect { .. }),
-        Place::Disk => uses_disk(moment.event),
+        Lifeline::Node(_) => false,
+        Lifeline::Arbiter => matches!(moment.event, Event::Suspect { .. }),
+        Lifeline::Disk => uses_disk(moment.event),
     }
 }
 

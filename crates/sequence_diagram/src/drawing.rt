@@ -17,18 +17,18 @@ pub struct Drawing {
 
 /// On which side of its point a text is.
 #[derive(Clone, Copy)]
-pub enum Side {
+pub enum TextSide {
     Left,
     Middle,
     Right,
 }
 
-impl Side {
+impl TextSide {
     fn anchor(self) -> &'static str {
         match self {
-            Side::Left => "end",
-            Side::Middle => "middle",
-            Side::Right => "start",
+            TextSide::Left => "end",
+            TextSide::Middle => "middle",
+            TextSide::Right => "start",
         }
     }
 }
@@ -109,7 +109,7 @@ impl Drawing {
         &mut self,
         class: &str,
         at: Point,
-        side: Side,
+        side: TextSide,
         words: &D,
     ) -> Result<(), AllocError> {
         self.words.clear();
@@ -123,7 +123,7 @@ impl Drawing {
     }
 
     // The tag before words.
-    fn tag(&mut self, class: &str, at: Point, side: Side) -> Result<(), AllocError> {
+    fn tag(&mut self, class: &str, at: Point, side: TextSide) -> Result<(), AllocError> {
         write!(
             self.text,
             "<text class=\"{class}\" x=\"{}\" y=\"{}\" text-anchor=\"{}\">",

@@ -3,15 +3,15 @@ ghost use Rattle.std.specs.Prelude.{◌≡◌};
 ghost use Rattle.sequence_diagram.specs.Places.{exchange_of};
 
 use crate::moment::Moment;
-use crate::place::Place;
+use crate::place::Lifeline;
 use i8080_words::Fault;
 use pair_events::Event;
 
 /// An exchange: who begins it, and with whom.
 #[derive(Clone, Copy)]
 pub struct Exchange {
-    pub from: Place,
-    pub to: Place,
+    pub from: Lifeline,
+    pub to: Lifeline,
 }
 
 /// The exchange that an event is, if it was not refused; a refusal by the arbiter is also an answer.
@@ -20,19 +20,19 @@ pub fn exchange_of(moment: &Moment) -> Option<Exchange>
 {
     match (moment.event, moment.answer) {
         (Event::Suspect { node }, Ok(_) | Err(Fault::Lost)) => Some(Exchange {
-            from: Place::Node(node),
-            to: Place::Arbiter,
+            from: Lifeline::Node(node),
+            to: Lifeline::Arbiter,
         }),
         (_, Err(_)) => None,
         (Event::TakeKey { node, port, .. } | Event::TellSent { node, port, .. }, Ok(_)) => {
             Some(Exchange {
-                from: Place::Terminal(port),
-                to: Place::Node(node),
+                from: Lifeline::Terminal(port),
+                to: Lifeline::Node(node),
             })
         }
         (Event::Told { node, port }, Ok(_)) => Some(Exchange {
-            from: Place::Node(node),
-            to: Place::Terminal(port),
+            from: Lifeline::Node(node),
+            to: Lifeline::Terminal(port),
         }),
         _ => None,
     }

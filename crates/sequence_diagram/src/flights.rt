@@ -5,14 +5,14 @@ ghost use Rattle.sequence_diagram.specs.Waits.{HasCargo};
 
 use crate::arrows::{arrow_to, departure_from};
 use crate::moment::{Cargo, Moment};
-use crate::place::{Place, receiver_of, sender_of};
+use crate::place::{Lifeline, receiver_of, sender_of};
 
 /// The way of a message that arrived: from where to where, the place in the run of the event that sent it, and whether it
 /// had arrived before.
 #[derive(Clone, Copy)]
 pub struct Flight {
-    pub from: Place,
-    pub to: Place,
+    pub from: Lifeline,
+    pub to: Lifeline,
     pub sent: usize,
     pub is_again: bool,
 }

@@ -6,7 +6,7 @@ ghost use Rattle.sequence_diagram.specs.Folds.{AreOfLine, HasNotedPart, NotesKey
 use crate::cargo::write_number_and;
 use crate::exchanges::{Exchange, exchange_of};
 use crate::flights::{Flight, flight_to};
-use crate::lines::Lines;
+use crate::lines::EventLines;
 use crate::moment::Moment;
 use i8080_words::R;
 use pair_events::{Event, Reply};
@@ -15,7 +15,7 @@ use std::fmt;
 /// Parts of a copy on one line: how many were sent and how many arrived, the index of the first that was sent, the way of the first
 /// that arrived, and whether the copy is whole.
 #[derive(Clone, Copy)]
-pub struct Parts {
+pub struct FoldedParts {
     pub sent: u64,
     pub came: u64,
     pub index: Option<u64>,
@@ -25,7 +25,7 @@ pub struct Parts {
 
 /// Keys of a terminal on one line: how many were typed and how many were taken, and the way of the first that was taken.
 #[derive(Clone, Copy)]
-pub struct Keys {
+pub struct FoldedKeys {
     pub typed: u64,
     pub taken: u64,
     pub exchange: Option<Exchange>,
@@ -33,10 +33,10 @@ pub struct Keys {
 
 /// The parts on the line that an event begins.
 #[tactic(auto, using(crate::proofs::Folding::of_line, crate::proofs::Folding::of_last_line))]
-pub fn parts_from(moments: &[Moment], lines: &Lines, first: usize) -> Parts
+pub fn parts_from(moments: &[Moment], lines: &EventLines, first: usize) -> FoldedParts
     ensures { AreOfLine (HasNotedPart moments.now) no_parts moments.now lines.now.of.items first result }
 {
-    let mut parts = Parts {
+    let mut parts = FoldedParts {
         sent: 0,
         came: 0,
         index: None,
@@ -54,10 +54,10 @@ pub fn parts_from(moments: &[Moment], lines: &Lines, first: usize) -> Parts
 
 /// The keys on the line that an event begins.
 #[tactic(auto, using(crate::proofs::Folding::of_line, crate::proofs::Folding::of_last_line))]
-pub fn keys_from(moments: &[Moment], lines: &Lines, first: usize) -> Keys
+pub fn keys_from(moments: &[Moment], lines: &EventLines, first: usize) -> FoldedKeys
     ensures { AreOfLine (NotesKey moments.now) no_keys moments.now lines.now.of.items first result }
 {
-    let mut keys = Keys {
+    let mut keys = FoldedKeys {
         typed: 0,
         taken: 0,
         exchange: None,
@@ -71,7 +71,7 @@ pub fn keys_from(moments: &[Moment], lines: &Lines, first: usize) -> Keys
     keys
 }
 
-impl Parts {
+impl FoldedParts {
     // Notes one more event of the line.
     fn note(&mut self, moments: &[Moment], place: usize)
         ensures { HasNotedPart moments.now place self.old self.new }
@@ -110,7 +110,7 @@ impl Parts {
     }
 }
 
-impl Keys {
+impl FoldedKeys {
     // Notes one more event of the line.
     fn note(&mut self, moments: &[Moment], place: usize)
         ensures { NotesKey moments.now place self.old self.new }
@@ -128,7 +128,7 @@ impl Keys {
     }
 }
 
-impl fmt::Display for Parts {
+impl fmt::Display for FoldedParts {
     ghost output = { λ parts. Some (parts_text parts) };
 
     fn fmt<W: fmt::Write>(&self, f: &mut fmt::Formatter<W>) -> fmt::Result {
@@ -151,7 +151,7 @@ fn write_parts<W: fmt::Write>(f: &mut fmt::Formatter<W>, count: u64) -> fmt::Res
     write!(f, "{count} parts of the copy")
 }
 
-impl fmt::Display for Keys {
+impl fmt::Display for FoldedKeys {
     ghost output = { λ keys. Some (keys_text keys.typed keys.taken) };
 
     fn fmt<W: fmt::Write>(&self, f: &mut fmt::Formatter<W>) -> fmt::Result {

@@ -13,7 +13,7 @@ use std::fmt;
 
 /// What the disk has done with the write that the event at a place of a run brought, if it has answered it.
 #[derive(Clone, Copy)]
-pub struct Kept<'a> {
+pub struct KeptText<'a> {
     pub moments: &'a [Moment],
     pub place: usize,
 }
@@ -25,7 +25,7 @@ pub struct Arrival {
     pub address: SectorAddress,
 }
 
-impl fmt::Display for Kept<'_> {
+impl fmt::Display for KeptText<'_> {
     fn fmt<W: fmt::Write>(&self, f: &mut fmt::Formatter<W>) -> fmt::Result {
         let Some(arrival) = arrival_at(self.moments, self.place) else {
             return Ok(());

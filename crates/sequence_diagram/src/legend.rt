@@ -1,6 +1,6 @@
 //! The style of a picture, and the legend below it.
 
-use crate::drawing::{Drawing, Side};
+use crate::drawing::{Drawing, TextSide};
 use crate::geometry::Point;
 use crate::lifelines::draw_band;
 use pair_events::Role;
@@ -88,7 +88,7 @@ fn draw_role(drawing: &mut Drawing, role: Role, at: Point) -> Result<(), AllocEr
         x: at.x.saturating_add(12),
         y: at.y.saturating_add(14),
     };
-    drawing.words("role", beside, Side::Right, &role)
+    drawing.words("role", beside, TextSide::Right, &role)
 }
 
 // Draws what the lines mean.
@@ -119,5 +119,5 @@ fn draw_line(
         x: at.x.saturating_add(54),
         y: at.y.saturating_add(4),
     };
-    drawing.words("role", beside, Side::Right, &meaning)
+    drawing.words("role", beside, TextSide::Right, &meaning)
 }

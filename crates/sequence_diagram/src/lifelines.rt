@@ -3,11 +3,11 @@ ghost use Rattle.std.specs.Prelude.{◌≡◌};
 ghost use Rattle.sequence_diagram.specs.Marks.{class_of};
 ghost use Rattle.sequence_diagram.specs.Places.{first_role};
 
-use crate::drawing::{Drawing, Side};
+use crate::drawing::{Drawing, TextSide};
 use crate::geometry::Point;
 use crate::moment::Moment;
-use crate::place::Place;
-use crate::plan::Plan;
+use crate::place::Lifeline;
+use crate::plan::Layout;
 use pair_events::Role;
 use std::alloc::AllocError;
 
@@ -28,12 +28,12 @@ pub fn first_role(node: u64) -> Option<Role>
 /// Draws the heads and the lines of all columns.
 pub fn draw_columns(
     drawing: &mut Drawing,
-    plan: &Plan,
+    plan: &Layout,
     moments: &[Moment],
 ) -> Result<(), AllocError> {
     for place in plan.columns.places.as_slice() {
         draw_column(drawing, plan, *place)?;
-        if let Place::Node(node) = *place {
+        if let Lifeline::Node(node) = *place {
             draw_roles(drawing, plan, node, moments)?;
         }
     }
@@ -41,9 +41,9 @@ pub fn draw_columns(
 }
 
 // Draws the head and the line of a column.
-fn draw_column(drawing: &mut Drawing, plan: &Plan, place: Place) -> Result<(), AllocError> {
+fn draw_column(drawing: &mut Drawing, plan: &Layout, place: Lifeline) -> Result<(), AllocError> {
     let x = plan.x(place);
-    drawing.words("head", Point { x, y: 32 }, Side::Middle, &place)?;
+    drawing.words("head", Point { x, y: 32 }, TextSide::Middle, &place)?;
     let end = Point { x, y: plan.bottom };
     drawing.line("rest", Point { x, y: HEAD }, end)
 }
@@ -51,11 +51,11 @@ fn draw_column(drawing: &mut Drawing, plan: &Plan, place: Place) -> Result<(), A
 // Draws the line of a node, role by role.
 fn draw_roles(
     drawing: &mut Drawing,
-    plan: &Plan,
+    plan: &Layout,
     node: u64,
     moments: &[Moment],
 ) -> Result<(), AllocError> {
-    let x = plan.x(Place::Node(node));
+    let x = plan.x(Lifeline::Node(node));
     let mut role = first_role(node);
     let mut begun = HEAD;
     draw_first_role(drawing, role, x)?;
@@ -75,8 +75,8 @@ fn draw_roles(
 fn draw_first_role(drawing: &mut Drawing, role: Option<Role>, x: u64) -> Result<(), AllocError> {
     let at = Point { x, y: 50 };
     match &role {
-        Some(role) => drawing.words("role", at, Side::Middle, role),
-        None => drawing.words("role", at, Side::Middle, &"spare host"),
+        Some(role) => drawing.words("role", at, TextSide::Middle, role),
+        None => drawing.words("role", at, TextSide::Middle, &"spare host"),
     }
 }
 

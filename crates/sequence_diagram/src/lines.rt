@@ -8,12 +8,12 @@ use std::alloc::{AllocError, Global};
 
 /// The line of each event of a run, from 0, and how many lines there are.
 #[derive(Drop)]
-pub struct Lines {
+pub struct EventLines {
     pub of: Vec<usize>,
     pub count: usize,
 }
 
-impl Lines {
+impl EventLines {
     /// The line of an event, by its place in the run.
     pub fn line(&self, place: usize) -> usize
         ensures { result ≡ line_at self.now.of.items place }
@@ -54,7 +54,7 @@ impl Lines {
 /// Each event has a line of its own, with these exceptions: consecutive parts of a copy share one line; so do many events with which keys
 /// of one terminal are typed and taken one after another; and so does a message that arrives right after it was sent, unless it is
 /// answered there.
-pub fn lines_of(alloc: Global, moments: &[Moment]) -> Result<Lines, AllocError>
+pub fn lines_of(alloc: Global, moments: &[Moment]) -> Result<EventLines, AllocError>
     ensures { IfOk result (λ lines. AreLines 0 moments.now lines.of.items lines.count) }
 {
     let mut of = Vec::new(alloc);
@@ -67,7 +67,7 @@ pub fn lines_of(alloc: Global, moments: &[Moment]) -> Result<Lines, AllocError>
         let (_, after) = rest.split_at(events);
         rest = after;
     }
-    Ok(Lines { of, count })
+    Ok(EventLines { of, count })
 }
 
 // Adds the line of so many events.

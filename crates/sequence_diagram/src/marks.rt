@@ -3,12 +3,12 @@ ghost use Rattle.std.specs.Prelude.{◌≡◌};
 ghost use Rattle.sequence_diagram.specs.Marks.{is_news, look_after, told_wait};
 
 use crate::bars::operations_before;
-use crate::drawing::{Drawing, Side};
+use crate::drawing::{Drawing, TextSide};
 use crate::geometry::Point;
-use crate::moment::{Look, Moment};
-use crate::place::Place;
-use crate::plan::Plan;
-use crate::waits::Wait;
+use crate::moment::{Moment, NodeLook};
+use crate::place::Lifeline;
+use crate::plan::Layout;
+use crate::waits::OutputWait;
 use pair_events::Reply;
 use std::alloc::AllocError;
 
@@ -27,7 +27,7 @@ pub fn count_width(moment: &Moment) -> Option<u64> {
 }
 
 // What a node shows whose machine has run.
-fn look_after(moment: &Moment) -> Option<Look>
+fn look_after(moment: &Moment) -> Option<NodeLook>
     ensures { result ≡ look_after moment.now }
 {
     match moment.answer {
@@ -68,13 +68,13 @@ pub fn draw_count(drawing: &mut Drawing, moment: &Moment, at: Point) -> Result<(
         x: at.x,
         y: at.y.saturating_add(4),
     };
-    drawing.words("count", below, Side::Middle, &look.count)
+    drawing.words("count", below, TextSide::Middle, &look.count)
 }
 
 /// Says how many operations of a primary wait, if it has given one more, or an acknowledgement has covered some.
 pub fn draw_waiting(
     drawing: &mut Drawing,
-    plan: &Plan,
+    plan: &Layout,
     moments: &[Moment],
     place: usize,
 ) -> Result<(), AllocError> {
@@ -86,20 +86,20 @@ pub fn draw_waiting(
     };
     let aside = count_width(moment).unwrap_or(BESIDE);
     let at = Point {
-        x: plan.x(Place::Node(wait.node)).saturating_sub(aside),
+        x: plan.x(Lifeline::Node(wait.node)).saturating_sub(aside),
         y: plan.y(place).saturating_add(4),
     };
     let operations = wait.operations;
     drawing.words(
         "waiting",
         at,
-        Side::Left,
+        TextSide::Left,
         &format_args!("waits: {operations}"),
     )
 }
 
 // What waits after an event, if that is told.
-fn told_wait(waits: &[Wait], moment: &Moment, place: usize) -> Option<Wait>
+fn told_wait(waits: &[OutputWait], moment: &Moment, place: usize) -> Option<OutputWait>
     ensures { result ≡ told_wait waits.now moment.now place }
 {
     let wait = waits.get(place)?;

@@ -48,7 +48,7 @@ pub enum Cargo {
 
 /// What a node shows of itself.
 #[derive(Clone, Copy)]
-pub struct Look {
+pub struct NodeLook {
     pub node: u64,
     pub role: Role,
     pub count: u64,
@@ -61,7 +61,7 @@ pub struct Moment {
     pub event: Event,
     pub answer: R<Reply>,
     pub cargo: Option<Cargo>,
-    pub look: Option<Look>,
+    pub look: Option<NodeLook>,
 }
 
 impl Moment {
@@ -97,7 +97,7 @@ impl Moment {
 }
 
 // The role that a node shows of itself.
-fn look_role(node: u64, look: Option<Look>) -> Option<Role>
+fn look_role(node: u64, look: Option<NodeLook>) -> Option<Role>
     ensures { result ≡ look_role node look }
 {
     let look = look?;

@@ -14,21 +14,21 @@ use std::fmt::{self, Display};
 
 /// What an event does at its place, or what was refused there. Of an exchange, what passes.
 #[derive(Clone, Copy)]
-pub struct Note(pub Moment);
+pub struct NoteText(pub Moment);
 
 /// An event by itself: what it does, or was to do. One that is to bring a message is named by that.
 #[derive(Clone, Copy)]
-pub struct Named(pub Event);
+pub struct NamedText(pub Event);
 
 /// That something is refused, and why.
 #[derive(Clone, Copy)]
-pub struct Reason(pub Fault);
+pub struct ReasonText(pub Fault);
 
 // An operation; port 0 goes without saying.
 #[derive(Clone, Copy)]
-struct Operation(OpId);
+struct OperationText(OpId);
 
-impl fmt::Display for Note {
+impl fmt::Display for NoteText {
     ghost output = { λ note. Some (note_text note.0) };
 
     fn fmt<W: fmt::Write>(&self, f: &mut fmt::Formatter<W>) -> fmt::Result {
@@ -70,10 +70,10 @@ fn write_because<W: fmt::Write>(
 ) -> fmt::Result
     ensures { WritesOnOk W.write_str_gives f.old result (because_text event fault) f.new }
 {
-    write!(f, "{}: {}", Named(event), Reason(fault))
+    write!(f, "{}: {}", NamedText(event), ReasonText(fault))
 }
 
-impl fmt::Display for Named {
+impl fmt::Display for NamedText {
     ghost output = { λ named. Some (named_text named.0) };
 
     fn fmt<W: fmt::Write>(&self, f: &mut fmt::Formatter<W>) -> fmt::Result {
@@ -84,7 +84,7 @@ impl fmt::Display for Named {
     }
 }
 
-impl fmt::Display for Reason {
+impl fmt::Display for ReasonText {
     ghost output = { λ reason. Some (reason_text reason.0) };
 
     fn fmt<W: fmt::Write>(&self, f: &mut fmt::Formatter<W>) -> fmt::Result {
@@ -179,10 +179,10 @@ fn write_stopped<W: fmt::Write>(f: &mut fmt::Formatter<W>, fault: Fault) -> fmt:
 fn write_operation<W: fmt::Write>(f: &mut fmt::Formatter<W>, words: &str, id: OpId) -> fmt::Result
     ensures { WritesOnOk W.write_str_gives f.old result (words.now ␣ operation_text id) f.new }
 {
-    write!(f, "{words} {}", Operation(id))
+    write!(f, "{words} {}", OperationText(id))
 }
 
-impl fmt::Display for Operation {
+impl fmt::Display for OperationText {
     ghost output = { λ operation. Some (operation_text operation.0) };
 
     fn fmt<W: fmt::Write>(&self, f: &mut fmt::Formatter<W>) -> fmt::Result {

@@ -4,17 +4,17 @@ ghost use Rattle.std.specs.Fmt.{WritesOnOk};
 ghost use Rattle.sequence_diagram.specs.Words.{arbiter_text, came_text, is_plain, outcome_text, result_text, winner_text};
 
 use crate::cargo::write_number_and;
-use crate::moment::{Look, Moment};
-use crate::notes::Reason;
+use crate::moment::{Moment, NodeLook};
+use crate::notes::ReasonText;
 use i8080_words::Fault;
 use pair_events::{Event, Reply};
 use std::fmt::{self, Display};
 
 /// What an event did with the message that it brought, or the result of an exchange; nothing if that is plain.
 #[derive(Clone, Copy)]
-pub struct Outcome(pub Moment);
+pub struct OutcomeText(pub Moment);
 
-impl Outcome {
+impl OutcomeText {
     /// Whether there is nothing to say.
     pub fn is_plain(&self) -> bool
         ensures { result ≡ is_plain self.now.0.answer }
@@ -26,7 +26,7 @@ impl Outcome {
     }
 }
 
-impl Display for Outcome {
+impl Display for OutcomeText {
     ghost output = { λ outcome. Some (outcome_text outcome.0) };
 
     fn fmt<W: fmt::Write>(&self, f: &mut fmt::Formatter<W>) -> fmt::Result {
@@ -38,7 +38,7 @@ impl Display for Outcome {
         } = self.0;
         match answer {
             Err(Fault::Lost) => write_lost(f, event),
-            Err(fault) => Reason(fault).fmt(f),
+            Err(fault) => ReasonText(fault).fmt(f),
             Ok(reply) => write_came(f, event, reply, look),
         }
     }
@@ -50,7 +50,7 @@ fn write_lost<W: fmt::Write>(f: &mut fmt::Formatter<W>, event: Event) -> fmt::Re
 {
     match event {
         Event::Suspect { .. } => f.write_str("refuses: the other won"),
-        _ => Reason(Fault::Lost).fmt(f),
+        _ => ReasonText(Fault::Lost).fmt(f),
     }
 }
 
@@ -59,7 +59,7 @@ fn write_came<W: fmt::Write>(
     f: &mut fmt::Formatter<W>,
     event: Event,
     reply: Reply,
-    look: Option<Look>,
+    look: Option<NodeLook>,
 ) -> fmt::Result
     ensures { WritesOnOk W.write_str_gives f.old result (came_text event reply look) f.new }
 {
@@ -69,11 +69,11 @@ fn write_came<W: fmt::Write>(
     }
 }
 
-fn write_winner<W: fmt::Write>(f: &mut fmt::Formatter<W>, look: Option<Look>) -> fmt::Result
+fn write_winner<W: fmt::Write>(f: &mut fmt::Formatter<W>, look: Option<NodeLook>) -> fmt::Result
     ensures { WritesOnOk W.write_str_gives f.old result (winner_text look) f.new }
 {
     match look {
-        Some(Look { node, .. }) => write_number_and(f, "node", node, " has won"),
+        Some(NodeLook { node, .. }) => write_number_and(f, "node", node, " has won"),
         None => Ok(()),
     }
 }

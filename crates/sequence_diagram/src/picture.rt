@@ -4,13 +4,13 @@ ghost use Rattle.sequence_diagram.specs.Geometry.{width_of};
 ghost use Rattle.sequence_diagram.specs.Plans.{height_over, width_in};
 ghost use Rattle.sequence_diagram.specs.Svg.{HasSize, IsPicture};
 
-use crate::drawing::{Drawing, Side};
+use crate::drawing::{Drawing, TextSide};
 use crate::geometry::{Point, WIDTH, picture_width};
 use crate::legend::{LEGEND, STYLE, draw_legend};
 use crate::lifelines::draw_columns;
 use crate::moment::Moment;
-use crate::place::Place;
-use crate::plan::Plan;
+use crate::place::Lifeline;
+use crate::plan::Layout;
 use crate::screens::{Accepted, accepted_in};
 use crate::strokes::{draw_loss, draw_stroke, draw_waits};
 use crate::texts::draw_texts;
@@ -25,14 +25,14 @@ const FOOT: u64 = 22;
 pub fn draw(alloc: Global, moments: &[Moment]) -> Result<String, AllocError>
     ensures { IfOk result (λ picture. IsPicture moments.now (string_bytes picture)) }
 {
-    let plan = Plan::of(alloc, moments)?;
+    let plan = Layout::of(alloc, moments)?;
     draw_plan(alloc, &plan, moments, STYLE)
 }
 
 // The run in a style.
 fn draw_plan(
     alloc: Global,
-    plan: &Plan,
+    plan: &Layout,
     moments: &[Moment],
     style: &str,
 ) -> Result<String, AllocError>
@@ -60,7 +60,7 @@ fn draw_page(drawing: &mut Drawing, width: u64, height: u64) -> Result<(), Alloc
 fn draw_run(
     alloc: Global,
     drawing: &mut Drawing,
-    plan: &Plan,
+    plan: &Layout,
     moments: &[Moment],
 ) -> Result<(), AllocError> {
     draw_columns(drawing, plan, moments)?;
@@ -72,7 +72,11 @@ fn draw_run(
 }
 
 // Draws what has arrived.
-fn draw_strokes(drawing: &mut Drawing, plan: &Plan, moments: &[Moment]) -> Result<(), AllocError> {
+fn draw_strokes(
+    drawing: &mut Drawing,
+    plan: &Layout,
+    moments: &[Moment],
+) -> Result<(), AllocError> {
     for place in 0..moments.len() {
         draw_stroke(drawing, plan, moments, place)?;
     }
@@ -83,7 +87,7 @@ fn draw_strokes(drawing: &mut Drawing, plan: &Plan, moments: &[Moment]) -> Resul
 fn draw_losses(
     alloc: Global,
     drawing: &mut Drawing,
-    plan: &Plan,
+    plan: &Layout,
     moments: &[Moment],
 ) -> Result<(), AllocError> {
     let ways = ways_of(alloc, plan, moments)?;
@@ -92,7 +96,7 @@ fn draw_losses(
 
 fn draw_lost(
     drawing: &mut Drawing,
-    plan: &Plan,
+    plan: &Layout,
     moments: &[Moment],
     ways: &[Way],
 ) -> Result<(), AllocError> {
@@ -102,7 +106,7 @@ fn draw_lost(
     Ok(())
 }
 
-fn draw_words(drawing: &mut Drawing, plan: &Plan, moments: &[Moment]) -> Result<(), AllocError> {
+fn draw_words(drawing: &mut Drawing, plan: &Layout, moments: &[Moment]) -> Result<(), AllocError> {
     for place in 0..moments.len() {
         draw_texts(drawing, plan, moments, place)?;
     }
@@ -113,7 +117,7 @@ fn draw_words(drawing: &mut Drawing, plan: &Plan, moments: &[Moment]) -> Result<
 fn draw_foot(
     alloc: Global,
     drawing: &mut Drawing,
-    plan: &Plan,
+    plan: &Layout,
     moments: &[Moment],
 ) -> Result<(), AllocError> {
     let y = plan.bottom.saturating_add(FOOT);
@@ -125,13 +129,13 @@ fn draw_foot(
 fn draw_screens(
     alloc: Global,
     drawing: &mut Drawing,
-    plan: &Plan,
+    plan: &Layout,
     moments: &[Moment],
     y: u64,
 ) -> Result<(), AllocError> {
     let mut x = 40u64;
     for place in plan.columns.places.as_slice() {
-        if let Place::Terminal(port) = *place {
+        if let Lifeline::Terminal(port) = *place {
             draw_screen(alloc, drawing, moments, port, Point { x, y })?;
             x = x.saturating_add(WIDTH / 2);
         }
@@ -149,5 +153,5 @@ fn draw_screen(
 ) -> Result<(), AllocError> {
     let bytes = accepted_in(alloc, moments, port)?;
     let bytes = &bytes;
-    drawing.words("screen", at, Side::Right, &Accepted { port, bytes })
+    drawing.words("screen", at, TextSide::Right, &Accepted { port, bytes })
 }

@@ -8,22 +8,22 @@ use std::fmt;
 
 /// A column of the diagram.
 #[derive(Clone, Copy)]
-pub enum Place {
+pub enum Lifeline {
     Terminal(u8),
     Node(u64),
     Arbiter,
     Disk,
 }
 
-impl fmt::Display for Place {
+impl fmt::Display for Lifeline {
     ghost output = { λ place. Some (place_text place) };
 
     fn fmt<W: fmt::Write>(&self, f: &mut fmt::Formatter<W>) -> fmt::Result {
         match self {
-            Place::Terminal(port) => write!(f, "terminal {port}"),
-            Place::Node(node) => write!(f, "node {node}"),
-            Place::Arbiter => f.write_str("arbiter"),
-            Place::Disk => f.write_str("disk"),
+            Lifeline::Terminal(port) => write!(f, "terminal {port}"),
+            Lifeline::Node(node) => write!(f, "node {node}"),
+            Lifeline::Arbiter => f.write_str("arbiter"),
+            Lifeline::Disk => f.write_str("disk"),
         }
     }
 }
@@ -76,46 +76,46 @@ fn change_node_of(event: Event) -> Option<u64>
 }
 
 /// Where the message that an event sent leaves.
-pub fn sender_of(event: Event) -> Place
+pub fn sender_of(event: Event) -> Lifeline
     ensures { result ≡ sender_of event }
 {
     match event {
         Event::Send { node, .. }
         | Event::Acknowledge { node }
         | Event::Release { node, .. }
-        | Event::SendPart { node, .. } => Place::Node(node),
-        _ => Place::Disk,
+        | Event::SendPart { node, .. } => Lifeline::Node(node),
+        _ => Lifeline::Disk,
     }
 }
 
 /// Where the message that the first event sent and the second one brings arrives.
-pub fn receiver_of(sent: &Moment, event: Event) -> Place
+pub fn receiver_of(sent: &Moment, event: Event) -> Lifeline
     ensures { result ≡ receiver_by event sent.now.cargo }
 {
     match (event, sent.cargo) {
-        (Event::Put { .. }, _) => Place::Disk,
-        (Event::Arrive { .. }, Some(Cargo::Byte { port, .. })) => Place::Terminal(port),
+        (Event::Put { .. }, _) => Lifeline::Disk,
+        (Event::Arrive { .. }, Some(Cargo::Byte { port, .. })) => Lifeline::Terminal(port),
         (other, _) => node_or_terminal(node_of(other)),
     }
 }
 
 // A node, or the terminal of port 0 if there is none.
-fn node_or_terminal(node: Option<u64>) -> Place
+fn node_or_terminal(node: Option<u64>) -> Lifeline
     ensures { result ≡ node_or_terminal node }
 {
     match node {
-        Some(node) => Place::Node(node),
-        None => Place::Terminal(0),
+        Some(node) => Lifeline::Node(node),
+        None => Lifeline::Terminal(0),
     }
 }
 
 /// Where an event happens that neither sends nor brings a message.
-pub fn place_of(event: Event) -> Place
+pub fn place_of(event: Event) -> Lifeline
     ensures { result ≡ place_of event }
 {
     match event {
-        Event::TypeByte { port, .. } => Place::Terminal(port),
-        Event::Put { .. } => Place::Disk,
+        Event::TypeByte { port, .. } => Lifeline::Terminal(port),
+        Event::Put { .. } => Lifeline::Disk,
         other => node_or_terminal(node_of(other)),
     }
 }

@@ -7,33 +7,33 @@ ghost use Rattle.sequence_diagram.specs.Waits.{AreWaits};
 
 use crate::columns::Columns;
 use crate::geometry::{BOTTOM, MOST, column_x, line_y};
-use crate::lines::{Lines, lines_of};
+use crate::lines::{EventLines, lines_of};
 use crate::moment::Moment;
-use crate::place::Place;
-use crate::waits::{Wait, waits_of};
+use crate::place::Lifeline;
+use crate::waits::{OutputWait, waits_of};
 use std::alloc::{AllocError, Global};
 
 /// Where everything is.
 #[derive(Drop)]
-pub struct Plan {
+pub struct Layout {
     pub columns: Columns,
     /// The line of each event.
-    pub lines: Lines,
-    pub waits: Vec<Wait>,
+    pub lines: EventLines,
+    pub waits: Vec<OutputWait>,
     /// Where the columns end.
     pub bottom: u64,
 }
 
-impl Plan {
+impl Layout {
     /// Where everything of a run is.
-    pub fn of(alloc: Global, moments: &[Moment]) -> Result<Plan, AllocError>
+    pub fn of(alloc: Global, moments: &[Moment]) -> Result<Layout, AllocError>
         ensures columns { IfOk result (λ plan. plan.columns.places.items ≡ columns_of moments.now) }
         ensures lines { IfOk result (λ plan. AreLines 0 moments.now plan.lines.of.items plan.lines.count) }
         ensures waits { IfOk result (λ plan. AreWaits moments.now plan.waits.items) }
         ensures bottom { IfOk result (λ plan. plan.bottom ≡ bottom_of plan.lines.count) }
     {
         let lines = lines_of(alloc, moments)?;
-        Ok(Plan {
+        Ok(Layout {
             columns: Columns::of(alloc, moments)?,
             waits: waits_of(alloc, moments)?,
             bottom: bottom_of(lines.count),
@@ -50,7 +50,7 @@ impl Plan {
     }
 
     /// Where the column of a place is.
-    pub fn x(&self, place: Place) -> u64
+    pub fn x(&self, place: Lifeline) -> u64
         ensures { result ≡ x_in self.now.columns.places.items place }
     {
         let column = self.columns.column(place) as u64;
@@ -58,7 +58,7 @@ impl Plan {
     }
 
     /// Whether the column of a place is the last one.
-    pub fn is_last(&self, place: Place) -> bool {
+    pub fn is_last(&self, place: Lifeline) -> bool {
         self.columns.column(place).saturating_add(1) == self.columns.places.len()
     }
 

@@ -12,7 +12,7 @@ const FEW: usize = 8;
 
 /// What like events are: parts of a copy, or keys of the terminal of a port, all of them that are taken by one node.
 #[derive(Clone, Copy)]
-pub enum Kind {
+pub enum RunKind {
     Parts,
     Keys { port: u8, node: Option<u64> },
 }
@@ -33,32 +33,32 @@ pub fn run_length(moments: &[Moment]) -> usize
 }
 
 // What an event is like with which these events begin.
-fn kind_of(moment: &Moment, moments: &[Moment]) -> Option<Kind>
+fn kind_of(moment: &Moment, moments: &[Moment]) -> Option<RunKind>
     ensures { result ≡ kind_of moment.now moments.now }
 {
     if is_part(moment) {
-        return Some(Kind::Parts);
+        return Some(RunKind::Parts);
     }
     let port = key_of(moment)?;
     let node = taker_in(port, moments);
-    Some(Kind::Keys { port, node })
+    Some(RunKind::Keys { port, node })
 }
 
 // How many of so many like events share a line.
-fn shared(kind: Kind, count: usize) -> usize
+fn shared(kind: RunKind, count: usize) -> usize
     requires { 0 < count }
     ensures exact { result ≡ shared kind count }
     ensures some { 0 < result }
     ensures within { result ≤ count }
 {
     match kind {
-        Kind::Parts => count,
-        Kind::Keys { .. } => { if count > FEW { count } else { 1 } }
+        RunKind::Parts => count,
+        RunKind::Keys { .. } => { if count > FEW { count } else { 1 } }
     }
 }
 
 // How many events come first that are of this kind.
-fn count_alike(kind: Kind, moments: &[Moment]) -> usize
+fn count_alike(kind: RunKind, moments: &[Moment]) -> usize
     ensures exact { result ≡ prefix_len (is_of_kind kind) moments.now }
     ensures within { result ≤ length moments.now }
 {
@@ -74,12 +74,12 @@ fn count_alike(kind: Kind, moments: &[Moment]) -> usize
     count
 }
 
-fn is_of_kind(kind: Kind, moment: &Moment) -> bool
+fn is_of_kind(kind: RunKind, moment: &Moment) -> bool
     ensures { result ≡ is_of_kind kind moment.now }
 {
     match kind {
-        Kind::Parts => is_part(moment),
-        Kind::Keys { port, node } => {
+        RunKind::Parts => is_part(moment),
+        RunKind::Keys { port, node } => {
             is_port(port, key_of(moment)) && is_taken_by(moment.event, node)
         }
     }

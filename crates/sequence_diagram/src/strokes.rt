@@ -11,8 +11,8 @@ use crate::flights::{Flight, flight_to};
 use crate::folds::{keys_from, parts_from};
 use crate::geometry::Point;
 use crate::moment::Moment;
-use crate::place::{Place, sender_of};
-use crate::plan::Plan;
+use crate::place::{Lifeline, sender_of};
+use crate::plan::Layout;
 use crate::runs::is_part;
 use crate::ways::{Way, end_of_loss};
 use std::alloc::AllocError;
@@ -26,7 +26,7 @@ const WAITS: u64 = 11;
 /// arrow, and so have keys.
 pub fn draw_stroke(
     drawing: &mut Drawing,
-    plan: &Plan,
+    plan: &Layout,
     moments: &[Moment],
     place: usize,
 ) -> Result<(), AllocError> {
@@ -44,7 +44,7 @@ pub fn draw_stroke(
 }
 
 // The exchange that is drawn at an event.
-fn exchange_at(plan: &Plan, moments: &[Moment], place: usize) -> Option<Exchange> {
+fn exchange_at(plan: &Layout, moments: &[Moment], place: usize) -> Option<Exchange> {
     if !plan.lines.is_among_keys(moments, place) {
         return exchange_of(moments.get(place)?);
     }
@@ -55,7 +55,7 @@ fn exchange_at(plan: &Plan, moments: &[Moment], place: usize) -> Option<Exchange
 }
 
 // The message whose arrow is drawn at an event.
-fn flight_at(plan: &Plan, moments: &[Moment], place: usize) -> Option<Flight> {
+fn flight_at(plan: &Layout, moments: &[Moment], place: usize) -> Option<Flight> {
     if !is_part(moments.get(place)?) {
         return flight_to(moments, place);
     }
@@ -69,7 +69,7 @@ fn flight_at(plan: &Plan, moments: &[Moment], place: usize) -> Option<Flight> {
 /// such, if none of them arrived.
 pub fn draw_loss(
     drawing: &mut Drawing,
-    plan: &Plan,
+    plan: &Layout,
     moments: &[Moment],
     ways: &[Way],
     place: usize,
@@ -80,7 +80,7 @@ pub fn draw_loss(
     let Some(moment) = moments.get(place) else {
         return Ok(());
     };
-    let aim = aim_of(moments, place).unwrap_or(Place::Arbiter);
+    let aim = aim_of(moments, place).unwrap_or(Lifeline::Arbiter);
     let from = Point {
         x: plan.x(sender_of(moment.event)),
         y: plan.y(place),
@@ -98,7 +98,7 @@ pub fn draw_loss(
 }
 
 // Whether an event has sent a message that never came, and that is drawn.
-fn is_lost(plan: &Plan, moments: &[Moment], place: usize) -> bool {
+fn is_lost(plan: &Layout, moments: &[Moment], place: usize) -> bool {
     let (Some(moment), Some(departure)) = (moments.get(place), departure_from(moments, place))
     else {
         return false;
@@ -142,7 +142,7 @@ pub fn beside(x: u64, other: u64, distance: u64) -> u64
 }
 
 /// Marks where output waits, beside the line of its node.
-pub fn draw_waits(drawing: &mut Drawing, plan: &Plan) -> Result<(), AllocError> {
+pub fn draw_waits(drawing: &mut Drawing, plan: &Layout) -> Result<(), AllocError> {
     let waits = plan.waits.as_slice();
     for place in 0..waits.len() {
         if let Some(bar) = bar_from(waits, place) {
@@ -153,8 +153,13 @@ pub fn draw_waits(drawing: &mut Drawing, plan: &Plan) -> Result<(), AllocError> 
 }
 
 // Marks that output waits, from an event on.
-fn draw_bar(drawing: &mut Drawing, plan: &Plan, place: usize, bar: Bar) -> Result<(), AllocError> {
-    let x = plan.x(Place::Node(bar.node)).saturating_sub(WAITS);
+fn draw_bar(
+    drawing: &mut Drawing,
+    plan: &Layout,
+    place: usize,
+    bar: Bar,
+) -> Result<(), AllocError> {
+    let x = plan.x(Lifeline::Node(bar.node)).saturating_sub(WAITS);
     let bottom = match bar.end {
         Some(end) => plan.y(end),
         None => plan.bottom,

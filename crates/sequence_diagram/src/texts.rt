@@ -3,20 +3,20 @@
 use crate::aims::aim_of;
 use crate::arrows::departure_from;
 use crate::cargo::Carried;
-use crate::drawing::{Drawing, Side};
+use crate::drawing::{Drawing, TextSide};
 use crate::exchanges::{Exchange, exchange_of};
 use crate::flights::flight_to;
 use crate::folds::{keys_from, parts_from};
 use crate::geometry::Point;
-use crate::kept::Kept;
+use crate::kept::KeptText;
 use crate::marks::{count_width, draw_count, draw_waiting};
 use crate::moment::Moment;
-use crate::outcomes::Outcome;
-use crate::place::{Place, place_of, sender_of};
-use crate::plan::Plan;
+use crate::outcomes::OutcomeText;
+use crate::place::{Lifeline, place_of, sender_of};
+use crate::plan::Layout;
 use crate::runs::is_part;
 use crate::strokes::beside;
-use crate::told::{Refused, Told, Why};
+use crate::told::{Refused, ToldText, WhyText};
 use pair_events::Event;
 use std::alloc::AllocError;
 use std::fmt;
@@ -38,7 +38,7 @@ const ROOM: usize = 33;
 /// Says what an event does, what it carries and what it results in. Events that share one arrow share the words.
 pub fn draw_texts(
     drawing: &mut Drawing,
-    plan: &Plan,
+    plan: &Layout,
     moments: &[Moment],
     place: usize,
 ) -> Result<(), AllocError> {
@@ -66,20 +66,20 @@ pub fn draw_texts(
 // What passes at once, and the result.
 fn draw_exchange(
     drawing: &mut Drawing,
-    plan: &Plan,
+    plan: &Layout,
     moments: &[Moment],
     place: usize,
     exchange: Exchange,
 ) -> Result<(), AllocError> {
     let way = (plan.x(exchange.from), plan.x(exchange.to));
-    draw_label(drawing, way, plan.y(place), &Told { moments, place })?;
+    draw_label(drawing, way, plan.y(place), &ToldText { moments, place })?;
     draw_outcome(drawing, way, plan.y(place), moments, place)
 }
 
 // What the message that an event has brought results in, and what the one carries that it has sent; of another event what happens.
 fn draw_message(
     drawing: &mut Drawing,
-    plan: &Plan,
+    plan: &Layout,
     moments: &[Moment],
     place: usize,
 ) -> Result<(), AllocError> {
@@ -101,7 +101,7 @@ fn draw_message(
 // What the message carries that an event has sent, so much lower.
 fn draw_cargo(
     drawing: &mut Drawing,
-    plan: &Plan,
+    plan: &Layout,
     moments: &[Moment],
     place: usize,
     lower: u64,
@@ -109,7 +109,7 @@ fn draw_cargo(
     let Some(moment) = moments.get(place) else {
         return Ok(());
     };
-    let aim = aim_of(moments, place).unwrap_or(Place::Arbiter);
+    let aim = aim_of(moments, place).unwrap_or(Lifeline::Arbiter);
     let way = (plan.x(sender_of(moment.event)), plan.x(aim));
     let y = plan.y(place).saturating_add(lower);
     draw_label(drawing, way, y, &Carried(*moment))
@@ -123,7 +123,11 @@ fn draw_label<D: fmt::Display>(
     words: &D,
 ) -> Result<(), AllocError> {
     let (from, to) = way;
-    let side = if from < to { Side::Right } else { Side::Left };
+    let side = if from < to {
+        TextSide::Right
+    } else {
+        TextSide::Left
+    };
     let at = Point {
         x: beside(from, to, FAR),
         y: y.saturating_sub(5),
@@ -147,9 +151,9 @@ fn draw_outcome(
         y: y.saturating_add(UNDER),
     };
     let side = if way.0 < way.1 {
-        Side::Right
+        TextSide::Right
     } else {
-        Side::Left
+        TextSide::Left
     };
     let class = if moment.answer.is_ok() {
         "outcome"
@@ -157,8 +161,8 @@ fn draw_outcome(
         "refused"
     };
     match (moment.event, moment.answer) {
-        (Event::Put { .. }, Ok(_)) => drawing.words(class, at, side, &Kept { moments, place }),
-        _ => drawing.words(class, at, side, &Outcome(*moment)),
+        (Event::Put { .. }, Ok(_)) => drawing.words(class, at, side, &KeptText { moments, place }),
+        _ => drawing.words(class, at, side, &OutcomeText(*moment)),
     }
 }
 
@@ -175,7 +179,7 @@ fn beyond(way: (u64, u64)) -> u64 {
 // What happens at one place, or is refused there.
 fn draw_note(
     drawing: &mut Drawing,
-    plan: &Plan,
+    plan: &Layout,
     moments: &[Moment],
     place: usize,
 ) -> Result<(), AllocError> {
@@ -188,7 +192,7 @@ fn draw_note(
         y: plan.y(place),
     };
     if moment.answer.is_ok() {
-        return draw_done(drawing, moment, at, Told { moments, place });
+        return draw_done(drawing, moment, at, ToldText { moments, place });
     }
     draw_refused(drawing, plan.is_last(here), at, Refused { moments, place })
 }
@@ -198,7 +202,7 @@ fn draw_done(
     drawing: &mut Drawing,
     moment: &Moment,
     at: Point,
-    told: Told<'_>,
+    told: ToldText<'_>,
 ) -> Result<(), AllocError> {
     draw_count(drawing, moment, at)?;
     let aside = count_width(moment).unwrap_or(NEAR);
@@ -206,7 +210,7 @@ fn draw_done(
         x: at.x.saturating_add(aside),
         y: at.y.saturating_add(4),
     };
-    drawing.words("note", beside, Side::Right, &told)
+    drawing.words("note", beside, TextSide::Right, &told)
 }
 
 // What is refused, and why. It is left of the last column, since there is more room than right of it.
@@ -217,9 +221,9 @@ fn draw_refused(
     refused: Refused<'_>,
 ) -> Result<(), AllocError> {
     let (x, side) = if is_last {
-        (at.x.saturating_sub(FAR), Side::Left)
+        (at.x.saturating_sub(FAR), TextSide::Left)
     } else {
-        (at.x.saturating_add(NEAR), Side::Right)
+        (at.x.saturating_add(NEAR), TextSide::Right)
     };
     if drawing.length(&refused)? > ROOM {
         return draw_rows(drawing, Point { x, y: at.y }, side, refused);
@@ -232,7 +236,7 @@ fn draw_refused(
 fn draw_rows(
     drawing: &mut Drawing,
     at: Point,
-    side: Side,
+    side: TextSide,
     refused: Refused<'_>,
 ) -> Result<(), AllocError> {
     let Refused { moments, place } = refused;
@@ -244,14 +248,14 @@ fn draw_rows(
         x: at.x,
         y: at.y.saturating_add(8),
     };
-    drawing.words("refused", below, side, &Why { moments, place })?;
-    drawing.words("refused", above, side, &Told { moments, place })
+    drawing.words("refused", below, side, &WhyText { moments, place })?;
+    drawing.words("refused", above, side, &ToldText { moments, place })
 }
 
 // Keys that share a line.
 fn draw_keys(
     drawing: &mut Drawing,
-    plan: &Plan,
+    plan: &Layout,
     moments: &[Moment],
     place: usize,
 ) -> Result<(), AllocError> {
@@ -266,7 +270,7 @@ fn draw_keys(
 // Parts of a copy that share a line.
 fn draw_parts(
     drawing: &mut Drawing,
-    plan: &Plan,
+    plan: &Layout,
     moments: &[Moment],
     place: usize,
 ) -> Result<(), AllocError> {
@@ -284,14 +288,14 @@ fn draw_parts(
         x: beyond(way),
         y: y.saturating_add(UNDER),
     };
-    drawing.words("outcome", at, Side::Right, &"whole: the backup")
+    drawing.words("outcome", at, TextSide::Right, &"whole: the backup")
 }
 
 // From where an event happens to where what it sends should arrive.
-fn way_from(plan: &Plan, moments: &[Moment], place: usize) -> (u64, u64) {
+fn way_from(plan: &Layout, moments: &[Moment], place: usize) -> (u64, u64) {
     let Some(moment) = moments.get(place) else {
         return (0, 0);
     };
-    let aim = aim_of(moments, place).unwrap_or(Place::Arbiter);
+    let aim = aim_of(moments, place).unwrap_or(Lifeline::Arbiter);
     (plan.x(place_of(moment.event)), plan.x(aim))
 }

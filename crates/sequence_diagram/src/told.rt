@@ -7,21 +7,21 @@ ghost use Rattle.sequence_diagram.specs.Messages.{unknown_at};
 use crate::arrows::sent_before;
 use crate::cargo::write_key;
 use crate::moment::{Moment, delivered};
-use crate::notes::{Named, Note, Reason};
+use crate::notes::{NamedText, NoteText, ReasonText};
 use i8080_words::Fault;
 use pair_events::{Event, Reply};
 use std::fmt::{self, Display};
 
 /// What the event at a place of a run does, or was to do.
 #[derive(Clone, Copy)]
-pub struct Told<'a> {
+pub struct ToldText<'a> {
     pub moments: &'a [Moment],
     pub place: usize,
 }
 
 /// Why the event at a place of a run is refused; nothing if it is not.
 #[derive(Clone, Copy)]
-pub struct Why<'a> {
+pub struct WhyText<'a> {
     pub moments: &'a [Moment],
     pub place: usize,
 }
@@ -33,20 +33,20 @@ pub struct Refused<'a> {
     pub place: usize,
 }
 
-impl Display for Told<'_> {
+impl Display for ToldText<'_> {
     fn fmt<W: fmt::Write>(&self, f: &mut fmt::Formatter<W>) -> fmt::Result {
         let Some(moment) = self.moments.get(self.place) else {
             return Ok(());
         };
         match (byte_at(self.moments, self.place), moment.answer) {
             (Some(byte), _) => write_key(f, byte),
-            (None, Ok(_)) => Note(*moment).fmt(f),
-            (None, Err(_)) => Named(moment.event).fmt(f),
+            (None, Ok(_)) => NoteText(*moment).fmt(f),
+            (None, Err(_)) => NamedText(moment.event).fmt(f),
         }
     }
 }
 
-impl Display for Why<'_> {
+impl Display for WhyText<'_> {
     fn fmt<W: fmt::Write>(&self, f: &mut fmt::Formatter<W>) -> fmt::Result {
         if is_stray(self.moments, self.place) {
             return f.write_str("refused, not one for this");
@@ -57,7 +57,7 @@ impl Display for Why<'_> {
                     answer: Err(fault),
                     ..
                 },
-            ) => Reason(*fault).fmt(f),
+            ) => ReasonText(*fault).fmt(f),
             _ => Ok(()),
         }
     }
@@ -66,7 +66,12 @@ impl Display for Why<'_> {
 impl Display for Refused<'_> {
     fn fmt<W: fmt::Write>(&self, f: &mut fmt::Formatter<W>) -> fmt::Result {
         let Refused { moments, place } = *self;
-        write!(f, "{}: {}", Told { moments, place }, Why { moments, place })
+        write!(
+            f,
+            "{}: {}",
+            ToldText { moments, place },
+            WhyText { moments, place }
+        )
     }
 }
 

@@ -3,7 +3,7 @@ ghost use Rattle.std.specs.Prelude.{◌≡◌, ◌<◌, [], IfOk, length};
 ghost use Rattle.sequence_diagram.specs.Waits.{AreWaits, StandsThen, acknowledged, after_reads, arrived_by, begun, given, logged_by, noted, noted_by, standing_of, taken};
 
 use crate::flights::cargo_to;
-use crate::moment::{Cargo, Look, Moment};
+use crate::moment::{Cargo, Moment, NodeLook};
 use event_callbacks::OpId;
 use guest_lockstep::StopReason;
 use pair_events::{Event, Reply, Role};
@@ -11,14 +11,14 @@ use std::alloc::{AllocError, Global};
 
 /// How many operations of a primary wait for an acknowledgement.
 #[derive(Clone, Copy)]
-pub struct Wait {
+pub struct OutputWait {
     pub node: u64,
     pub operations: usize,
 }
 
 // An operation that waits: the index of its entry, and how many entries must be replayed for it.
 #[derive(Clone, Copy)]
-struct Operation {
+struct WaitingOperation {
     index: u64,
     after: u64,
 }
@@ -31,11 +31,11 @@ struct Tally {
     last_read: u64,
     held: u64,
     replayed: u64,
-    waiting: Vec<Operation>,
+    waiting: Vec<WaitingOperation>,
 }
 
 /// What waits after each event of a run.
-pub fn waits_of(alloc: Global, moments: &[Moment]) -> Result<Vec<Wait>, AllocError>
+pub fn waits_of(alloc: Global, moments: &[Moment]) -> Result<Vec<OutputWait>, AllocError>
     ensures { IfOk result (λ waits. AreWaits moments.now waits.items) }
 {
     let mut tally = Tally::new(alloc);
@@ -60,14 +60,18 @@ impl Tally {
 
     // Notes each event of a run, and appends what waits after it.
     #[tactic(auto, using(crate::proofs::Waiting::waits_all))]
-    fn note_all(&mut self, moments: &[Moment], waits: &mut Vec<Wait>) -> Result<(), AllocError>
+    fn note_all(
+        &mut self,
+        moments: &[Moment],
+        waits: &mut Vec<OutputWait>,
+    ) -> Result<(), AllocError>
         requires begins { standing_of self.old ≡ begun 0 }
         requires none { waits.old.items ≡ [] }
         ensures { IfOk result (λ _. AreWaits moments.now waits.new.items) }
     {
         for place in 0..moments.len() {
             self.note_at(moments, place)?;
-            waits.push(Wait {
+            waits.push(OutputWait {
                 node: self.node,
                 operations: self.waiting.len(),
             })?;
@@ -98,7 +102,7 @@ impl Tally {
     }
 
     // The same, of an event at a node that was not refused.
-    fn note_reply(&mut self, event: Event, reply: Reply, look: Look) -> Result<(), AllocError>
+    fn note_reply(&mut self, event: Event, reply: Reply, look: NodeLook) -> Result<(), AllocError>
         ensures { IfOk result (λ _. standing_of self.new
             ≡ noted_by event reply look.node look.role (standing_of self.old)) }
     {
@@ -111,7 +115,7 @@ impl Tally {
     }
 
     // What a primary has put into its log.
-    fn note_log(&mut self, event: Event, reply: Reply, look: Look) -> Result<(), AllocError>
+    fn note_log(&mut self, event: Event, reply: Reply, look: NodeLook) -> Result<(), AllocError>
         ensures { IfOk result (λ _. standing_of self.new
             ≡ logged_by look.role event reply look.node (standing_of self.old)) }
     {
@@ -150,7 +154,7 @@ impl Tally {
     fn give(&mut self, id: OpId) -> Result<(), AllocError>
         ensures { IfOk result (λ _. standing_of self.new ≡ given id (standing_of self.old)) }
     {
-        self.waiting.push(Operation {
+        self.waiting.push(WaitingOperation {
             index: self.logged,
             after: after_reads(id, self.last_read),
         })?;

@@ -6,7 +6,7 @@ ghost use Rattle.sequence_diagram.specs.Losses.{end_of_loss, is_free, is_near, t
 use crate::flights::flight_to;
 use crate::geometry::Point;
 use crate::moment::Moment;
-use crate::plan::Plan;
+use crate::plan::Layout;
 use std::alloc::{AllocError, Global};
 
 // How far from a cross a way has to be, and a column.
@@ -25,7 +25,7 @@ pub struct Way {
 }
 
 /// The ways of all messages that arrived.
-pub fn ways_of(alloc: Global, plan: &Plan, moments: &[Moment]) -> Result<Vec<Way>, AllocError> {
+pub fn ways_of(alloc: Global, plan: &Layout, moments: &[Moment]) -> Result<Vec<Way>, AllocError> {
     let mut ways = Vec::new(alloc);
     for place in 0..moments.len() {
         if let Some(way) = way_to(plan, moments, place) {
@@ -36,7 +36,7 @@ pub fn ways_of(alloc: Global, plan: &Plan, moments: &[Moment]) -> Result<Vec<Way
 }
 
 // The way of the message that an event has brought.
-fn way_to(plan: &Plan, moments: &[Moment], place: usize) -> Option<Way> {
+fn way_to(plan: &Layout, moments: &[Moment], place: usize) -> Option<Way> {
     let flight = flight_to(moments, place)?;
     let from = Point {
         x: plan.x(flight.from),
@@ -82,7 +82,7 @@ impl Way {
 }
 
 /// How far right a lost message ends that leaves at a point for a column.
-pub fn end_of_loss(plan: &Plan, ways: &[Way], from: Point, aim: u64) -> u64
+pub fn end_of_loss(plan: &Layout, ways: &[Way], from: Point, aim: u64) -> u64
     ensures { result ≡ end_of_loss plan.now.columns.places.items ways.now from aim }
 {
     let mut rest: &[u64] = &REACHES;
@@ -109,7 +109,7 @@ fn x_after(from: u64, aim: u64, hundredths: u64) -> u64
 }
 
 // Whether a cross touches no way and no column.
-fn is_free(plan: &Plan, ways: &[Way], at: Point) -> bool
+fn is_free(plan: &Layout, ways: &[Way], at: Point) -> bool
     ensures { result ≡ is_free plan.now.columns.places.items ways.now at }
 {
     !touches_any(ways, at) && !is_at_column(plan, at.x)
@@ -130,7 +130,7 @@ fn touches_any(ways: &[Way], at: Point) -> bool
 }
 
 // Whether a column is too near to a cross.
-fn is_at_column(plan: &Plan, x: u64) -> bool
+fn is_at_column(plan: &Layout, x: u64) -> bool
     ensures { result ≡ list_any (is_near plan.now.columns.places.items x) plan.now.columns.places.items }
 {
     let mut rest = plan.columns.places.as_slice();

@@ -11,24 +11,13 @@ use Rattle.pair_events.specs.declared.event.Event.{Event}
 use Rattle.pair_events.specs.declared.event.Event.TheVariants as event
 use Rattle.pair_events.specs.declared.reply.Reply.{Reply}
 use Rattle.pair_events.specs.declared.reply.Reply.TheVariants as reply
+use Rattle.sequence_diagram.specs.Messages.{delivered_by}
 use Rattle.shell_book.specs.Notes.{Progress, next, notes_of, with_port, without}
 use Rattle.shell_book.specs.declared.book.Brings.{Brings}
 use Rattle.shell_book.specs.declared.book.Brings.TheVariants as brings
 use Rattle.shell_book.specs.declared.book.Letter.{Letter}
 
 -- ---- messages
-
--- the message that an event delivers
-abbrev pub delivered_by : Event → Option ℕ
-delivered_by (event.DeliverLog message node) = Some message
-delivered_by (event.DeliverAcknowledgement message node) = Some message
-delivered_by (event.Arrive message) = Some message
-delivered_by (event.Put message) = Some message
-delivered_by (event.PutReply message node) = Some message
-delivered_by (event.GetReply message node) = Some message
-delivered_by (event.Fetched message node) = Some message
-delivered_by (event.PartComes message node) = Some message
-delivered_by _ = None
 
 -- a message was sent; one has reached someone
 abbrev pub posted : Option Brings → List Letter → List Letter

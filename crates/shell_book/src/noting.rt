@@ -1,13 +1,15 @@
 //! How a book notes what has happened.
 ghost use Rattle.std.specs.Prelude.{◌≡◌, ◌<◌, vec_capacity, vec_len};
+ghost use Rattle.sequence_diagram.specs.Messages.{delivered_by};
 ghost use Rattle.shell_book.specs.Notes.{progress};
-ghost use Rattle.shell_book.specs.Noting.{arrived, brought, delivered_by, given, heard_written, letters_after, noted, noted_accepted, noted_held, noted_part, noted_sent, noted_steps, noted_taken, noted_told, noted_typed, posted, replied, taken_by, ungiven};
+ghost use Rattle.shell_book.specs.Noting.{arrived, brought, given, heard_written, letters_after, noted, noted_accepted, noted_held, noted_part, noted_sent, noted_steps, noted_taken, noted_told, noted_typed, posted, replied, taken_by, ungiven};
 
 use crate::book::{Book, Brings, Letter, PortNotes, forget_write};
 use event_callbacks::OpId;
 use guest_lockstep::StopReason;
 use i8080_words::{Fault, R};
 use pair_events::{Event, Reply};
+use sequence_diagram::delivered;
 
 impl Book {
     /// Notes an event, its answer, and what the message brings that it has sent, if any.
@@ -251,28 +253,11 @@ impl Book {
         ensures letters { self.new.letters.items ≡ arrived (delivered_by event) self.old.letters.items }
         ensures same { self.new ≡ record self.old { letters = self.new.letters } }
     {
-        let Some(message) = delivered_by(event) else {
+        let Some(message) = delivered(event) else {
             return;
         };
         if let Some(letter) = self.letters.get_mut(message as usize) {
             letter.has_arrived = true;
         }
-    }
-}
-
-// The message that an event delivers.
-fn delivered_by(event: Event) -> Option<u64>
-    ensures { result ≡ delivered_by event }
-{
-    match event {
-        Event::DeliverLog { message, .. } => Some(message),
-        Event::DeliverAcknowledgement { message, .. } => Some(message),
-        Event::Arrive { message } => Some(message),
-        Event::Put { message } => Some(message),
-        Event::PutReply { message, .. } => Some(message),
-        Event::GetReply { message, .. } => Some(message),
-        Event::Fetched { message, .. } => Some(message),
-        Event::PartComes { message, .. } => Some(message),
-        _ => None,
     }
 }

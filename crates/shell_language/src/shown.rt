@@ -41,9 +41,9 @@ impl fmt::Display for Address {
     }
 }
 
-// Bytes as text; what is not printable is shown as a dot.
+/// Bytes as text; what is not printable is shown as a dot.
 #[derive(Clone, Copy)]
-struct Printable<'a>(&'a [u8]);
+pub struct Printable<'a>(pub &'a [u8]);
 
 impl fmt::Display for Printable<'_> {
     ghost output = { λ bytes. Some (shown_bytes bytes.0.now) };

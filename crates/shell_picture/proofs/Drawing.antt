@@ -7,17 +7,17 @@ use Rattle.sequence_diagram.specs.declared.arrows.Departure.{Departure}
 use Rattle.sequence_diagram.specs.declared.exchanges.Exchange.{Exchange}
 use Rattle.sequence_diagram.specs.declared.flights.Flight.{Flight}
 use Rattle.sequence_diagram.specs.declared.moment.Moment.{Moment}
-use Rattle.sequence_diagram.specs.declared.place.Place.{Place}
+use Rattle.sequence_diagram.specs.declared.place.Lifeline.{Lifeline}
 use Rattle.shell_picture.specs.Pictures.{DrawsExchange, DrawsMoment, IsDrawn, arrow_between, mark_by}
-use Rattle.shell_picture.specs.declared.lanes.Stroke.{Stroke}
+use Rattle.shell_picture.specs.declared.lanes.LaneMark.{LaneMark}
 
 module _ (moments : List Moment) (event : ℕ) where
-  module _ (places : List Place) where
+  module _ (places : List Lifeline) where
     -- of no event
     pub draws_nothing : slice_get moments event ≡ None → IsDrawn moments places event None
     draws_nothing none = subst (λ m. DrawsMoment moments places event m None) (sym none) refl
 
-    drawn : (moment : Moment) (exchange : Option Exchange) (stroke : Option Stroke) → slice_get moments event ≡ Some moment
+    drawn : (moment : Moment) (exchange : Option Exchange) (stroke : Option LaneMark) → slice_get moments event ≡ Some moment
         → exchange_of moment ≡ exchange → DrawsExchange moments places event moment exchange stroke
         → IsDrawn moments places event stroke
     drawn moment exchange stroke here is h = subst (λ m. DrawsMoment moments places event m stroke) (sym here)

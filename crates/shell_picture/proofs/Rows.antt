@@ -5,15 +5,15 @@ use Rattle.pair_events.specs.declared.reply.Role.{Role}
 use Rattle.sequence_diagram.specs.Columns.{columns_of}
 use Rattle.sequence_diagram.specs.Waits.{AreWaits}
 use Rattle.sequence_diagram.specs.declared.moment.Moment.{Moment}
-use Rattle.sequence_diagram.specs.declared.place.Place.{Place}
-use Rattle.sequence_diagram.specs.declared.waits.Wait.{Wait}
+use Rattle.sequence_diagram.specs.declared.place.Lifeline.{Lifeline}
+use Rattle.sequence_diagram.specs.declared.waits.OutputWait.{OutputWait}
 use Rattle.shell_language.specs.declared.line.Stretch.{Stretch}
 use Rattle.shell_book.specs.Texts.{AddsLine, Prints, Text}
 use Rattle.shell_book.specs.declared.printing.Printed.{Printed}
 use Rattle.shell_book.proofs.Adding.{adds_text, prints_none, prints_text, prints_then}
 use Rattle.shell_picture.specs.Pictures.{AreEvents, DrawsPicture, IsDrawn, IsEvent, PrintsEvent, PrintsEvents, end_shown, event_text, first_shown, head_text, node_role, told_at, told_or}
 use Rattle.shell_picture.specs.Words.{IsSaid}
-use Rattle.shell_picture.specs.declared.lanes.Stroke.{Stroke}
+use Rattle.shell_picture.specs.declared.lanes.LaneMark.{LaneMark}
 use Rattle.shell_picture.specs.declared.words.Said.{Said}
 
 -- an event that tells nothing of a node leaves its role
@@ -25,9 +25,9 @@ told_nothing moments node before None whole some is none h =
     let on : before ≡ suc (before - 1) = omega (arith, some) in
     ap (λ t. told_or t (node_role moments node (before - 1))) is ∙ ap (node_role moments node) (sym on) ∙ h
 
-module _ (moments : List Moment) (places : List Place) (waits : List Wait) where
+module _ (moments : List Moment) (places : List Lifeline) (waits : List OutputWait) where
   -- the line of an event
-  pub prints_event : (event : ℕ) (stroke : Option Stroke) (wait : Option Wait) (said : Said) (old new : Printed)
+  pub prints_event : (event : ℕ) (stroke : Option LaneMark) (wait : Option OutputWait) (said : Said) (old new : Printed)
       → IsDrawn moments places event stroke → IsSaid moments waits event said → wait ≡ slice_get waits event
       → AddsLine (event_text moments places event stroke wait said) old new → PrintsEvent moments places waits event old new
   prints_event event stroke wait said old new drawn says is adds = (
@@ -57,7 +57,7 @@ module _ (moments : List Moment) (places : List Place) (waits : List Wait) where
       (so_far.0 ++ more.0 ∷ [], (all, prints_then so_far.0 (more.0 ∷ []) old mid new so_far.1.1 more.1.1))
 
 -- the whole picture
-pub draws_picture : (moments : List Moment) (places : List Place) (all waits : List Wait) (stretch : Option Stretch)
+pub draws_picture : (moments : List Moment) (places : List Lifeline) (all waits : List OutputWait) (stretch : Option Stretch)
     (first end : ℕ) (old mid new : Printed) → places ≡ columns_of moments → AreWaits moments all → waits ≡ all → first ≡ first_shown stretch (length moments)
     → end ≡ end_shown stretch (length moments) → AddsLine (head_text places) old mid
     → PrintsEvents moments places waits first (end - first) mid new → DrawsPicture moments stretch old new

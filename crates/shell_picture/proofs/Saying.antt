@@ -7,12 +7,12 @@ use Rattle.sequence_diagram.specs.declared.arrows.Departure.{Departure}
 use Rattle.sequence_diagram.specs.declared.exchanges.Exchange.{Exchange}
 use Rattle.sequence_diagram.specs.declared.flights.Flight.{Flight}
 use Rattle.sequence_diagram.specs.declared.moment.Moment.{Moment}
-use Rattle.sequence_diagram.specs.declared.waits.Wait.{Wait}
+use Rattle.sequence_diagram.specs.declared.waits.OutputWait.{OutputWait}
 use Rattle.shell_picture.specs.Words.{IsSaid, SaysExchange, SaysMoment, said_by, waits_more}
 use Rattle.shell_picture.specs.declared.words.Said.{Said}
 use Rattle.shell_picture.specs.declared.words.Said.TheVariants.{Nothing, Passes}
 
-module _ (moments : List Moment) (waits : List Wait) (event : ℕ) where
+module _ (moments : List Moment) (waits : List OutputWait) (event : ℕ) where
   -- of no event, and of one that is there
   pub says_nothing : slice_get moments event ≡ None → IsSaid moments waits event Nothing
   says_nothing none = subst (λ m. SaysMoment moments waits event m Nothing) (sym none) refl

@@ -16,7 +16,7 @@ use Rattle.i8080_words.specs.declared.instruction.RegisterPair.TheVariants as pa
 use Rattle.i8080_words.specs.declared.instruction.StackPair.{StackPair}
 use Rattle.i8080_words.specs.declared.instruction.StackPair.TheVariants as stack
 use Rattle.pair_events.specs.Printed.{byte_text, ◌␣◌}
-use Rattle.shell_picture.specs.Machines.{address_text}
+use Rattle.shell_language.specs.Shown.{address_text}
 
 -- ---- operands
 

@@ -5,11 +5,11 @@ use Rattle.i8080_words.specs.Opcodes.{instruction, instruction_length}
 use Rattle.pair_events.specs.Printed.{bytes_text}
 use Rattle.shell_book.specs.Texts.{Row, Text}
 use Rattle.shell_picture.specs.Assembly.{instruction_text}
-use Rattle.shell_picture.specs.Machines.{address_text}
+use Rattle.shell_language.specs.Shown.{address_text}
 
 -- of three bytes those of an instruction of this size
-abbrev pub shown_bytes : ℕ → List ℕ → List ℕ
-shown_bytes size bytes = if size == 1 then take 1 bytes else (if size == 2 then take 2 bytes else bytes)
+abbrev pub instruction_bytes : ℕ → List ℕ → List ℕ
+instruction_bytes size bytes = if size == 1 then take 1 bytes else (if size == 2 then take 2 bytes else bytes)
 
 -- spaces in place of the others
 abbrev pub gap_text : ℕ → List ℕ
@@ -20,7 +20,7 @@ abbrev pub listing_text : ℕ → List ℕ → List ℕ
 listing_text address bytes =
     let size = instruction_length (slice_index bytes 0) in
     address_text address
-    ++ (codes " " ++ (bytes_text (shown_bytes size bytes) ++ (gap_text size ++ (codes "  "
+    ++ (codes " " ++ (bytes_text (instruction_bytes size bytes) ++ (gap_text size ++ (codes "  "
     ++ instruction_text (instruction (slice_index bytes 0) (slice_index bytes 1) (slice_index bytes 2))))))
 
 -- the byte at a place, and 00 past the end

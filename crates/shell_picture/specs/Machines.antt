@@ -1,8 +1,7 @@
 -- What is printed of a machine: its registers, bytes of its memory.
-use Rattle.std.specs.Prelude.{ℕ, zero, suc, ◌+◌, ◌/◌, nat_le, nat_lt, Bool, true, false, ◌&&◌, if◌then◌else◌, List, [], ◌∷◌, ◌++◌, take, drop, length, codes}
+use Rattle.std.specs.Prelude.{ℕ, zero, suc, ◌+◌, ◌/◌, Bool, true, false, List, [], ◌∷◌, ◌++◌, take, drop, length, codes}
 use Rattle.std.specs.Fmt.{decimal}
-use Rattle.std.specs.List.{flat_map}
-use Rattle.i8080_words.specs.Arithmetic.{flag_byte, high_byte, low_byte, wrapped}
+use Rattle.i8080_words.specs.Arithmetic.{flag_byte, wrapped}
 use Rattle.i8080_words.specs.declared.arithmetic.Flags.{Flags}
 use Rattle.i8080_words.specs.declared.registers.Interrupts.{Interrupts}
 use Rattle.i8080_words.specs.declared.registers.Interrupts.TheVariants.{Off, Soon, On}
@@ -10,17 +9,7 @@ use Rattle.i8080_words.specs.declared.registers.Processor.{Processor}
 use Rattle.i8080_words.specs.declared.registers.Regs.{Regs}
 use Rattle.pair_events.specs.Printed.{byte_text, bytes_text}
 use Rattle.shell_book.specs.Texts.{Row, Text}
-
--- AAAA: an address as four hexadecimal digits
-abbrev pub address_text : ℕ → List ℕ
-address_text address = byte_text (high_byte address) ++ byte_text (low_byte address)
-
--- bytes as characters; 46 is the dot for one that is not printable
-abbrev pub character_of : ℕ → ℕ
-character_of byte = if nat_le 32 byte && nat_lt byte 127 then byte else 46
-
-abbrev pub characters_text : List ℕ → List ℕ
-characters_text bytes = flat_map (λ (byte : ℕ). character_of byte ∷ []) bytes
+use Rattle.shell_language.specs.Shown.{address_text, shown_bytes}
 
 -- `A HH F HH B HH C HH D HH E HH H HH L HH SP AAAA PC AAAA`; F is the flags as PUSH PSW has them
 abbrev pub registers_text : Regs → List ℕ
@@ -64,7 +53,7 @@ register_rows p count = Text (registers_text p.regs) ∷ Text (state_text p coun
 -- `AAAA HH ..  |TEXT|`: bytes of memory from an address on
 abbrev pub memory_text : ℕ → List ℕ → List ℕ
 memory_text address bytes =
-    address_text address ++ (codes " " ++ (bytes_text bytes ++ (codes "  |" ++ (characters_text bytes ++ codes "|"))))
+    address_text address ++ (codes " " ++ (bytes_text bytes ++ (codes "  |" ++ (shown_bytes bytes ++ codes "|"))))
 
 -- so many lines of sixteen bytes
 abbrev pub lines_from : ℕ → ℕ → List ℕ → List Row

@@ -13,47 +13,47 @@ use Rattle.sequence_diagram.specs.declared.arrows.Departure.{Departure}
 use Rattle.sequence_diagram.specs.declared.exchanges.Exchange.{Exchange}
 use Rattle.sequence_diagram.specs.declared.flights.Flight.{Flight}
 use Rattle.sequence_diagram.specs.declared.moment.Moment.{Moment}
-use Rattle.sequence_diagram.specs.declared.place.Place.{Place}
-use Rattle.sequence_diagram.specs.declared.place.Place.TheVariants.{Terminal, Node, Arbiter, Disk}
-use Rattle.sequence_diagram.specs.declared.waits.Wait.{Wait}
+use Rattle.sequence_diagram.specs.declared.place.Lifeline.{Lifeline}
+use Rattle.sequence_diagram.specs.declared.place.Lifeline.TheVariants.{Terminal, Node, Arbiter, Disk}
+use Rattle.sequence_diagram.specs.declared.waits.OutputWait.{OutputWait}
 use Rattle.shell_book.specs.Texts.{Prints, Row, Text}
 use Rattle.shell_book.specs.declared.printing.Printed.{Printed}
 use Rattle.shell_language.specs.declared.line.Stretch.{Stretch}
 use Rattle.shell_picture.specs.Words.{IsSaid, said_text}
-use Rattle.shell_picture.specs.declared.lanes.Stroke.{Stroke}
-use Rattle.shell_picture.specs.declared.lanes.Stroke.TheVariants.{Arrow, Leaves, Happens}
+use Rattle.shell_picture.specs.declared.lanes.LaneMark.{LaneMark}
+use Rattle.shell_picture.specs.declared.lanes.LaneMark.TheVariants.{Arrow, Leaves, Happens}
 use Rattle.shell_picture.specs.declared.words.Said.{Said}
 
 -- ---- what is drawn of an event
 
 -- an arrow from the column of one place to that of another
-abbrev pub arrow_between : List Place → Place → Place → Stroke
+abbrev pub arrow_between : List Lifeline → Lifeline → Lifeline → LaneMark
 arrow_between places from to = Arrow (column_of places from) (column_of places to)
 
 -- a mark where a message leaves, or where something happens
-abbrev pub mark_by : List Place → Event → Option Departure → Stroke
+abbrev pub mark_by : List Lifeline → Event → Option Departure → LaneMark
 mark_by places happened (Some departure) = Leaves (column_of places (sender_of happened))
 mark_by places happened None = Happens (column_of places (place_of happened))
 
-module _ (moments : List Moment) (places : List Place) (event : ℕ) where
+module _ (moments : List Moment) (places : List Lifeline) (event : ℕ) where
   -- of a message that came its arrow; otherwise a mark, by whether a message leaves
-  abbrev pub DrawsFlight : Moment → Option Flight → Option Stroke → Type 0
+  abbrev pub DrawsFlight : Moment → Option Flight → Option LaneMark → Type 0
   DrawsFlight moment (Some flight) drawn = drawn ≡ Some (arrow_between places flight.from flight.to)
   DrawsFlight moment None drawn = (departure : Option Departure)
       × (HasDeparture moments event departure × (drawn ≡ Some (mark_by places moment.event departure)))
 
   -- of an exchange its arrow
-  abbrev pub DrawsExchange : Moment → Option Exchange → Option Stroke → Type 0
+  abbrev pub DrawsExchange : Moment → Option Exchange → Option LaneMark → Type 0
   DrawsExchange moment (Some exchange) drawn = drawn ≡ Some (arrow_between places exchange.from exchange.to)
   DrawsExchange moment None drawn =
       (flight : Option Flight) × (HasFlight moments event flight × DrawsFlight moment flight drawn)
 
   -- of no event nothing
-  abbrev pub DrawsMoment : Option Moment → Option Stroke → Type 0
+  abbrev pub DrawsMoment : Option Moment → Option LaneMark → Type 0
   DrawsMoment None drawn = drawn ≡ None
   DrawsMoment (Some moment) drawn = DrawsExchange moment (exchange_of moment) drawn
 
-  abbrev pub IsDrawn : Option Stroke → Type 0
+  abbrev pub IsDrawn : Option LaneMark → Type 0
   IsDrawn drawn = DrawsMoment (slice_get moments event) drawn
 
 -- ---- roles
@@ -75,7 +75,7 @@ node_role moments node zero = first_role node
 node_role moments node (suc event) = told_or (told_at moments node event) (node_role moments node event)
 
 -- other places have none
-abbrev pub role_after : List Moment → ℕ → Place → Option Role
+abbrev pub role_after : List Moment → ℕ → Lifeline → Option Role
 role_after moments count (Node node) = node_role moments node count
 role_after moments count other = None
 
@@ -91,7 +91,7 @@ rest_mark (Some Primary) true = codes "#"
 rest_mark (Some role) waits = codes "|"
 
 -- output of the node of this column waits
-abbrev pub is_waiting : List Place → Option Wait → ℕ → Bool
+abbrev pub is_waiting : List Lifeline → Option OutputWait → ℕ → Bool
 is_waiting places None column = false
 is_waiting places (Some wait) column = nat_lt 0 wait.operations && (column_of places (Node wait.node) == column)
 
@@ -103,30 +103,30 @@ arrow_mark from to column rest =
     else (if column == from then codes "o"
     else (if nat_lt (min from to) column && nat_lt column (max from to) then codes "-" else rest)))
 
-abbrev pub mark_text : Option Stroke → ℕ → List ℕ → List ℕ
+abbrev pub mark_text : Option LaneMark → ℕ → List ℕ → List ℕ
 mark_text (Some (Arrow from to)) column rest = arrow_mark from to column rest
 mark_text (Some (Leaves at)) column rest = if at == column then codes "o" else rest
 mark_text (Some (Happens at)) column rest = if at == column then codes "*" else rest
 mark_text None column rest = rest
 
 -- an arrow comes to a column from its left, or goes on to its right
-abbrev pub comes_from_left : Option Stroke → ℕ → Bool
+abbrev pub comes_from_left : Option LaneMark → ℕ → Bool
 comes_from_left (Some (Arrow from to)) column = nat_lt (min from to) column && nat_le column (max from to)
 comes_from_left stroke column = false
 
-abbrev pub goes_right : Option Stroke → ℕ → Bool
+abbrev pub goes_right : Option LaneMark → ℕ → Bool
 goes_right (Some (Arrow from to)) column = nat_le (min from to) column && nat_lt column (max from to)
 goes_right stroke column = false
 
 -- the role of the place of a column after an event
-abbrev pub place_role : List Moment → ℕ → Option Place → Option Role
+abbrev pub place_role : List Moment → ℕ → Option Lifeline → Option Role
 place_role moments event (Some place) = role_after moments (min (event + 1) (2 ^ 64 - 1)) place
 place_role moments event None = None
 
-abbrev pub column_role : List Moment → List Place → ℕ → ℕ → Option Role
+abbrev pub column_role : List Moment → List Lifeline → ℕ → ℕ → Option Role
 column_role moments places event column = place_role moments event (slice_get places column)
 
-abbrev pub column_rest : List Moment → List Place → ℕ → Option Wait → ℕ → List ℕ
+abbrev pub column_rest : List Moment → List Lifeline → ℕ → Option OutputWait → ℕ → List ℕ
 column_rest moments places event wait column = rest_mark (column_role moments places event column) (is_waiting places wait column)
 
 -- a column is twelve characters wide: three before its mark, and eight after it
@@ -138,12 +138,12 @@ abbrev pub right_text : Bool → List ℕ
 right_text true = codes "--------"
 right_text false = codes "        "
 
-abbrev pub column_text : Option Stroke → ℕ → List ℕ → List ℕ
+abbrev pub column_text : Option LaneMark → ℕ → List ℕ → List ℕ
 column_text stroke column rest =
     left_text (comes_from_left stroke column) ++ (mark_text stroke column rest ++ right_text (goes_right stroke column))
 
 -- the first so many columns, from left to right
-module _ (moments : List Moment) (places : List Place) (event : ℕ) (stroke : Option Stroke) (wait : Option Wait) where
+module _ (moments : List Moment) (places : List Lifeline) (event : ℕ) (stroke : Option LaneMark) (wait : Option OutputWait) where
   abbrev pub columns_text : ℕ → List ℕ
   columns_text zero = []
   columns_text (suc column) = columns_text column ++ column_text stroke column (column_rest moments places event wait column)
@@ -154,21 +154,21 @@ module _ (moments : List Moment) (places : List Place) (event : ℕ) (stroke : O
 -- ---- the names of the columns
 
 -- what is between a name and the next column, which begins twelve characters after it; there are at most 2 terminals and 64 nodes
-abbrev pub gap_text : Place → List ℕ
+abbrev pub gap_text : Lifeline → List ℕ
 gap_text (Terminal port) = codes "  "
 gap_text (Node node) = if nat_lt node 10 then codes "      " else codes "     "
 gap_text Arbiter = codes "     "
 gap_text Disk = codes "        "
 
-abbrev pub gap_of : Option Place → List ℕ
+abbrev pub gap_of : Option Lifeline → List ℕ
 gap_of (Some place) = gap_text place
 gap_of None = []
 
-abbrev pub name_of : Option Place → List ℕ
+abbrev pub name_of : Option Lifeline → List ℕ
 name_of (Some place) = place_text place
 name_of None = []
 
-module _ (places : List Place) where
+module _ (places : List Lifeline) where
   abbrev pub gap_at : ℕ → List ℕ
   gap_at column = gap_of (slice_get places column)
 
@@ -188,7 +188,7 @@ module _ (places : List Place) where
   abbrev pub names_text : List ℕ
   names_text = names_to (length places)
 
-abbrev pub head_text : List Place → List ℕ
+abbrev pub head_text : List Lifeline → List ℕ
 head_text places = codes " event " ++ names_text places
 
 -- ---- the line of an event
@@ -197,13 +197,13 @@ head_text places = codes " event " ++ names_text places
 abbrev pub number_text : ℕ → List ℕ
 number_text event = repeat (6 - length (decimal event)) (codes " ") ++ decimal event
 
-abbrev pub event_text : List Moment → List Place → ℕ → Option Stroke → Option Wait → Said → List ℕ
+abbrev pub event_text : List Moment → List Lifeline → ℕ → Option LaneMark → Option OutputWait → Said → List ℕ
 event_text moments places event stroke wait said =
     number_text event ++ (codes " " ++ (lanes_text moments places event stroke wait ++ said_text said))
 
-module _ (moments : List Moment) (places : List Place) (waits : List Wait) where
+module _ (moments : List Moment) (places : List Lifeline) (waits : List OutputWait) where
   pub record IsEvent (event : ℕ) (row : Row) : Type 0 where
-    pub stroke : Option Stroke
+    pub stroke : Option LaneMark
     pub drawn : IsDrawn moments places event stroke
     pub said : Said
     pub says : IsSaid moments waits event said
@@ -235,7 +235,7 @@ end_shown None count = count
 
 -- the names of the columns, and a line for each event that is shown
 pub record DrawsPicture (moments : List Moment) (stretch : Option Stretch) (old new : Printed) : Type 0 where
-  pub waits : List Wait
+  pub waits : List OutputWait
   pub are_waits : AreWaits moments waits
   pub rows : List Row
   pub are_rows : AreEvents moments (columns_of moments) waits (first_shown stretch (length moments))

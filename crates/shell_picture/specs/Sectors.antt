@@ -8,7 +8,7 @@ use Rattle.pair_events.specs.Printed.{byte_text, bytes_text}
 use Rattle.shared_disk.specs.declared.disk.SectorRead.{SectorRead}
 use Rattle.shell_book.specs.Texts.{Row, Text}
 use Rattle.shell_picture.specs.Answers.{refused}
-use Rattle.shell_picture.specs.Machines.{characters_text}
+use Rattle.shell_language.specs.Shown.{shown_bytes}
 
 -- `sector D T S: write N`
 abbrev pub sector_text : SectorAddress → ℕ → List ℕ
@@ -19,7 +19,7 @@ sector_text address number =
 -- `PP  HH HH ..  |TEXT|`: bytes of a sector from a place on
 abbrev pub dump_text : ℕ → List ℕ → List ℕ
 dump_text place bytes =
-    byte_text place ++ (codes " " ++ (bytes_text bytes ++ (codes "  |" ++ (characters_text bytes ++ codes "|"))))
+    byte_text place ++ (codes " " ++ (bytes_text bytes ++ (codes "  |" ++ (shown_bytes bytes ++ codes "|"))))
 
 -- a sector has 137 bytes: sixteen on each line, and nine on the last
 abbrev pub sector_places : List ℕ

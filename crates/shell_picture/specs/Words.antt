@@ -9,27 +9,27 @@ use Rattle.sequence_diagram.specs.declared.arrows.Departure.{Departure}
 use Rattle.sequence_diagram.specs.declared.exchanges.Exchange.{Exchange}
 use Rattle.sequence_diagram.specs.declared.flights.Flight.{Flight}
 use Rattle.sequence_diagram.specs.declared.moment.Moment.{Moment}
-use Rattle.sequence_diagram.specs.declared.waits.Wait.{Wait}
-use Rattle.shell_picture.specs.declared.words.Came.{Came}
-use Rattle.shell_picture.specs.declared.words.Left.{Left}
+use Rattle.sequence_diagram.specs.declared.waits.OutputWait.{OutputWait}
+use Rattle.shell_picture.specs.declared.words.CameMessage.{CameMessage}
+use Rattle.shell_picture.specs.declared.words.LeftMessage.{LeftMessage}
 use Rattle.shell_picture.specs.declared.words.Said.{Said}
 use Rattle.shell_picture.specs.declared.words.Said.TheVariants.{Nothing, Passes, Comes, Leaves, Answers, Happens}
 
 -- ---- of what something is said
 
 -- how many operations wait after an event, and whether they are more than before it
-abbrev pub operations_at : List Wait → ℕ → ℕ
-operations_at waits event = option_map_or (λ (wait : Wait). wait.operations) (slice_get waits event) 0
+abbrev pub operations_at : List OutputWait → ℕ → ℕ
+operations_at waits event = option_map_or (λ (wait : OutputWait). wait.operations) (slice_get waits event) 0
 
-abbrev pub waits_more : List Wait → ℕ → Bool
+abbrev pub waits_more : List OutputWait → ℕ → Bool
 waits_more waits zero = nat_lt 0 (operations_at waits 0)
 waits_more waits (suc before) = nat_lt (operations_at waits before) (operations_at waits (suc before))
 
 -- a message that came, with the event that sent it; and one that left
-abbrev pub came_by : List Moment → Moment → Flight → Came
+abbrev pub came_by : List Moment → Moment → Flight → CameMessage
 came_by moments here flight = record { sent = slice_get moments flight.sent; is_again = flight.is_again; here = here }
 
-abbrev pub left_by : Moment → Departure → Left
+abbrev pub left_by : Moment → Departure → LeftMessage
 left_by here departure = record { message = departure.message; here = here; comes = is_some departure.came }
 
 abbrev pub said_by : List Moment → Moment → Bool → Option Flight → Option Departure → Said
@@ -38,7 +38,7 @@ said_by moments here more (Some flight) None = Comes (came_by moments here fligh
 said_by moments here more None (Some departure) = Leaves (left_by here departure)
 said_by moments here more (Some flight) (Some departure) = Answers (came_by moments here flight) (left_by here departure)
 
-module _ (moments : List Moment) (waits : List Wait) (event : ℕ) where
+module _ (moments : List Moment) (waits : List OutputWait) (event : ℕ) where
   -- of an exchange what passes; of another event the messages that came and left, or what happens
   abbrev pub SaysExchange : Moment → Option Exchange → Said → Type 0
   SaysExchange here (Some exchange) said = said ≡ Passes here
@@ -75,10 +75,10 @@ abbrev pub sent_text : Option Moment → List ℕ
 sent_text (Some sent) = carried_text sent
 sent_text None = []
 
-abbrev pub came_text : Came → List ℕ
+abbrev pub came_text : CameMessage → List ℕ
 came_text came = sent_text came.sent ++ (again_text came.is_again ++ result_text came.here)
 
-abbrev pub left_text : Left → List ℕ
+abbrev pub left_text : LeftMessage → List ℕ
 left_text left =
     codes "sends message " ++ (decimal left.message ++ (codes ": " ++ (carried_text left.here ++ there_text left.comes)))
 

@@ -12,9 +12,9 @@ use std::fmt;
 
 /// An instruction that prints as an assembler takes it.
 #[derive(Clone, Copy)]
-pub(crate) struct Assembly(pub(crate) Op);
+pub(crate) struct InstructionText(pub(crate) Op);
 
-impl fmt::Display for Assembly {
+impl fmt::Display for InstructionText {
     ghost output = { λ assembly. Some (instruction_text assembly.0) };
 
     fn fmt<W: fmt::Write>(&self, f: &mut fmt::Formatter<W>) -> fmt::Result {

@@ -6,14 +6,15 @@ ghost use Rattle.shell_picture.specs.Pictures.{IsDrawn, arrow_between, arrow_mar
 use crate::roles::role_after;
 use pair_events::Role;
 use sequence_diagram::{
-    Columns, Moment, Place, Wait, departure_from, exchange_of, flight_to, place_of, sender_of,
+    Columns, Lifeline, Moment, OutputWait, departure_from, exchange_of, flight_to, place_of,
+    sender_of,
 };
 use std::fmt;
 
 /// What is drawn in the columns: an arrow from one to another; or a mark in one, where a message leaves, or where
 /// something happens that neither sends nor brings one.
 #[derive(Clone, Copy)]
-pub enum Stroke {
+pub enum LaneMark {
     Arrow { from: usize, to: usize },
     Leaves { at: usize },
     Happens { at: usize },
@@ -21,7 +22,7 @@ pub enum Stroke {
 
 /// What is drawn of an event.
 #[tactic(auto, using(crate::proofs::Drawing::draws_nothing, crate::proofs::Drawing::draws_exchange, crate::proofs::Drawing::draws_flight, crate::proofs::Drawing::draws_mark))]
-pub fn stroke_of(moments: &[Moment], columns: &Columns, event: usize) -> Option<Stroke>
+pub fn stroke_of(moments: &[Moment], columns: &Columns, event: usize) -> Option<LaneMark>
     ensures { IsDrawn moments.now columns.now.places.items event result }
 {
     let moment = moments.get(event)?;
@@ -33,16 +34,16 @@ pub fn stroke_of(moments: &[Moment], columns: &Columns, event: usize) -> Option<
     }
     if departure_from(moments, event).is_some() {
         let at = columns.column(sender_of(moment.event));
-        return Some(Stroke::Leaves { at });
+        return Some(LaneMark::Leaves { at });
     }
     let at = columns.column(place_of(moment.event));
-    Some(Stroke::Happens { at })
+    Some(LaneMark::Happens { at })
 }
 
-fn arrow(columns: &Columns, from: Place, to: Place) -> Stroke
+fn arrow(columns: &Columns, from: Lifeline, to: Lifeline) -> LaneMark
     ensures { result ≡ arrow_between columns.now.places.items from to }
 {
-    Stroke::Arrow {
+    LaneMark::Arrow {
         from: columns.column(from),
         to: columns.column(to),
     }
@@ -51,10 +52,10 @@ fn arrow(columns: &Columns, from: Place, to: Place) -> Stroke
 /// The columns beside an event, of all that have happened.
 #[derive(Clone, Copy)]
 pub struct Lanes<'a> {
-    pub stroke: Option<Stroke>,
+    pub stroke: Option<LaneMark>,
     pub columns: &'a Columns,
     pub moments: &'a [Moment],
-    pub wait: Option<Wait>,
+    pub wait: Option<OutputWait>,
     pub event: usize,
 }
 
@@ -94,7 +95,7 @@ impl Lanes<'_> {
 // A column: what comes from its left, its mark, and what goes on to its right.
 fn write_column<W: fmt::Write>(
     f: &mut fmt::Formatter<W>,
-    stroke: Option<Stroke>,
+    stroke: Option<LaneMark>,
     column: usize,
     rest: &'static str,
 ) -> fmt::Result
@@ -131,23 +132,23 @@ fn rest_mark(role: Option<Role>, waits: bool) -> &'static str
 }
 
 // Whether output of the node of a column waits.
-fn is_waiting(columns: &Columns, wait: Option<Wait>, column: usize) -> bool
+fn is_waiting(columns: &Columns, wait: Option<OutputWait>, column: usize) -> bool
     ensures { result ≡ is_waiting columns.now.places.items wait column }
 {
     match wait {
-        Some(wait) => wait.operations > 0 && columns.column(Place::Node(wait.node)) == column,
+        Some(wait) => wait.operations > 0 && columns.column(Lifeline::Node(wait.node)) == column,
         None => false,
     }
 }
 
 // What is in the middle of a column.
-fn mark_text(stroke: Option<Stroke>, column: usize, rest: &'static str) -> &'static str
+fn mark_text(stroke: Option<LaneMark>, column: usize, rest: &'static str) -> &'static str
     ensures { result.now ≡ mark_text stroke column rest.now }
 {
     match stroke {
-        Some(Stroke::Arrow { from, to }) => arrow_mark(from, to, column, rest),
-        Some(Stroke::Leaves { at }) if at == column => "o",
-        Some(Stroke::Happens { at }) if at == column => "*",
+        Some(LaneMark::Arrow { from, to }) => arrow_mark(from, to, column, rest),
+        Some(LaneMark::Leaves { at }) if at == column => "o",
+        Some(LaneMark::Happens { at }) if at == column => "*",
         _ => rest,
     }
 }
@@ -170,21 +171,21 @@ fn arrow_mark(from: usize, to: usize, column: usize, rest: &'static str) -> &'st
 }
 
 // Whether an arrow comes to a column from its left.
-fn comes_from_left(stroke: Option<Stroke>, column: usize) -> bool
+fn comes_from_left(stroke: Option<LaneMark>, column: usize) -> bool
     ensures { result ≡ comes_from_left stroke column }
 {
     match stroke {
-        Some(Stroke::Arrow { from, to }) => from.min(to) < column && column <= from.max(to),
+        Some(LaneMark::Arrow { from, to }) => from.min(to) < column && column <= from.max(to),
         _ => false,
     }
 }
 
 // Whether an arrow goes on to the right of a column.
-fn goes_right(stroke: Option<Stroke>, column: usize) -> bool
+fn goes_right(stroke: Option<LaneMark>, column: usize) -> bool
     ensures { result ≡ goes_right stroke column }
 {
     match stroke {
-        Some(Stroke::Arrow { from, to }) => from.min(to) <= column && column < from.max(to),
+        Some(LaneMark::Arrow { from, to }) => from.min(to) <= column && column < from.max(to),
         _ => false,
     }
 }

@@ -3,7 +3,6 @@
 
 mod answers;
 mod assembly;
-mod characters;
 mod head;
 mod held_up;
 mod lanes;
@@ -14,6 +13,7 @@ mod picture;
 mod roles;
 mod screen;
 mod sector;
+mod spaced;
 mod words;
 
 pub use answers::{print_help, print_last, print_refusal, print_refusals, print_screen, print_sum};

@@ -1,11 +1,11 @@
 //! Bytes of memory, as instructions.
 ghost use Rattle.std.specs.Prelude.{◌≡◌, ◌∷◌, [], IfOk, Some};
 ghost use Rattle.shell_book.specs.Texts.{Prints};
-ghost use Rattle.shell_picture.specs.Listings.{byte_in, gap_text, listing_rows, listing_text, shown_bytes};
+ghost use Rattle.shell_picture.specs.Listings.{byte_in, gap_text, listing_rows, listing_text, instruction_bytes};
 
 use crate::answers::after;
-use crate::assembly::Assembly;
-use crate::characters::Spaced;
+use crate::assembly::InstructionText;
+use crate::spaced::Spaced;
 use i8080_words::{decode, length};
 use shell_book::Printed;
 use shell_language::Address;
@@ -61,14 +61,14 @@ impl fmt::Display for ListingLine {
             Address(self.address),
             Spaced(shown(&self.bytes, size)),
             gap(size),
-            Assembly(decode(self.bytes))
+            InstructionText(decode(self.bytes))
         )
     }
 }
 
 // The bytes of an instruction of this size.
 fn shown(bytes: &[u8; 3], size: u8) -> &[u8]
-    ensures { result.now ≡ shown_bytes size bytes.now }
+    ensures { result.now ≡ instruction_bytes size bytes.now }
 {
     match size {
         1 => &bytes[..1],

@@ -4,13 +4,14 @@ ghost use Rattle.std.specs.Fmt.{WritesOnOk};
 ghost use Rattle.i8080_words.specs.Arithmetic.{flag_byte};
 ghost use Rattle.pair_events.specs.Printed.{byte_text};
 ghost use Rattle.shell_book.specs.Texts.{Prints};
-ghost use Rattle.shell_picture.specs.Machines.{address_text, flags_text, halt_text, interrupts_text, letter_text, memory_rows, memory_text, register_rows, registers_text, state_text};
+ghost use Rattle.shell_language.specs.Shown.{address_text};
+ghost use Rattle.shell_picture.specs.Machines.{flags_text, halt_text, interrupts_text, letter_text, memory_rows, memory_text, register_rows, registers_text, state_text};
 
 use crate::answers::after;
-use crate::characters::{Characters, Spaced};
+use crate::spaced::Spaced;
 use i8080_words::{Flags, Interrupts, Processor, Regs, psw};
 use shell_book::Printed;
-use shell_language::{Address, Hexadecimal};
+use shell_language::{Address, Hexadecimal, Printable};
 use std::alloc::AllocError;
 use std::fmt;
 
@@ -25,7 +26,7 @@ pub fn print_registers(
 ) -> Result<(), AllocError>
     ensures { IfOk result (λ _. Prints (register_rows processor.now count) printed.old printed.new) }
 {
-    printed.line(&Registers(processor.regs))?;
+    printed.line(&RegisterRow(processor.regs))?;
     printed.line(&State { processor, count })?;
     Ok(())
 }
@@ -38,7 +39,7 @@ pub fn print_memory(from: u16, bytes: &[u8], printed: &mut Printed) -> Result<()
     let mut address = from;
     'lines: while !rest.is_empty() {
         let bytes = before(rest, LINE);
-        printed.line(&MemoryLine { address, bytes })?;
+        printed.line(&MemoryRow { address, bytes })?;
         address = address.wrapping_add(LINE as u16);
         rest = after(rest, LINE);
     }
@@ -58,9 +59,9 @@ pub(crate) fn before(bytes: &[u8], count: usize) -> &[u8]
 
 // The registers.
 #[derive(Clone, Copy)]
-struct Registers(Regs);
+struct RegisterRow(Regs);
 
-impl fmt::Display for Registers {
+impl fmt::Display for RegisterRow {
     ghost output = { λ registers. Some (registers_text registers.0) };
 
     fn fmt<W: fmt::Write>(&self, f: &mut fmt::Formatter<W>) -> fmt::Result {
@@ -179,12 +180,12 @@ fn letter(is_set: bool, letter: &'static str) -> &'static str
 
 // Bytes of memory from an address on.
 #[derive(Clone, Copy)]
-struct MemoryLine<'a> {
+struct MemoryRow<'a> {
     address: u16,
     bytes: &'a [u8],
 }
 
-impl fmt::Display for MemoryLine<'_> {
+impl fmt::Display for MemoryRow<'_> {
     ghost output = { λ line. Some (memory_text line.address line.bytes.now) };
 
     fn fmt<W: fmt::Write>(&self, f: &mut fmt::Formatter<W>) -> fmt::Result {
@@ -193,7 +194,7 @@ impl fmt::Display for MemoryLine<'_> {
             "{} {}  |{}|",
             Address(self.address),
             Spaced(self.bytes),
-            Characters(self.bytes)
+            Printable(self.bytes)
         )
     }
 }

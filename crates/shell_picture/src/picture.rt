@@ -3,10 +3,10 @@ ghost use Rattle.std.specs.Prelude.{◌≡◌, ◌-◌, IfOk, Some, slice_get};
 ghost use Rattle.std.specs.Fmt.{WritesOnOk};
 ghost use Rattle.shell_picture.specs.Pictures.{DrawsPicture, PrintsEvent, PrintsEvents, end_shown, event_text, first_shown, number_text};
 
-use crate::head::Head;
+use crate::head::PictureHead;
 use crate::lanes::{Lanes, stroke_of};
 use crate::words::{Said, said_of};
-use sequence_diagram::{Columns, Moment, Wait, waits_of};
+use sequence_diagram::{Columns, Moment, OutputWait, waits_of};
 use shell_book::Printed;
 use shell_language::Stretch;
 use std::alloc::{AllocError, Global};
@@ -28,7 +28,7 @@ pub fn print_picture(
     let waits = waits_of(alloc, past)?;
     let first = first_shown(stretch, past.len());
     let end = end_shown(stretch, past.len());
-    printed.line(&Head { columns: &columns })?;
+    printed.line(&PictureHead { columns: &columns })?;
     print_events(past, &columns, &waits, first, end, printed)
 }
 
@@ -57,7 +57,7 @@ fn end_shown(stretch: Option<Stretch>, count: usize) -> usize
 fn print_events(
     moments: &[Moment],
     columns: &Columns,
-    waits: &[Wait],
+    waits: &[OutputWait],
     first: usize,
     end: usize,
     printed: &mut Printed,
@@ -74,7 +74,7 @@ fn print_events(
 fn print_event(
     moments: &[Moment],
     columns: &Columns,
-    waits: &[Wait],
+    waits: &[OutputWait],
     event: usize,
     printed: &mut Printed,
 ) -> Result<(), AllocError>
@@ -88,12 +88,12 @@ fn print_event(
         wait: wait_at(waits, event),
         event,
     };
-    printed.line(&Line { lanes, said })?;
+    printed.line(&EventRow { lanes, said })?;
     Ok(())
 }
 
 // What waits after an event.
-fn wait_at(waits: &[Wait], event: usize) -> Option<Wait>
+fn wait_at(waits: &[OutputWait], event: usize) -> Option<OutputWait>
     ensures { result ≡ slice_get waits.now event }
 {
     waits.get(event).copied()
@@ -101,12 +101,12 @@ fn wait_at(waits: &[Wait], event: usize) -> Option<Wait>
 
 // The line of an event: its number, the columns beside it, and what is said of it.
 #[derive(Clone, Copy)]
-struct Line<'a> {
+struct EventRow<'a> {
     lanes: Lanes<'a>,
     said: Said,
 }
 
-impl fmt::Display for Line<'_> {
+impl fmt::Display for EventRow<'_> {
     ghost output = { λ line. Some (event_text line.lanes.moments.now line.lanes.columns.now.places.items line.lanes.event
         line.lanes.stroke line.lanes.wait line.said) };
 

@@ -3,14 +3,14 @@ ghost use Rattle.std.specs.Prelude.{◌≡◌};
 ghost use Rattle.shell_picture.specs.Pictures.{node_role, role_after, told_at};
 
 use pair_events::Role;
-use sequence_diagram::{Moment, Place, first_role};
+use sequence_diagram::{Lifeline, Moment, first_role};
 
 /// The role of a node after so many events; other places have none.
-pub fn role_after(moments: &[Moment], count: usize, place: Place) -> Option<Role>
+pub fn role_after(moments: &[Moment], count: usize, place: Lifeline) -> Option<Role>
     ensures { result ≡ role_after moments.now count place }
 {
     match place {
-        Place::Node(node) => node_role(moments, node, count),
+        Lifeline::Node(node) => node_role(moments, node, count),
         _ => None,
     }
 }

@@ -5,13 +5,13 @@ ghost use Rattle.shell_book.specs.Texts.{Prints};
 ghost use Rattle.shell_picture.specs.Sectors.{dump_row, dump_text, sector_text, read_rows, sector_places, sector_rows};
 
 use crate::answers::{after, print_refusal};
-use crate::characters::{Characters, Spaced};
 use crate::machine::{LINE, before};
+use crate::spaced::Spaced;
 use disk_dcdd::SectorAddress;
 use i8080_words::R;
 use shared_disk::SectorRead;
 use shell_book::Printed;
-use shell_language::Hexadecimal;
+use shell_language::{Hexadecimal, Printable};
 use std::alloc::AllocError;
 use std::fmt;
 
@@ -102,7 +102,7 @@ impl fmt::Display for Dump<'_> {
             "{} {}  |{}|",
             Hexadecimal(self.place),
             Spaced(self.bytes),
-            Characters(self.bytes)
+            Printable(self.bytes)
         )
     }
 }

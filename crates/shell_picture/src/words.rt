@@ -6,7 +6,8 @@ ghost use Rattle.sequence_diagram.specs.Words.{note_text};
 ghost use Rattle.shell_picture.specs.Words.{IsSaid, SaysExchange, again_text, came_by, came_text, held_back_text, left_by, left_text, operations_at, result_text, said_by, said_text, sent_text, there_text, waits_more};
 
 use sequence_diagram::{
-    Carried, Departure, Flight, Moment, Note, Outcome, Wait, departure_from, exchange_of, flight_to,
+    Carried, Departure, Flight, Moment, NoteText, OutcomeText, OutputWait, departure_from,
+    exchange_of, flight_to,
 };
 use std::fmt::{self, Display};
 
@@ -16,15 +17,21 @@ use std::fmt::{self, Display};
 pub enum Said {
     Nothing,
     Passes(Moment),
-    Comes(Came),
-    Leaves(Left),
-    Answers { came: Came, left: Left },
-    Happens { here: Moment, is_held_back: bool },
+    Comes(CameMessage),
+    Leaves(LeftMessage),
+    Answers {
+        came: CameMessage,
+        left: LeftMessage,
+    },
+    Happens {
+        here: Moment,
+        is_held_back: bool,
+    },
 }
 
 /// A message that came: the event that sent it, whether it had come before, and the event that brought it.
 #[derive(Clone, Copy)]
-pub struct Came {
+pub struct CameMessage {
     pub sent: Option<Moment>,
     pub is_again: bool,
     pub here: Moment,
@@ -32,7 +39,7 @@ pub struct Came {
 
 /// A message that left: its number, the event that sent it, and whether it comes.
 #[derive(Clone, Copy)]
-pub struct Left {
+pub struct LeftMessage {
     pub message: u64,
     pub here: Moment,
     pub comes: bool,
@@ -40,7 +47,7 @@ pub struct Left {
 
 /// What is said of an event, of all that have happened.
 #[tactic(auto, using(crate::proofs::Saying::says_nothing, crate::proofs::Saying::says_here))]
-pub fn said_of(moments: &[Moment], waits: &[Wait], event: usize) -> Said
+pub fn said_of(moments: &[Moment], waits: &[OutputWait], event: usize) -> Said
     ensures { IsSaid moments.now waits.now event result }
 {
     match moment_at(moments, event) {
@@ -56,7 +63,7 @@ fn moment_at(moments: &[Moment], event: usize) -> Option<Moment>
 }
 
 #[tactic(auto, using(crate::proofs::Saying::says_exchange, crate::proofs::Saying::says_other))]
-fn said_here(moments: &[Moment], waits: &[Wait], event: usize, here: Moment) -> Said
+fn said_here(moments: &[Moment], waits: &[OutputWait], event: usize, here: Moment) -> Said
     ensures { SaysExchange moments.now waits.now event here (exchange_of here) result }
 {
     match exchange_of(&here) {
@@ -92,20 +99,20 @@ fn said_by(
     }
 }
 
-fn came_by(moments: &[Moment], here: Moment, flight: Flight) -> Came
+fn came_by(moments: &[Moment], here: Moment, flight: Flight) -> CameMessage
     ensures { result ≡ came_by moments.now here flight }
 {
-    Came {
+    CameMessage {
         sent: moment_at(moments, flight.sent),
         is_again: flight.is_again,
         here,
     }
 }
 
-fn left_by(here: Moment, departure: Departure) -> Left
+fn left_by(here: Moment, departure: Departure) -> LeftMessage
     ensures { result ≡ left_by here departure }
 {
-    Left {
+    LeftMessage {
         message: departure.message,
         here,
         comes: departure.came.is_some(),
@@ -113,7 +120,7 @@ fn left_by(here: Moment, departure: Departure) -> Left
 }
 
 // Whether more output waits after an event than before it.
-fn waits_more(waits: &[Wait], event: usize) -> bool
+fn waits_more(waits: &[OutputWait], event: usize) -> bool
     ensures { result ≡ waits_more waits.now event }
 {
     match event {
@@ -123,7 +130,7 @@ fn waits_more(waits: &[Wait], event: usize) -> bool
 }
 
 // How many operations wait after an event.
-fn operations_at(waits: &[Wait], event: usize) -> usize
+fn operations_at(waits: &[OutputWait], event: usize) -> usize
     ensures { result ≡ operations_at waits.now event }
 {
     match waits.get(event) {
@@ -151,7 +158,7 @@ impl Display for Said {
 fn write_passed<W: fmt::Write>(f: &mut fmt::Formatter<W>, here: Moment) -> fmt::Result
     ensures { WritesOnOk W.write_str_gives f.old result (note_text here ++ result_text here) f.new }
 {
-    Note(here).fmt(f)?;
+    NoteText(here).fmt(f)?;
     write_result(f, here)
 }
 
@@ -163,7 +170,7 @@ fn write_happened<W: fmt::Write>(
 ) -> fmt::Result
     ensures { WritesOnOk W.write_str_gives f.old result (note_text here ++ held_back_text is_held_back) f.new }
 {
-    Note(here).fmt(f)?;
+    NoteText(here).fmt(f)?;
     f.write_str(held_back_text(is_held_back))
 }
 
@@ -174,7 +181,11 @@ fn held_back_text(is_held_back: bool) -> &'static str
 }
 
 // The message that came, and the one that left in answer.
-fn write_both<W: fmt::Write>(f: &mut fmt::Formatter<W>, came: Came, left: Left) -> fmt::Result
+fn write_both<W: fmt::Write>(
+    f: &mut fmt::Formatter<W>,
+    came: CameMessage,
+    left: LeftMessage,
+) -> fmt::Result
     ensures { WritesOnOk W.write_str_gives f.old result (came_text came ++ (codes "; " ++ left_text left)) f.new }
 {
     write_came(f, came)?;
@@ -183,7 +194,7 @@ fn write_both<W: fmt::Write>(f: &mut fmt::Formatter<W>, came: Came, left: Left) 
 }
 
 // What the message carries that came, whether it had come before, and what came of it.
-fn write_came<W: fmt::Write>(f: &mut fmt::Formatter<W>, came: Came) -> fmt::Result
+fn write_came<W: fmt::Write>(f: &mut fmt::Formatter<W>, came: CameMessage) -> fmt::Result
     ensures { WritesOnOk W.write_str_gives f.old result (came_text came) f.new }
 {
     write_sent(f, came.sent)?;
@@ -210,7 +221,7 @@ fn write_sent<W: fmt::Write>(f: &mut fmt::Formatter<W>, sent: Option<Moment>) ->
 fn write_result<W: fmt::Write>(f: &mut fmt::Formatter<W>, here: Moment) -> fmt::Result
     ensures { WritesOnOk W.write_str_gives f.old result (result_text here) f.new }
 {
-    let outcome = Outcome(here);
+    let outcome = OutcomeText(here);
     if outcome.is_plain() {
         return Ok(());
     }
@@ -218,7 +229,7 @@ fn write_result<W: fmt::Write>(f: &mut fmt::Formatter<W>, here: Moment) -> fmt::
 }
 
 // The message that left, what it carries, and whether it comes.
-fn write_left<W: fmt::Write>(f: &mut fmt::Formatter<W>, left: Left) -> fmt::Result
+fn write_left<W: fmt::Write>(f: &mut fmt::Formatter<W>, left: LeftMessage) -> fmt::Result
     ensures { WritesOnOk W.write_str_gives f.old result (left_text left) f.new }
 {
     let carried = Carried(left.here);

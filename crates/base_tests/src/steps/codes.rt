@@ -7,7 +7,7 @@
 //! port; 4F, the port and the byte), and the sum over the bytes written of (address * 256 + byte) * 2654435761 modulo 2^32, highest
 //! byte first. The second executor is proved to do what the same definitions say.
 
-use super::machine::{Machine, PortAccess};
+use super::machine::{PortAccess, TestBus};
 use crate::folds::{Draw, Fold};
 use i8080_core::Cpu;
 use i8080_words::{AddressRegister, Interrupts, Processor, R, Regs, of_psw, psw};
@@ -127,13 +127,13 @@ fn fold_port(fold: &mut Fold, access: &Option<PortAccess>) {
 }
 
 // Puts the byte that memory had before the first round.
-fn restore(machine: &mut Machine, before: &[u8], address: u16) {
+fn restore(machine: &mut TestBus, before: &[u8], address: u16) {
     let byte = before.get(address as usize).copied().unwrap_or(0);
     machine.put(address, byte);
 }
 
 // Puts a code and its data at an address.
-fn load(machine: &mut Machine, address: u16, bytes: &[u8; 3]) {
+fn load(machine: &mut TestBus, address: u16, bytes: &[u8; 3]) {
     let mut at = address;
     for byte in bytes {
         machine.put(at, *byte);
@@ -142,7 +142,7 @@ fn load(machine: &mut Machine, address: u16, bytes: &[u8; 3]) {
 }
 
 // Restores what a step and its code overwrote, and forgets the step.
-fn take_back(machine: &mut Machine, before: &[u8], address: u16) {
+fn take_back(machine: &mut TestBus, before: &[u8], address: u16) {
     let written = machine.written;
     for at in written.iter().flatten() {
         restore(machine, before, *at);
@@ -155,14 +155,14 @@ fn take_back(machine: &mut Machine, before: &[u8], address: u16) {
 }
 
 // The processor after a step.
-fn stepped(machine: &mut Machine, processor: &Processor) -> Processor {
+fn stepped(machine: &mut TestBus, processor: &Processor) -> Processor {
     let mut cpu = Cpu::resume(*processor);
     let _ran = cpu.step(machine, None);
     *cpu.processor()
 }
 
 // One round of a code.
-fn round(code: u8, draw: &mut Draw, fold: &mut Fold, machine: &mut Machine, before: &[u8]) {
+fn round(code: u8, draw: &mut Draw, fold: &mut Fold, machine: &mut TestBus, before: &[u8]) {
     let drawn = drawn_bytes(draw);
     let [.., first, second] = drawn;
     let processor = processor_of(drawn);
@@ -177,7 +177,7 @@ fn round(code: u8, draw: &mut Draw, fold: &mut Fold, machine: &mut Machine, befo
 }
 
 // The fold of a code after 256 rounds.
-fn folded_by(code: u8, machine: &mut Machine, before: &[u8]) -> u32 {
+fn folded_by(code: u8, machine: &mut TestBus, before: &[u8]) -> u32 {
     let mut draw = Draw::new(u32::from(code));
     let mut fold = Fold::new();
     for _ in 0..256 {
@@ -197,7 +197,7 @@ fn drawn_memory(alloc: Global) -> R<Vec<u8>> {
 }
 
 // Each code has its fold, and no step has written anywhere else.
-fn expect_folds(rt: &impl Abort, machine: &mut Machine, before: &[u8]) {
+fn expect_folds(rt: &impl Abort, machine: &mut TestBus, before: &[u8]) {
     for (code, folded) in (0..=255).zip(&FOLDED) {
         assert!(rt; folded_by(code, machine, before) == *folded, "code {code}");
     }
@@ -208,7 +208,7 @@ fn expect_folds(rt: &impl Abort, machine: &mut Machine, before: &[u8]) {
 fn codes_fold_to_the_numbers_of_another_program(rt: HostRuntime) -> R<()> {
     let before = drawn_memory(rt.alloc())?;
     assert!(rt; before.starts_with(&[0x5e, 0x2a, 0x43, 0xc2, 0x6e, 0x20, 0x1f, 0x27]));
-    let mut machine = Machine::of(before.clone()?);
+    let mut machine = TestBus::of(before.clone()?);
     expect_folds(&rt, &mut machine, &before);
     Ok(())
 }

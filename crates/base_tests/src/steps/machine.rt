@@ -12,13 +12,13 @@ pub(super) enum PortAccess {
 
 /// Memory, the addresses that were written last, and the port that was accessed last. IN p reads p XOR 5A.
 #[derive(Drop)]
-pub(super) struct Machine {
+pub(super) struct TestBus {
     pub(super) bytes: Vec<u8>,
     pub(super) written: [Option<u16>; 2],
     pub(super) port: Option<PortAccess>,
 }
 
-impl Bus for Machine {
+impl Bus for TestBus {
     ghost use Rattle.std.specs.Prelude.{ℕ, List};
 
     ghost State = { List ℕ };
@@ -57,10 +57,10 @@ impl Bus for Machine {
     }
 }
 
-impl Machine {
+impl TestBus {
     /// With these bytes in memory, before the first access.
-    pub(super) fn of(bytes: Vec<u8>) -> Machine {
-        Machine {
+    pub(super) fn of(bytes: Vec<u8>) -> TestBus {
+        TestBus {
             bytes,
             written: [None; 2],
             port: None,

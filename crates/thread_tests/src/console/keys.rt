@@ -5,7 +5,7 @@ use std::io::{self, ErrorKind, IsTerminal, Read};
 
 // What a read gives.
 #[derive(Clone, Copy)]
-enum Given {
+enum ReadGives {
     Byte(u8),
     Nothing,
     Fails(ErrorKind),
@@ -13,19 +13,19 @@ enum Given {
 
 #[derive(Drop)]
 struct Reader {
-    given: Given,
+    given: ReadGives,
     is_terminal: bool,
 }
 
 impl Read for Reader {
     fn read(&mut self, block: &mut [u8]) -> io::Result<usize> {
         match self.given {
-            Given::Byte(byte) if !block.is_empty() => {
+            ReadGives::Byte(byte) if !block.is_empty() => {
                 block[0] = byte;
                 Ok(1)
             }
-            Given::Byte(_) | Given::Nothing => Ok(0),
-            Given::Fails(kind) => Err(io::Error::from(kind)),
+            ReadGives::Byte(_) | ReadGives::Nothing => Ok(0),
+            ReadGives::Fails(kind) => Err(io::Error::from(kind)),
         }
     }
 }
@@ -36,13 +36,13 @@ impl IsTerminal for Reader {
     }
 }
 
-static READS: [(Given, bool, Heard); 6] = [
-    (Given::Byte(0x41), true, Heard::Key(0x41)),
-    (Given::Byte(0xff), false, Heard::Key(0xff)),
-    (Given::Nothing, true, Heard::Quiet),
-    (Given::Nothing, false, Heard::End),
-    (Given::Fails(ErrorKind::Interrupted), true, Heard::Quiet),
-    (Given::Fails(ErrorKind::Other), true, Heard::Failed),
+static READS: [(ReadGives, bool, Heard); 6] = [
+    (ReadGives::Byte(0x41), true, Heard::Key(0x41)),
+    (ReadGives::Byte(0xff), false, Heard::Key(0xff)),
+    (ReadGives::Nothing, true, Heard::Quiet),
+    (ReadGives::Nothing, false, Heard::End),
+    (ReadGives::Fails(ErrorKind::Interrupted), true, Heard::Quiet),
+    (ReadGives::Fails(ErrorKind::Other), true, Heard::Failed),
 ];
 
 #[test]

@@ -40,13 +40,13 @@ impl KeySource for Typed<'_> {
 
 // Records the commands that it is given, and answers to `status` alone.
 #[derive(Drop)]
-pub(super) struct Recorder<R> {
+pub(super) struct CommandRecorder<R> {
     pub(super) rt: R,
     pub(super) alloc: Global,
     pub(super) commands: Vec<Command>,
 }
 
-impl<R: Abort> Interpreter for Recorder<R> {
+impl<R: Abort> Interpreter for CommandRecorder<R> {
     ghost given = { λ r. Some r.commands.items };
 
     fn carry_out(&mut self, command: Command, _line: &[u8]) -> Option<String> {
@@ -59,7 +59,7 @@ impl<R: Abort> Interpreter for Recorder<R> {
 }
 
 // What is typed, and what comes of it; `first` and `second` are the strokes of the two keyboards.
-struct Case {
+struct TypedCase {
     typed: &'static [u8],
     ending: Ending,
     first: &'static [Stroke],
@@ -68,8 +68,8 @@ struct Case {
     text: &'static [u8],
 }
 
-static CASES: [Case; 9] = [
-    Case {
+static CASES: [TypedCase; 9] = [
+    TypedCase {
         typed: b"ab",
         ending: Ending::EndOfInput,
         first: &[Stroke::Key(b'a'), Stroke::Key(b'b'), Stroke::End],
@@ -77,7 +77,7 @@ static CASES: [Case; 9] = [
         commands: &[],
         text: b"",
     },
-    Case {
+    TypedCase {
         typed: b"a\x05terminal 1\rb\x05\x05",
         ending: Ending::EndOfInput,
         first: &[Stroke::Key(b'a'), Stroke::End],
@@ -85,7 +85,7 @@ static CASES: [Case; 9] = [
         commands: &[Command::Terminal(Port::One)],
         text: b"\r\npair> terminal 1\r\n\r\npair> \r\n",
     },
-    Case {
+    TypedCase {
         typed: b"\x05status\r\x05stop 1\r",
         ending: Ending::Stopped,
         first: &[],
@@ -93,7 +93,7 @@ static CASES: [Case; 9] = [
         commands: &[Command::Status, Command::Stop(1)],
         text: b"\r\npair> status\r\nfine\r\n\r\npair> stop 1\r\n",
     },
-    Case {
+    TypedCase {
         typed: b"\x05go\r",
         ending: Ending::EndOfInput,
         first: &[Stroke::End],
@@ -101,7 +101,7 @@ static CASES: [Case; 9] = [
         commands: &[],
         text: b"\r\npair> go\r\nno such command; `help` lists them\r\n",
     },
-    Case {
+    TypedCase {
         typed: b"x\x05quit\ry",
         ending: Ending::Quit,
         first: &[Stroke::Key(b'x'), Stroke::End],
@@ -109,7 +109,7 @@ static CASES: [Case; 9] = [
         commands: &[Command::Quit],
         text: b"\r\npair> quit\r\n",
     },
-    Case {
+    TypedCase {
         typed: b"\x05ab\x7f\x03c",
         ending: Ending::EndOfInput,
         first: &[Stroke::Key(b'c'), Stroke::End],
@@ -117,7 +117,7 @@ static CASES: [Case; 9] = [
         commands: &[],
         text: b"\r\npair> ab\x08 \x08\r\n",
     },
-    Case {
+    TypedCase {
         typed: b"\x05sta",
         ending: Ending::EndOfInput,
         first: &[Stroke::End],
@@ -125,7 +125,7 @@ static CASES: [Case; 9] = [
         commands: &[],
         text: b"\r\npair> sta\r\n",
     },
-    Case {
+    TypedCase {
         typed: b"d\x05sta",
         ending: Ending::Stopped,
         first: &[Stroke::Key(b'd')],
@@ -133,7 +133,7 @@ static CASES: [Case; 9] = [
         commands: &[],
         text: b"\r\npair> sta\r\n",
     },
-    Case {
+    TypedCase {
         typed: b"",
         ending: Ending::EndOfInput,
         first: &[Stroke::End],
@@ -147,7 +147,7 @@ static CASES: [Case; 9] = [
 fn expect_heard<R: Abort + Clock + Copy>(
     rt: R,
     alloc: Global,
-    case: &Case,
+    case: &TypedCase,
     signs: &Signs,
     notes: Producer<Note>,
 ) -> Result<(), Fail>
@@ -168,7 +168,7 @@ fn expect_heard<R: Abort + Clock + Copy>(
         first,
         second,
         notes,
-        interpreter: Recorder {
+        interpreter: CommandRecorder {
             rt,
             alloc,
             commands: Vec::new(alloc),

@@ -11,60 +11,60 @@ use std::test::Fail;
 
 // What becomes of the command line.
 #[derive(Clone, Copy)]
-enum Line {
+enum LineChange {
     Stays,
     Opens,
     Closes(Port),
 }
 
 // What comes to a display, and what it writes then, on the screen and beside it.
-struct Step {
+struct DisplayStep {
     shown: &'static [(u8, u8)],
-    line: Line,
+    line: LineChange,
     told: Option<&'static str>,
     screen: &'static [u8],
     notes: &'static [u8],
 }
 
-static STEPS: [Step; 6] = [
-    Step {
+static STEPS: [DisplayStep; 6] = [
+    DisplayStep {
         shown: &[(0, b'a'), (1, b'b'), (0, b'c'), (1, b'd')],
-        line: Line::Stays,
+        line: LineChange::Stays,
         told: Some("one\r\n"),
         screen: b"ac",
         notes: b"one\r\n",
     },
-    Step {
+    DisplayStep {
         shown: &[(1, b'e'), (0, b'f')],
-        line: Line::Opens,
+        line: LineChange::Opens,
         told: Some("two\r\n"),
         screen: b"",
         notes: b"\r\npair> ",
     },
-    Step {
+    DisplayStep {
         shown: &[(0, b'g')],
-        line: Line::Stays,
+        line: LineChange::Stays,
         told: Some("three\r\n"),
         screen: b"",
         notes: b"",
     },
-    Step {
+    DisplayStep {
         shown: &[(1, b'h'), (0, b'i')],
-        line: Line::Closes(Port::One),
+        line: LineChange::Closes(Port::One),
         told: None,
         screen: b"bdeh",
         notes: b"\r\ntwo\r\nthree\r\n",
     },
-    Step {
+    DisplayStep {
         shown: &[],
-        line: Line::Opens,
+        line: LineChange::Opens,
         told: None,
         screen: b"",
         notes: b"\r\npair> ",
     },
-    Step {
+    DisplayStep {
         shown: &[(1, b'j'), (0, b'k')],
-        line: Line::Closes(Port::Zero),
+        line: LineChange::Closes(Port::Zero),
         told: Some("four\r\n"),
         screen: b"fgik",
         notes: b"\r\nfour\r\n",
@@ -73,14 +73,14 @@ static STEPS: [Step; 6] = [
 
 // The rings by which something comes to a display.
 #[derive(Drop)]
-struct Ends {
+struct DisplayRings {
     shown: Producer<Shown>,
     said: Producer<Note>,
     told: Producer<String>,
 }
 
-impl Ends {
-    fn take(&mut self, alloc: Global, step: &Step) -> Result<(), AllocError> {
+impl DisplayRings {
+    fn take(&mut self, alloc: Global, step: &DisplayStep) -> Result<(), AllocError> {
         for (port, byte) in step.shown {
             let _ = self.shown.push(Shown {
                 port: *port,
@@ -88,9 +88,9 @@ impl Ends {
             });
         }
         let _ = match step.line {
-            Line::Stays => Ok(()),
-            Line::Opens => self.said.push(Note::Opened),
-            Line::Closes(port) => self.said.push(Note::Closed(port)),
+            LineChange::Stays => Ok(()),
+            LineChange::Opens => self.said.push(Note::Opened),
+            LineChange::Closes(port) => self.said.push(Note::Closed(port)),
         };
         if let Some(line) = step.told {
             let _ = self.told.push(String::from_str(alloc, line)?);
@@ -108,7 +108,7 @@ fn display_of(
     alloc: Global,
     screen: Paper,
     notes: Paper,
-) -> Result<(Display<Paper, Paper>, Ends), AllocError>
+) -> Result<(Display<Paper, Paper>, DisplayRings), AllocError>
     ensures { IfOk result (λ made. IsClear made.0) }
 {
     let (shown, shown_out) = RingBuffer::new(alloc, 8)?;
@@ -123,7 +123,7 @@ fn display_of(
         said_out,
         told_out,
     );
-    Ok((display, Ends { shown, said, told }))
+    Ok((display, DisplayRings { shown, said, told }))
 }
 
 // Nothing more will come.
@@ -161,9 +161,9 @@ fn a_display_holds_still_and_catches_up(rt: HostRuntime) -> Result<(), Fail> {
     Ok(())
 }
 
-static FAILING: Step = Step {
+static FAILING: DisplayStep = DisplayStep {
     shown: &[(0, b'a'), (1, b'b'), (0, b'c'), (0, b'd'), (0, b'e')],
-    line: Line::Closes(Port::Zero),
+    line: LineChange::Closes(Port::Zero),
     told: Some("one\r\n"),
     screen: b"ac",
     notes: b"\r\none\r\n",

@@ -1,6 +1,6 @@
 //! How long a listener and a display wait: until there is room, and until they are told.
 
-use super::listening::{Recorder, Typed};
+use super::listening::{CommandRecorder, Typed};
 use super::paper::{Paper, come_out};
 use console_terminal::{Desk, Display, Ending, Listener, Port, Signs, Stroke, listen, show_all};
 use rtrb::RingBuffer;
@@ -83,7 +83,7 @@ fn a_listener_waits_for_room(rt: HostRuntime) -> Result<(), Fail> {
         first,
         second,
         notes,
-        interpreter: Recorder {
+        interpreter: CommandRecorder {
             rt,
             alloc: rt.alloc(),
             commands: Vec::new(rt.alloc()),

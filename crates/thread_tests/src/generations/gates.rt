@@ -56,9 +56,9 @@ impl Gate for Together {
 
 /// Lets nobody have a turn.
 #[derive(Drop)]
-pub(super) struct Closed;
+pub(super) struct ClosedGate;
 
-impl Gate for Closed {
+impl Gate for ClosedGate {
     fn enter(&self, _who: Who, _turn: u64) -> bool {
         false
     }

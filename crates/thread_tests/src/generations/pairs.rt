@@ -22,15 +22,15 @@ type Store = FailOnce<MemoryStore>;
 
 /// What a pair runs: a program at 0000, which access of the disk fails (0 if none), and when the backup asks to go on alone.
 #[derive(Clone, Copy)]
-pub(super) struct Case<'a> {
+pub(super) struct PairCase<'a> {
     pub(super) program: &'a [u8],
     pub(super) fails: u64,
     pub(super) backup_contests: Option<u64>,
 }
 
 /// A program alone.
-pub(super) fn alone(program: &[u8]) -> Case<'_> {
-    Case {
+pub(super) fn alone(program: &[u8]) -> PairCase<'_> {
+    PairCase {
         program,
         fails: 0,
         backup_contests: None,
@@ -39,20 +39,20 @@ pub(super) fn alone(program: &[u8]) -> Case<'_> {
 
 /// How a pair has ended: who goes on alone, how many entries the primary's list has, and sector 0 of track 0.
 #[derive(Clone, Copy)]
-pub(super) struct Outcome {
+pub(super) struct PairOutcome {
     pub(super) winner: Option<Who>,
     pub(super) entries: usize,
     pub(super) sector: SectorRead,
 }
 
 // What has come of a pair.
-fn outcome_of<B: Lockstep + Drop>(mut end: GenerationEnd<B, Store>) -> R<Outcome> {
+fn outcome_of<B: Lockstep + Drop>(mut end: GenerationEnd<B, Store>) -> R<PairOutcome> {
     let sector = end.disk.get(SectorAddress {
         drive: 0,
         track: 0,
         sector: 0,
     })?;
-    Ok(Outcome {
+    Ok(PairOutcome {
         winner: end.winner,
         entries: end.primary.len(),
         sector,
@@ -100,7 +100,7 @@ fn unwritten_disk(alloc: Global, fails: u64) -> R<SharedDisk<Store>>
 // The workers of these guests.
 fn workers_of<B: Lockstep + Drop>(
     alloc: Global,
-    case: &Case,
+    case: &PairCase,
     primary: B,
     backup: B,
 ) -> R<Workers<B, Store>>
@@ -125,7 +125,7 @@ fn workers_of<B: Lockstep + Drop>(
 fn altairs_of<T: Completes + Drop + Copy, S: Completes + Drop + Copy, W: Completes + Drop + Copy>(
     alloc: Global,
     setup: &Setup,
-    case: &Case,
+    case: &PairCase,
     sent: T,
     sector: S,
     written: W,
@@ -153,12 +153,12 @@ fn run_with<
     rt: &H,
     alloc: Global,
     setup: &Setup,
-    case: &Case,
+    case: &PairCase,
     gate: &G,
     sent: T,
     sector: S,
     written: W,
-) -> R<Outcome>
+) -> R<PairOutcome>
     requires sent { Keeps (T.may sent) (T.gives sent) SENT }
     requires sector { Keeps (S.may sector) (S.gives sector) SECTOR }
     requires written { Keeps (W.may written) (W.gives written) WRITTEN }
@@ -175,9 +175,9 @@ fn run_with<
 pub(super) fn run_case<G: Gate + Sync, H: Threads + Clock + Sync>(
     rt: &H,
     alloc: Global,
-    case: &Case,
+    case: &PairCase,
     gate: &G,
-) -> R<Outcome> {
+) -> R<PairOutcome> {
     let setup = setup_of(alloc, case.program)?;
     run_with(
         rt,

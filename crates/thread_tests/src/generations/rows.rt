@@ -1,8 +1,8 @@
 //! Pairs of Altairs on threads through gates, and over a disk that fails. What they are told by options of the command `live`, as
 //! losses, contests and keys, is in tests/transcripts/live.txt.
 
-use super::gates::{Closed, Together, Turnstile};
-use super::pairs::{Outcome, alone, run_case};
+use super::gates::{ClosedGate, Together, Turnstile};
+use super::pairs::{PairOutcome, alone, run_case};
 use i8080_words::{Fault, R};
 use pair_threads::Who;
 use std::process::Abort;
@@ -25,7 +25,7 @@ static DISK_WRITE: [u8; 34] = [
 static HALT: [u8; 1] = [0x76];
 
 // The sector that is read, the mark of the write, its completion, and the sector that comes under the head next.
-fn expect_sector(rt: &impl Abort, end: &Outcome) {
+fn expect_sector(rt: &impl Abort, end: &PairOutcome) {
     assert!(rt; end.winner.is_none() && end.entries == 4);
     assert!(rt; end.sector.number == 1 && end.sector.bytes == [0xe5; 137]);
 }
@@ -73,6 +73,6 @@ fn a_disk_that_fails_is_asked_again(rt: HostRuntime) -> R<()> {
 
 #[test]
 fn a_closed_gate_stalls(rt: HostRuntime) {
-    let end = run_case(&rt, rt.alloc(), &alone(&FIRST_BYTE), &Closed);
+    let end = run_case(&rt, rt.alloc(), &alone(&FIRST_BYTE), &ClosedGate);
     assert!(rt; matches!(end, Err(Fault::Stalled)));
 }
