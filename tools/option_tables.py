@@ -24,7 +24,7 @@ INNER = {"--images", "--saved", "--before", "--mark", "--apart", "--folder", "--
 MOST_WORDS = 24
 
 # An option in a help text: its name, its value, and what it does.
-OPTION = re.compile(r" +(--[a-z-]+)(?: <?([^\s>]+)>?)? {2,}(.*)")
+OPTION = re.compile(r" +(--[a-z0-9-]+)(?: <?([^\s>]+)>?)? {2,}(.*)")
 # For which commands ./pair's own help says that an option is; a table has a column for that.
 FOR = re.compile(r"for (all commands but )?`[^:]*: ")
 # What clap adds to a text.

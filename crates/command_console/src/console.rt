@@ -156,10 +156,34 @@ fn run_input<
         mut writer,
         mut notes,
     } = left;
-    let saved = save_ordered(alloc, order, disk, &mut writer);
-    end_files(alloc, &files, order, paddings, &mut notes)?;
-    saved?;
+    end_disks(
+        alloc,
+        &files,
+        order,
+        disk,
+        paddings,
+        &mut writer,
+        &mut notes,
+    )?;
     Ok(end)
+}
+
+// Writes the disks that an order wants saved, and ends the files that are disks, whether these are written or not.
+fn end_disks<W: Write + Drop, N: Write + Drop>(
+    alloc: Global,
+    files: &HostRuntime,
+    order: &ConsoleOrder,
+    disk: SharedDisk<Mirrored>,
+    paddings: Vec<Vec<u8>>,
+    writer: &mut W,
+    notes: &mut N,
+) -> Result<(), Failure>
+    ensures { OnOk result (Appends (W.contents writer.old) (W.contents writer.new)
+        (string_bytes order.now.mark ++ images_of (all_records disk.store) order.now.saved.items)) }
+{
+    let saved = save_ordered(alloc, order, disk, writer);
+    end_files(alloc, files, order, paddings, notes)?;
+    saved
 }
 
 // Writes the disks that an order wants saved, and lets the disk go.
@@ -172,13 +196,7 @@ fn save_ordered<W: Write + Drop>(
     ensures { OnOk result (Appends (W.contents writer.old) (W.contents writer.new)
         (string_bytes order.now.mark ++ images_of (all_records disk.store) order.now.saved.items)) }
 {
-    save_disks(
-        alloc,
-        disk,
-        &order.saved,
-        order.mark.as_bytes(),
-        writer,
-    )
+    save_disks(alloc, disk, &order.saved, order.mark.as_bytes(), writer)
 }
 
 /// What a console begins with.

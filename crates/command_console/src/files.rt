@@ -105,11 +105,13 @@ pub(crate) fn end_files<N: Write + Drop>(
     notes: &mut N,
 ) -> Result<(), Failure> {
     let mut is_ended = true;
-    for (drive, padding) in paddings.into_iter().enumerate() {
-        if is_named(&order.attached, drive as u8) {
-            let name = name_of(order, drive as u8);
+    let mut drive = 0_u8;
+    for padding in paddings {
+        if is_named(&order.attached, drive) {
+            let name = name_of(order, drive);
             is_ended &= end_file(alloc, files, name, padding, notes);
         }
+        drive = drive.saturating_add(1);
     }
     if is_ended {
         Ok(())

@@ -1,5 +1,5 @@
 //! The disk of a console at boot, and where its copy is.
-ghost use Rattle.std.specs.Prelude.{IfOk};
+ghost use Rattle.std.specs.Prelude.{◌≡◌, IfOk};
 ghost use Rattle.sector_file.specs.Drives.{all_records};
 ghost use Rattle.shared_disk.specs.Records.{HasWholeSectors, IsAtBoot, IsUnwritten};
 
@@ -39,7 +39,6 @@ pub(crate) fn mirrored_store(
 }
 
 // These drives, if they have just the records of an input at boot, as these are.
-#[tactic(auto, using(crate::proofs::Booting::boots_alike, crate::proofs::Booting::unwritten_alike))]
 fn checked(
     input: &Input,
     drives: DriveFiles<FileDevice>,

@@ -2,6 +2,7 @@
 ghost use Rattle.std.specs.Prelude.{◌≡◌, ◌<◌, All, IfOk, true};
 ghost use Rattle.disk_file.specs.Names.{AreInFiles, IsKept, is_named};
 
+use crate::closing::end_image;
 use crate::file_device::FileDevice;
 use crate::opening::{OpenImage, Opening, open_image, take_up};
 use crate::refusal::OpenError;
@@ -45,7 +46,7 @@ pub fn open_drives(
         paddings: Vec::new(alloc),
     };
     for drive in 0..DRIVES as u8 {
-        let name = names.get(usize::from(drive)).map_or("", String::as_str);
+        let name = name_of(names, drive);
         let added = if drive >= drives {
             no_drive(name)
         } else if name.is_empty() {
@@ -54,6 +55,7 @@ pub fn open_drives(
             attached.add_file(alloc, files, name, is_synced, drive)
         };
         if let Err(why) = added {
+            let_go(alloc, files, names, attached);
             return Err(Unattached { drive, why });
         }
     }
@@ -64,6 +66,28 @@ pub fn open_drives(
             drive: 0,
             why: OpenError::NotFile,
         })
+    }
+}
+
+// Ends the images that were opened before one was refused.
+fn let_go(alloc: Global, files: &HostRuntime, names: &[String], attached: Attached) {
+    let Attached { paddings, .. } = attached;
+    let mut drive = 0_u8;
+    for padding in paddings {
+        if is_named(names, drive) {
+            let name = name_of(names, drive);
+            // What cannot be ended is ended by the next opening.
+            let _ = end_image(alloc, files, name, padding);
+        }
+        drive = drive.saturating_add(1);
+    }
+}
+
+// The name of a drive's file.
+fn name_of(names: &[String], drive: u8) -> &str {
+    match names.get(usize::from(drive)) {
+        Some(name) => name.as_str(),
+        None => "",
     }
 }
 

@@ -14,4 +14,4 @@ returns g c =
     c.add_places.new.session (all_records c.in_ok-left.left.disk.store) c.in_ok-left.left.end c.in_ok-left.left.writer c.in_ok-left.left.notes
     (opens_later c.args.opening.0 c.in_ok-prepared.prepared.session c.add_places.new.session c.in_ok-prepared.ensures.opens
     c.add_places.ensures) c.in_ok-left.ensures (string_bytes c.args.order.now.mark) c.args.order.now.saved.items refl refl
-    c.save_ordered.new.writer (c.save_ordered.ensures c.in_ok-saved.is)
+    c.end_disks.new.writer c.in_ok-end_disks.ensures
