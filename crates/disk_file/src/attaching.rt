@@ -71,7 +71,13 @@ pub fn open_drives(
 
 // Ends the images that were opened before one was refused.
 fn let_go(alloc: Global, files: &HostRuntime, names: &[String], attached: Attached) {
-    let Attached { paddings, .. } = attached;
+    let Attached {
+        drives,
+        paddings,
+        ..
+    } = attached;
+    // Each file is free then.
+    drop(drives);
     let mut drive = 0_u8;
     for padding in paddings {
         if is_named(names, drive) {
