@@ -261,12 +261,23 @@ def drawn_in(path):
     return counts, [it.text for it in elements if it.tag.endswith("text")]
 
 
+def await_spare(console, host):
+    """Waits until a host has said that it is a spare: of several, the first that has is given the machine."""
+    def is_spare():
+        console.type(ESCAPE + b"status" + ENTER)
+        console.hear_for(0.2)
+        return re.search(rb"host %d \(process \d+\): a spare" % host, console.shown + console.said)
+
+    console.await_that(is_spare, f"the spare {host}")
+
+
 @case
 def a_picture_has_what_became_of_the_hosts(command):
     for place in (OnScreen, AtTerminal, BetweenPipes):
         with folder() as room, ended_at_last(place(command())) as console:
             console.await_shown(b"MONITOR\r\n*")
             for line, host in ((b"stop 0", 2), (b"stop 2", 3)):
+                await_spare(console, host)
                 console.type(ESCAPE + line + ENTER)
                 console.await_that(lambda: b", host %d its backup" % host in console.shown + console.said, f"host {host}")
             console.type(ESCAPE + b"picture  %s  " % os.fsencode(room / "of hosts.svg") + ENTER)
