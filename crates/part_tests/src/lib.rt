@@ -12,6 +12,8 @@ mod contests;
 #[cfg(test)]
 mod coverage;
 #[cfg(test)]
+mod crashes;
+#[cfg(test)]
 mod disks;
 #[cfg(test)]
 mod entries;

@@ -24,6 +24,3 @@ pub use opening::{close_kept, open_kept};
 pub use recovery::{finish, take_up};
 pub use room::add;
 pub use through::{cut_through, write_through};
-
-#[cfg(test)]
-mod tests;

@@ -3,8 +3,8 @@ ghost use Rattle.std.specs.Prelude.{◌≡◌, ◌<◌, ◌≤◌, length};
 ghost use Rattle.sector_file.specs.Device.{Only};
 ghost use Rattle.sector_file.specs.Kept.{IsKept};
 
-use crate::{CrashingMemory, Device, Kept, Memory, close_kept, finish, open_kept};
 use disk_dcdd::SECTOR_BYTES;
+use sector_file::{CrashingMemory, Device, Kept, Memory, close_kept, finish, open_kept};
 use shared_disk::Record;
 use std::alloc::Global;
 use std::test::Fail;
