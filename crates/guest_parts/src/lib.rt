@@ -3,4 +3,4 @@
 
 mod parts;
 
-pub use parts::BoardParts;
+pub use parts::{BoardParts, are_levels, port_stands};

@@ -8,6 +8,7 @@ use disk_dcdd::SectorWrite;
 use event_callbacks::{Devices, PORTS};
 use i8080_words::Processor;
 use serial_2sio::WINDOW;
+pub use standing::{are_levels, port_stands};
 
 /// What an image of a machine says of its board: all that a board shows, and what is outstanding. `Board::rebuild`
 /// decides whether a board can be in that state.

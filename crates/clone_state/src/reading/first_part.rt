@@ -1,7 +1,6 @@
 //! The first part, as bytes are read for it: all its fields, and whether a board can have them.
 ghost use Rattle.std.specs.Prelude.{◌≡◌, ◌<◌, ◌∷◌, [], IfSome, true, length, option_map};
 ghost use Rattle.event_callbacks.specs.declared.devices.TheConstants.{PORTS};
-ghost use Rattle.guest_parts.specs.Parts as board;
 ghost use Rattle.clone_state.specs.Codec.{read_all};
 ghost use Rattle.disk_dcdd.specs.declared.sector.TheConstants.{SECTOR_BYTES};
 ghost use Rattle.clone_state.specs.FirstPart as grammar;
@@ -19,7 +18,8 @@ use crate::spelling::has_all;
 use arrayvec::ArrayVec;
 use disk_dcdd::{Controller, ControllerImage, CurrentSector, OUTSTANDING};
 use event_callbacks::{Devices, PORTS};
-use i8080_words::{GREATEST_NUMBER, Interrupts, Processor};
+use guest_parts::{are_levels, port_stands};
+use i8080_words::{Interrupts, Processor};
 use log_entry::number_at;
 use serial_2sio::WINDOW;
 
@@ -256,23 +256,4 @@ fn may_halt(processor: &Processor) -> bool
     ensures { result ≡ possible.may_halt processor.now }
 {
     !(processor.halted && processor.interrupts == Interrupts::Soon)
-}
-
-// Whether the unaccepted bytes of a port were issued, and its numbers are in range.
-fn port_stands(devices: &Devices, issued: &[u64; PORTS], keys: &[u64; PORTS], port: u8) -> bool
-    requires { port < PORTS }
-    ensures { result ≡ board.port_stands devices.now issued.now keys.now port }
-{
-    let place = port as usize;
-    let acia = &devices.ports[place];
-    u64::from(acia.unaccepted()) <= issued[place]
-        && issued[place] <= GREATEST_NUMBER
-        && keys[place] <= GREATEST_NUMBER
-}
-
-// Whether RST n has each of these levels.
-fn are_levels(levels: &[u8; 3]) -> bool
-    ensures { result ≡ board.are_levels levels.now }
-{
-    levels.iter().all(|level| *level < 8)
 }

@@ -59,8 +59,8 @@ fn has_all<X, const N: usize>(array: &[X; N])
     ensures { length array.now ≡ N }
 {}
 
-// Whether the unaccepted bytes of a port were issued, and its numbers are in range.
-fn port_stands(devices: &Devices, issued: &[u64; PORTS], keys: &[u64; PORTS], port: u8) -> bool
+/// Whether the unaccepted bytes of a port were issued, and its numbers are in range.
+pub fn port_stands(devices: &Devices, issued: &[u64; PORTS], keys: &[u64; PORTS], port: u8) -> bool
     requires { port < PORTS }
     ensures { result ≡ table.port_stands devices.now issued.now keys.now port }
 {
@@ -71,8 +71,8 @@ fn port_stands(devices: &Devices, issued: &[u64; PORTS], keys: &[u64; PORTS], po
         && keys[place] <= GREATEST_NUMBER
 }
 
-// Whether RST n has each of these levels.
-fn are_levels(levels: &[u8; 3]) -> bool
+/// Whether RST n has each of these levels.
+pub fn are_levels(levels: &[u8; 3]) -> bool
     ensures { result ≡ table.are_levels levels.now }
 {
     levels.iter().all(|level| *level < 8)
