@@ -15,8 +15,9 @@ use std::sync::{Arc, Wait};
 use std::thread::{self, Parker, Threads};
 use std::time::Clock;
 
-// How many frames of one host wait at most.
-const FRAMES: usize = 4_096;
+// How many frames of one host wait at most: more than are on their way at once, which are 256 entries, all parts of an image, and 64 keys
+// of each port.
+const FRAMES: usize = 1_024;
 
 /// The named pipes of all places: their folder, and what each host is given before its first frame.
 #[derive(Drop)]
