@@ -1,12 +1,15 @@
 -- The lines of `rest` and `why`, whichever they are.
 use Rattle.std.proofs.Common.{◌≡◌, ℕ, List, [], ◌∷◌, ◌++◌, codes, ap, subst, sym}
+use Rattle.std.specs.Prelude.{Result, Ok, Err, IfOk}
 use Rattle.std.specs.Fmt.{decimal}
 use Rattle.i8080_words.specs.Refusals.{number_of}
 use Rattle.i8080_words.specs.declared.refusal.Fault.{Fault}
 use Rattle.shell_book.proofs.Adding.{prints_one, prints_text}
 use Rattle.shell_book.specs.Texts.{AddsLine, AddsRow, Prints, Row, Text, Words}
 use Rattle.shell_book.specs.declared.printing.Printed.{Printed}
-use Rattle.pair_shell.specs.Resting.{events_text, rest_row}
+use Rattle.guest_lockstep.specs.Machine.{Machine}
+use Rattle.pair_protocol.specs.World.{World}
+use Rattle.pair_shell.specs.Resting.{HasLed, SaysWhere, events_text, rest_row}
 use Rattle.pair_shell.specs.declared.resting.Rested.{Rested}
 use Rattle.pair_shell.specs.declared.resting.Rested.TheVariants as rested
 
@@ -25,3 +28,25 @@ tells_refused_rest where_to fault number made most old new is numbered h =
     (subst (λ r. AddsRow r old new) (sym (ap (λ q. rest_row q made most) is))
     (subst (λ k. AddsRow (Words (events_text made most (codes "refused " ++ (decimal k ++ codes ", "))) fault []) old new)
     numbered h))
+
+-- it is printed where events have led
+pub says_where : {A E : Type 0} (r : Result A E) (Led : ℕ → Rested → Type 0) (where_to : Rested) (arrived made most : ℕ)
+    (old new : Printed) → IfOk r (λ _. Prints (rest_row where_to made most ∷ []) old new) → Led arrived where_to →
+    IfOk r (λ _. SaysWhere Led new)
+says_where (Ok a) Led where_to arrived made most old new row led = record {
+  rested = where_to;
+  arrived = arrived;
+  made = made;
+  most = most;
+  before = old;
+  row = row;
+  led = led;
+}
+says_where (Err e) Led where_to arrived made most old new row led = tt
+
+-- the same hosts, and an image of as many parts
+pub led_among : {S : Type 0} (M : Machine S) (w : World S) (a b p q arrived generation : ℕ) (where_to : Rested) → a ≡ b → p ≡ q →
+    HasLed M w a p arrived generation where_to → HasLed M w b q arrived generation where_to
+led_among M w a b p q arrived generation where_to hosts parts led =
+    subst (λ h. HasLed M w h q arrived generation where_to) hosts
+    (subst (λ k. HasLed M w a k arrived generation where_to) parts led)

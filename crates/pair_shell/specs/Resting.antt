@@ -1,8 +1,13 @@
--- What is printed of a pair that was brought to rest.
-use Rattle.std.specs.Prelude.{ℕ, List, [], ◌++◌, codes}
+-- Where a plan has led a pair, and what is printed of it.
+use Rattle.std.specs.Prelude.{ℕ, List, [], ◌∷◌, ◌++◌, codes}
+use Rattle.guest_lockstep.specs.Machine.{Machine}
+use Rattle.pair_protocol.specs.World.{World}
+use Rattle.pair_plan.specs.Ending.{Rests}
+use Rattle.pair_plan.specs.Serves.{NobodyServes, SomebodyServes}
 use Rattle.std.specs.Fmt.{decimal}
 use Rattle.shell_picture.specs.Answers.{refused_text}
-use Rattle.shell_book.specs.Texts.{Row, Text, Words}
+use Rattle.shell_book.specs.Texts.{Prints, Row, Text, Words}
+use Rattle.shell_book.specs.declared.printing.Printed.{Printed}
 use Rattle.pair_shell.specs.declared.resting.Rested.{Rested}
 use Rattle.pair_shell.specs.declared.resting.Rested.TheVariants as rested
 
@@ -16,3 +21,21 @@ rest_row rested.AtRest made most = Text (events_text made most (codes "at rest")
 rest_row rested.Nobody made most = Text (codes "no node may serve")
 rest_row (rested.Refused fault) made most = Words (events_text made most (refused_text fault)) fault []
 rest_row rested.Unrested made most = Text (events_text made most (codes "not at rest"))
+
+-- at rest: one of so many hosts may serve in this generation, and no event of the plan is left; or no host may
+abbrev pub HasLed : {S : Type 0} → Machine S → World S → ℕ → ℕ → ℕ → ℕ → Rested → Type 0
+HasLed M w hosts parts arrived generation rested.AtRest =
+    SomebodyServes w generation × Rests M w hosts parts arrived generation
+HasLed M w hosts parts arrived generation rested.Nobody = NobodyServes w hosts generation
+HasLed M w hosts parts arrived generation (rested.Refused fault) = Unit {0}
+HasLed M w hosts parts arrived generation rested.Unrested = Unit {0}
+
+-- the last row says where events have led, how many they were, and how many there may be
+pub record SaysWhere (Led : ℕ → Rested → Type 0) (new : Printed) : Type 0 where
+  pub rested : Rested
+  pub arrived : ℕ
+  pub made : ℕ
+  pub most : ℕ
+  pub before : Printed
+  pub row : Prints (rest_row rested made most ∷ []) before new
+  pub led : Led arrived rested

@@ -1,7 +1,13 @@
 //! How a pair is brought to rest.
 ghost use Rattle.std.specs.Prelude.{◌≡◌, ◌≤◌, ◌∷◌, [], true, IfOk, length, string_bytes};
 ghost use Rattle.pair_shell.specs.Playing.{Plays};
-ghost use Rattle.pair_shell.specs.Resting.{rest_row};
+ghost use Rattle.pair_shell.specs.Resting.{HasLed, SaysWhere, rest_row};
+ghost use Rattle.clone_state.specs.Parts.{part_count};
+ghost use Rattle.pair_plan.specs.Ending.{Rests};
+ghost use Rattle.pair_protocol.specs.Settled.{highest};
+ghost use Rattle.ft_world.specs.Applies.{Shows};
+ghost use Rattle.ft_world.specs.Standing.{Course};
+ghost use Rattle.shared_disk.specs.Failing.{records_in};
 ghost use Rattle.shell_book.specs.Tapes.{Begins, trace_text};
 ghost use Rattle.shell_book.specs.Texts.{AddsSome, Prints};
 
@@ -47,6 +53,10 @@ impl Notes {
         ensures played { Plays B.state B.copied B.machine world.old self.new.tape.items world.new }
         ensures traced { IfOk result (λ _. printed.old.is_traced ≡ true → string_bytes printed.old.text ≡ []
             → Begins (trace_text self.new.tape.items) (string_bytes printed.new.text)) }
+        ensures led { IfOk result (λ _. SaysWhere (λ arrived rested. (c : Course B.State)
+            → Shows B.state B.copied B.machine records_in world.new c
+            → HasLed B.machine c.world opening.now.setup.hosts (part_count opening.now.setup.guest.drives) arrived
+            (highest c.world.nodes) rested) printed.new) }
     {
         let hosts = u64::from(opening.setup.hosts);
         let parts = parts_of(opening.setup.guest.drives);
@@ -80,11 +90,14 @@ fn lead<B: Copies<H> + OutstandingWrites + Drop, H: Drop>(
 ) -> Result<Rested, AllocError>
     ensures played { Plays B.state B.copied B.machine world.old tape.new.items world.new }
     ensures few { IfOk result (λ _. length tape.new.items ≤ most) }
+    ensures same { (plan.new.hosts ≡ plan.old.hosts) × (plan.new.parts ≡ plan.old.parts) }
+    ensures led { IfOk result (λ rested. (c : Course B.State) → Shows B.state B.copied B.machine records_in world.new c
+        → HasLed B.machine c.world plan.new.hosts plan.new.parts plan.new.arrived (highest c.world.nodes) rested) }
 {
     tape.clear();
     'events: for _made in 0..most {
         let Some(event) = plan.next(alloc, world)? else {
-            return Ok(ended(plan.has_server(world)));
+            return Ok(ended(plan, world));
         };
         let answer = play_next(alloc, world, book, event, tape, past)?;
         plan.hear(answer);
@@ -94,13 +107,17 @@ fn lead<B: Copies<H> + OutstandingWrites + Drop, H: Drop>(
     }
     match plan.next(alloc, world)? {
         Some(_) => Ok(Rested::Unrested),
-        None => Ok(ended(plan.has_server(world))),
+        None => Ok(ended(plan, world)),
     }
 }
 
 // Where a plan has led that has no event left.
-fn ended(has_server: bool) -> Rested {
-    if has_server {
+fn ended<B: Copies<H> + Drop, H: Drop>(plan: &Plan, world: &World<B, Disk, H>) -> Rested
+    ensures { (c : Course B.State) → Shows B.state B.copied B.machine records_in world.now c
+        → Rests B.machine c.world plan.now.hosts plan.now.parts plan.now.arrived (highest c.world.nodes)
+        → HasLed B.machine c.world plan.now.hosts plan.now.parts plan.now.arrived (highest c.world.nodes) result }
+{
+    if plan.has_server(world) {
         Rested::AtRest
     } else {
         Rested::Nobody
