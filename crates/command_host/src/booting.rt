@@ -55,8 +55,6 @@ pub(crate) fn board_of<T: Completes + Drop, S: Completes + Drop, W: Completes + 
 ) -> R<DraftedBoard<T, S, W>>
     ensures { IfOk result (λ drafted. drafted.board.guest ≡ guest_at_boot setup.now) }
 {
-    match Board::boot(alloc, setup, callbacks) {
-        Ok(board) => Ok(DraftedBoard::of(board)),
-        Err((_, fault)) => Err(fault),
-    }
+    let board = Board::booted(alloc, setup, callbacks)?;
+    Ok(DraftedBoard::of(board))
 }

@@ -97,23 +97,9 @@ fn boards<T: Completes + Drop + Copy, S: Completes + Drop + Copy, W: Completes +
     ensures primary { IfOk result (λ boards. boards.0.guest ≡ guest_at_boot setup.now) }
     ensures backup { IfOk result (λ boards. boards.1.guest ≡ guest_at_boot setup.now) }
 {
-    let primary = board(alloc, setup, Callbacks::of(sent, sector, written))?;
-    let backup = board(alloc, setup, Callbacks::of(sent, sector, written))?;
+    let primary = Board::booted(alloc, setup, Callbacks::of(sent, sector, written))?;
+    let backup = Board::booted(alloc, setup, Callbacks::of(sent, sector, written))?;
     Ok((primary, backup))
-}
-
-// The guest of a node at boot.
-fn board<T: Completes + Drop, S: Completes + Drop, W: Completes + Drop>(
-    alloc: Global,
-    setup: &Setup,
-    callbacks: Callbacks<T, S, W>,
-) -> R<Board<T, S, W>>
-    ensures { IfOk result (λ board. board.guest ≡ guest_at_boot setup.now) }
-{
-    match Board::boot(alloc, setup, callbacks) {
-        Ok(board) => Ok(board),
-        Err((_, fault)) => Err(fault),
-    }
 }
 
 // The bytes that lines type at both ports.

@@ -1,46 +1,18 @@
--- A write arrives at the disk: the record of its sector is the greatest that arrived there, and every other sector
--- keeps its record. A write that was released is to a sector of the disk, so only the device itself can fail.
-use Rattle.ft_world.proofs.Words.{Accepts, Agree, Applies, AreMessages, Course, DeviceFails, DeviceFault, Fault, Guest, IsAt, IsDisk, IsMessage, Machine, Message, NeedsMemory, PutsWrite, Record, Reply, Row, Running, SectorAddress, SectorRecord, SectorWrite, Shows, Unknown, address_of, after_put, machine_of, record_at, record_of, refusal_at, reply_of, same_address, same_some, sector_record, sector_record-one, with_put, write_of, write_refusal}
-use Rattle.std.proofs.Common.{◌≡◌, [], ◌∷◌, ◌++◌, ◌∙◌, Bool, Err, List, None, Ok, Some, ap, cond, false, inl, inr, refl, subst, sym, true, ℕ}
+-- A write arrives at the disk. A write that was released is to a sector of the disk, so only the device itself can
+-- fail; or memory runs out for its answer.
+use Rattle.ft_world.proofs.Words.{Accepts, Agree, Applies, AreMessages, Course, DeviceFails, Fault, Guest, IsDisk, IsMessage, Machine, Message, NeedsMemory, PutsWrite, Record, Reply, Row, Running, SectorWrite, Shows, Unknown, address_of, machine_of, reply_of, same_some, with_put, write_of, write_refusal}
+use Rattle.std.proofs.Common.{◌≡◌, [], ◌∷◌, ◌++◌, ◌∙◌, Err, List, None, Ok, Some, ap, inl, inr, refl, subst, sym, ℕ}
 use Rattle.std.specs.Option.{option_and_then}
-use Rattle.std.specs.Prelude.{if◌then◌else◌, Option, Result, is_some, nat_lt, slice_get}
+use Rattle.std.specs.Prelude.{Option, Result, slice_get}
 use Rattle.event_callbacks.specs.declared.operations.Operation.TheVariants as operation
-use Rattle.shared_disk.proofs.Arriving.{known_put, record_at-put}
 use Rattle.pair_protocol.specs.Reply as protocol
 use Rattle.pair_protocol.specs.World as world
 use Rattle.pair_events.specs.declared.event.Event.TheVariants as event
+use Rattle.pair_protocol.proofs.SharedDevices.{disk_put, not_put}
 use Rattle.ft_world.specs.declared.message.Message.TheVariants as message
 use Rattle.ft_world.proofs.Applying.{applies, refuses, unchanged}
 use Rattle.ft_world.proofs.Released.{writes_on_disk}
 use Rattle.ft_world.proofs.Sending.{messages_push}
-
--- What a write leaves.
-
--- a record of the disk has this number and these bytes
-abbrev Has : SectorRecord → Record → Type 0
-Has k r = (r.number ≡ k.number) × (r.bytes ≡ k.bytes)
-
-there_after : (rs : List Record) (write : SectorWrite) (met : Record) (a : SectorAddress) →
-    record_at rs (address_of write) ≡ Some met → (r : Record) × IsAt rs a r → (r : Record) × IsAt (after_put rs write) a r
-there_after rs write met a at there = go (same_address (address_of write) a) (record_at-put rs write met a at)
-  where
-    go : (here : Bool) → record_at (after_put rs write) a
-        ≡ cond here (Some (cond (nat_lt met.number write.number) (record_of write) met)) (record_at rs a)
-        → (r : Record) × IsAt (after_put rs write) a r
-    go true is = (cond (nat_lt met.number write.number) (record_of write) met, is)
-    go false is = (there.0, is ∙ there.1)
-
-disk_put : {S : Type 0} (M : Machine S) (drives : ℕ) (rs : List Record) (puts : List SectorWrite)
-    (write : SectorWrite) (met : Record) → IsDisk M drives rs puts → record_at rs (address_of write) ≡ Some met →
-    IsDisk M drives (after_put rs write) (puts ++ write ∷ [])
-disk_put M drives rs puts write met d at = record {
-  there = λ a t. there_after rs write met a at (d.there a t);
-  kept = λ a r e. subst (λ k. Has k r) (sym (sector_record-one M puts write a))
-      (known_put Has (λ (k : SectorRecord). k.number) (λ k r has. has.0) rs write
-      (record { number = write.number; bytes = write.bytes }) (refl, refl) met at a (sector_record M puts a) (d.kept a) r e);
-}
-
--- The message that brings it.
 
 pub brings_write : (o : Option Message) (q : Option world.Message) (write : SectorWrite) → Agree IsMessage o q →
     option_and_then write_of o ≡ Some write → q ≡ Some (world.Released (operation.Write write))
@@ -80,11 +52,6 @@ pub puts_unknown : {B H D S : Type 0} (state : B → S) (copied : B → Guest) (
 puts_unknown state copied M records old c m brings h =
     refuses state copied M records old old c (event.Put m) Unknown h refl
     (brings_none (slice_get old.messages m) (slice_get c.world.messages m) (h.parts.messages.each m) brings) refl
-
--- the disk fails, or is out of memory for its answer
-pub not_put : (rs : List Record) (a : SectorAddress) (met : Record) (fault : Fault) → record_at rs a ≡ Some met →
-    fault ≡ refusal_at rs a → fault ≡ DeviceFault
-not_put rs a met fault at e = e ∙ ap (λ (o : Option Record). if is_some o then DeviceFault else Unknown) at
 
 pub puts_applies : {B H D S : Type 0} (state : B → S) (copied : B → Guest) (M : Machine S) (records : D → List Record)
     (old : Running B H D) (c : Course S) (m : ℕ) (write : SectorWrite) (answer : Result Reply Fault)

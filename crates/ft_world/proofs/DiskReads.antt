@@ -8,13 +8,13 @@ use Rattle.std.proofs.lemmas.Bool.{and_parts, le-leb, lt-leb}
 use Rattle.disk_dcdd.specs.declared.drive.TheConstants.{TRACKS}
 use Rattle.disk_dcdd.specs.declared.controller.TheConstants.{DRIVES}
 use Rattle.disk_dcdd.specs.declared.sector.TheConstants.{SECTORS}
+use Rattle.pair_protocol.proofs.SharedDevices.{not_put}
 use Rattle.pair_protocol.specs.Reply as protocol
 use Rattle.pair_protocol.specs.World as sent
 use Rattle.ft_world.proofs.AtHosts.{AsksNode}
 use Rattle.pair_events.specs.declared.event.Event.TheVariants as event
 use Rattle.ft_world.specs.declared.message.Message.TheVariants as message
 use Rattle.ft_world.proofs.Applying.{applies, refuses, stands, stands_not, unchanged}
-use Rattle.ft_world.proofs.AtDisk.{not_put}
 use Rattle.ft_world.proofs.AtOneNode.{asks_refused, node_asked, node_asked_not}
 use Rattle.ft_world.proofs.Sending.{messages_push}
 use Rattle.ft_world.proofs.Standing.{serving_runs}

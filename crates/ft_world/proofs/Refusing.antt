@@ -10,9 +10,10 @@ use Rattle.ft_node.specs.declared.halted.Halted.{Halted}
 use Rattle.ft_node.specs.declared.node.Node as code
 use Rattle.ft_node.specs.declared.node.Node.TheVariants as node
 use Rattle.pair_events.specs.declared.event.Event.TheVariants as event
+use Rattle.pair_protocol.proofs.SharedDevices.{not_put}
 use Rattle.ft_world.specs.declared.host.Host.TheVariants as host
 use Rattle.ft_world.proofs.Agreeing.{agree-other}
-use Rattle.ft_world.proofs.AtDisk.{brings_write, not_put}
+use Rattle.ft_world.proofs.AtDisk.{brings_write}
 use Rattle.ft_world.proofs.AtHosts.{AsksNode}
 use Rattle.ft_world.proofs.DiskReads.{stands_at}
 use Rattle.ft_world.proofs.Released.{writes_on_disk}

@@ -1,58 +1,11 @@
--- One more winner, here and in the world: the asking that the arbiter keeps is for a generation that nobody had won.
--- The node that won is of the same generation as before, and is a backup only if it was one.
-use Rattle.std.proofs.Common.{◌≡◌, [], ◌∷◌, ◌++◌, ◌∙◌, Bool, List, None, Some, ap, cond, eq-eqb, eqb-true, false, find, inl, inr, is_some, ne_eqb, refl, subst, sym, true, ℕ}
-use Rattle.std.specs.Prelude.{if◌then◌else◌, Option, slice_get, slice_set, ◌==◌}
-use Rattle.std.specs.Option.{option_map}
-use Rattle.ft_world.proofs.Words.{Alone, AreHosts, AreWinners, Asking, Backup, Course, Draining, Host, IsOnlyBackup, Joining, Machine, Node, Primary, Record, Role, Running, ShowsParts, Spare, Winner, after_asking, bool_cases, is_backup, winner_in, winner_of, wins, with_winner, won_role}
-use Rattle.arbiter_core.proofs.FirstAskers.{first_askers_win}
-use Rattle.pair_protocol.proofs.Keeps.Arbiter.{winner-other, winner-push}
+-- One more winner, here and in the world. The node that won is of the same generation as before, and is a backup only if
+-- it was one.
+use Rattle.std.proofs.Common.{◌≡◌, ◌∙◌, List, None, Some, ap, inl, inr, refl, sym, true, ℕ}
+use Rattle.std.specs.Prelude.{slice_get, slice_set}
+use Rattle.ft_world.proofs.Words.{Alone, AreHosts, Backup, Course, Draining, Host, IsOnlyBackup, Joining, Machine, Node, Primary, Record, Role, Running, ShowsParts, Spare, after_asking, is_backup, winner_of, wins, with_winner, won_role}
+use Rattle.pair_protocol.proofs.SharedDevices.{winners_after}
 use Rattle.pair_protocol.proofs.Traces.Lists.{get_set_cases}
 use Rattle.pair_protocol.proofs.Promises.Growth.{highest_set}
-
-asking_other : (askings : List Asking) (g n k : ℕ) → (k ≡ g → ⊥) →
-    winner_of (askings ++ record { generation = g; node = n } ∷ []) k ≡ winner_of askings k
-asking_other [] g n k differs =
-    ap (λ b. option_map (λ (a : Asking). a.node) (cond b (Some (record { generation = g; node = n })) None))
-    (ne_eqb g k (λ e. differs (sym e)))
-asking_other (a ∷ askings) g n k differs = go (a.generation == k) (asking_other askings g n k differs)
-  where
-    node_in : Bool → List Asking → Option ℕ
-    node_in b rest =
-        option_map (λ (a : Asking). a.node) (cond b (Some a) (find (λ (a : Asking). a.generation == k) rest))
-
-    go : (b : Bool) → winner_of (askings ++ record { generation = g; node = n } ∷ []) k ≡ winner_of askings k →
-        node_in b (askings ++ record { generation = g; node = n } ∷ []) ≡ node_in b askings
-    go true h = refl
-    go false h = h
-
-winners_push : (askings : List Asking) (winners : List Winner) (g n : ℕ) → AreWinners askings winners →
-    winner_of askings g ≡ None →
-    AreWinners (askings ++ record { generation = g; node = n } ∷ [])
-    (winners ++ record { generation = g; node = n } ∷ [])
-winners_push askings winners g n are none k = elim (bool_cases (k == g)) [
-  | inl t ↦ subst
-      (λ j. winner_of (askings ++ record { generation = g; node = n } ∷ []) j
-      ≡ winner_in (winners ++ record { generation = g; node = n } ∷ []) j)
-      (sym (eqb-true k g t))
-      ((first_askers_win askings).first g n [] ((first_askers_win askings).nobody g none)
-      ∙ sym (winner-push winners g n (sym (are g) ∙ none)))
-  | inr f ↦ asking_other askings g n k (other f)
-      ∙ are k
-      ∙ sym (winner-other winners g n k (other f))
-]
-  where
-    other : (k == g) ≡ false → k ≡ g → ⊥
-    other f e = let t = eq-eqb k g e in (cc)
-
-winners_after : (askings : List Asking) (winners : List Winner) (g n : ℕ) → AreWinners askings winners →
-    winner_of askings g ≡ None →
-    AreWinners (after_asking askings g n) (winners ++ record { generation = g; node = n } ∷ [])
-winners_after askings winners g n are none =
-    subst (λ l. AreWinners l (winners ++ record { generation = g; node = n } ∷ []))
-    (sym (ap (λ o. if is_some o then askings else askings ++ record { generation = g; node = n } ∷ []) none))
-    (winners_push askings winners g n are none)
-
--- The node that won.
 
 no_new_backup : (q : Role) → is_backup (won_role q) ≡ true → is_backup q ≡ true
 no_new_backup Primary e = e

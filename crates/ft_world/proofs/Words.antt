@@ -27,10 +27,10 @@ pub use Rattle.pair_protocol.proofs.OneNode.{is-at-read, set_get, with_same}
 pub use Rattle.pair_protocol.proofs.Passed.{acts-in, changes-append, first-passed, node-passed, only-passed, passes-if, replaying, serving}
 pub use Rattle.pair_protocol.proofs.Promises.Growth.{changes_grow, row_grows}
 pub use Rattle.pair_protocol.proofs.Promises.NodeStands.{nodes_stand}
-pub use Rattle.pair_protocol.proofs.Promises.OneMore.{accepted-one, arrival-counts, sector_record-one, terminal-set}
+pub use Rattle.pair_protocol.proofs.Promises.OneMore.{accepted-one, arrival-counts, terminal-set}
 pub use Rattle.pair_protocol.proofs.Promises.Runs.{always_faithful, changes_reach}
 pub use Rattle.pair_protocol.proofs.RowActions.{row_changes, step-serves}
-pub use Rattle.pair_protocol.proofs.Traces.Lists.{among-get, bool_cases, drop-at, get_set, get_set_other, same_or_not, same_some}
+pub use Rattle.pair_protocol.proofs.Traces.Lists.{among-get, drop-at, get_set, get_set_other, same_or_not, same_some}
 pub use Rattle.pair_protocol.proofs.Traces.Moves.{inputs_of-append, last_count-append, runs-append}
 pub use Rattle.pair_protocol.specs.Change.{After, AtBoot, Changes, Fetches, GetsPart, HostComes, Reached, Replaying, Serving, Then}
 pub use Rattle.pair_protocol.specs.Copying.{Copying, IsCopying}
@@ -41,10 +41,11 @@ pub use Rattle.pair_protocol.specs.Refusals.{acknowledge_refusal, ask_refusal, a
 pub use Rattle.pair_protocol.specs.Row.{Accepts, DeviceFails, Leaves, NeedsMemory, Refuses, Row}
 pub use Rattle.pair_protocol.specs.Rows.{AtNode, Does, MayNeedMemory, OfNode, drain_reply, is_disk}
 pub use Rattle.pair_protocol.specs.Settled.{Settled, Settles, count_in, highest, is_backup, list_of}
-pub use Rattle.pair_protocol.specs.World.{Released, SectorRecord, Winner, World, accepted, accepted_after, accepted_in, latest, no_terminal, opening, record_after, sector_record, terminal, terminal_in, winner_in, with_arrival, with_host, with_key, with_message, with_node, with_pair, with_put, with_read, with_told, with_winner}
-pub use Rattle.shared_disk.specs.Arrivals.{IsGreatest, after_meeting, after_put, read_of, record_of, written_at, read_address}
+pub use Rattle.pair_protocol.specs.SharedDevices.{AreWinners, IsDisk}
+pub use Rattle.pair_protocol.specs.World.{Released, World, accepted, accepted_after, accepted_in, latest, no_terminal, opening, record_after, sector_record, terminal, terminal_in, winner_in, with_arrival, with_host, with_key, with_message, with_node, with_pair, with_put, with_read, with_told, with_winner}
+pub use Rattle.shared_disk.specs.Arrivals.{IsGreatest, after_meeting, read_of, record_of, written_at, read_address}
 pub use Rattle.shared_disk.specs.Failing.{before_failures}
-pub use Rattle.shared_disk.specs.Records.{IsAt, boot_record, faults_in, record_at, refusal_at, with_record}
+pub use Rattle.shared_disk.specs.Records.{IsAt, boot_record, faults_in, record_at, with_record}
 pub use Rattle.shared_disk.specs.declared.disk.SectorRead.{SectorRead}
 pub use Rattle.shared_disk.specs.declared.store.Record.{Record}
 pub use Rattle.terminals.specs.Screen.{Screen, after_arrival, after_key, after_telling, blank, comes_next}
@@ -56,7 +57,7 @@ pub use Rattle.ft_world.specs.Lending.{HasNoNode, IsSpare, WithStation}
 pub use Rattle.ft_world.specs.Messages.{Releases, Says, ack_of, byte_of, log_of, operation_of, part_of, sector_of, write_of, written_of}
 pub use Rattle.ft_world.specs.Opening.{HasJoined, HasSpare, IsOpening, JoinsHosts, Opens, host_refusal}
 pub use Rattle.ft_world.specs.Running.{Running}
-pub use Rattle.ft_world.specs.Shows.{Agree, AreHosts, AreMessages, AreTerminals, AreWinners, IsDisk, IsHost, IsOnlyBackup, IsStation, IsStatusAt, IsTerminal, drained_count}
+pub use Rattle.ft_world.specs.Shows.{Agree, AreHosts, AreMessages, AreTerminals, IsHost, IsOnlyBackup, IsStation, IsStatusAt, IsTerminal, drained_count}
 pub use Rattle.ft_world.specs.Standing.{Course, IsMachine, machine_of}
 pub use Rattle.ft_world.specs.Staying.{DiskFails, Except, NodeHalts, SpareHostsStay, SparesAfter, SparesLeft, Stays, spare_of}
 pub use Rattle.ft_world.specs.Words.{IsMessage, IsRead, answer_of, reply_of}

@@ -15,8 +15,9 @@ use Rattle.pair_protocol.specs.Faithful.{Faithful}
 use Rattle.pair_protocol.specs.Grows.{Grows}
 use Rattle.pair_protocol.specs.Row.{Row}
 use Rattle.pair_protocol.specs.Settled.{highest}
+use Rattle.pair_protocol.specs.SharedDevices.{AreWinners, IsDisk}
 use Rattle.pair_protocol.specs.World.{World, sector_record}
-use Rattle.ft_world.specs.Shows.{AreHosts, AreMessages, AreTerminals, AreWinners, IsDisk, IsOnlyBackup}
+use Rattle.ft_world.specs.Shows.{AreHosts, AreMessages, AreTerminals, IsOnlyBackup}
 use Rattle.ft_world.specs.Standing.{Course, machine_of, IsMachine}
 use Rattle.shared_disk.specs.Arrivals.{read_address}
 use Rattle.ft_world.specs.Words.{answer_of}

@@ -1,16 +1,9 @@
 -- Which worlds of the protocol a running world shows.
-use Rattle.std.specs.Prelude.{◌≡◌, ℕ, true, IsTrue, Option, Some, None, List, length, slice_get}
-use Rattle.arbiter_core.specs.Winners.{winner_of}
-use Rattle.arbiter_core.specs.declared.arbiter.Asking.{Asking}
-use Rattle.disk_dcdd.specs.declared.address.SectorAddress.{SectorAddress}
-use Rattle.disk_dcdd.specs.declared.sector.SectorWrite.{SectorWrite}
+use Rattle.std.specs.Prelude.{◌≡◌, ℕ, true, Option, Some, None, List, length, slice_get}
 use Rattle.event_callbacks.specs.declared.devices.TheConstants.{PORTS}
 use Rattle.guest_lockstep.specs.Machine.{Machine}
 use Rattle.guest_lockstep.specs.declared.replay_end.ReplayEnd.{ReplayEnd}
 use Rattle.guest_lockstep.specs.declared.replay_end.ReplayEnd.TheVariants.{Turns, End, Wait, Memory}
-use Rattle.disk_dcdd.specs.Address.{has_sector}
-use Rattle.shared_disk.specs.Records.{IsAt}
-use Rattle.shared_disk.specs.declared.store.Record.{Record}
 use Rattle.terminals.specs.Screen.{Screen}
 use Rattle.pair_protocol.specs.Copying.{Copying}
 use Rattle.pair_protocol.specs.Node.{Node, Spare}
@@ -69,19 +62,6 @@ pub record AreTerminals (screens : List Screen) (terminals : List protocol.Termi
   pub ports : length screens ≡ PORTS
   pub count : length terminals ≡ PORTS
   pub each : (port : ℕ) → Agree IsTerminal (slice_get screens port) (slice_get terminals port)
-
--- the arbiter's winners
-abbrev pub AreWinners : List Asking → List protocol.Winner → Type 0
-AreWinners askings winners = (generation : ℕ) → winner_of askings generation ≡ protocol.winner_in winners generation
-
--- the disk has a record for each sector of its drives: what the writes that arrived have left there
-pub record IsDisk {S : Type 0} (M : Machine S) (drives : ℕ) (records : List Record) (puts : List SectorWrite)
-    : Type 0 where
-  pub there : (address : SectorAddress) → IsTrue (has_sector drives address)
-      → (r : Record) × IsAt records address r
-  pub kept : (address : SectorAddress) (r : Record) → IsAt records address r
-      → (r.number ≡ (protocol.sector_record M puts address).number)
-      × (r.bytes ≡ (protocol.sector_record M puts address).bytes)
 
 -- only the node of this number may be the backup of this generation
 abbrev pub IsOnlyBackup : {S : Type 0} → List (Node S) → ℕ → ℕ → Type 0

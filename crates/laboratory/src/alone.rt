@@ -2,7 +2,6 @@
 ghost use Rattle.event_callbacks.specs.declared.devices.TheConstants.{SENT, SECTOR, WRITTEN};
 ghost use Rattle.event_callbacks.specs.Keeping.{Keeps};
 
-use crate::boards::boot;
 use event_callbacks::{Callbacks, Completes, OpId, plain_completions};
 use guest_board::{Board, Setup};
 use guest_lockstep::{Input, Lockstep, StopReason};
@@ -46,7 +45,7 @@ fn run_with<T: Completes + Drop, S: Completes + Drop, W: Completes + Drop>(
     requires sector { Keeps (S.may sector) (S.gives sector) SECTOR }
     requires written { Keeps (W.may written) (W.gives written) WRITTEN }
 {
-    let mut board = boot(alloc, setup, Callbacks::of(sent, sector, written))?;
+    let mut board = Board::booted(alloc, setup, Callbacks::of(sent, sector, written))?;
     run_on(&mut board, steps)
 }
 

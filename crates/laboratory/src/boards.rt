@@ -1,9 +1,6 @@
-//! What a guest is at boot, and a board that has booted.
-ghost use Rattle.std.specs.Prelude.{◌≡◌, IfOk};
-ghost use Rattle.guest_board.specs.Guest.{guest_at_boot};
+//! What a guest is at boot.
 
-use event_callbacks::{Callbacks, Completes};
-use guest_board::{Board, Setup};
+use guest_board::Setup;
 use guest_lockstep::Reads;
 use i8080_words::{Fault, R};
 use std::alloc::Global;
@@ -22,18 +19,4 @@ pub fn setup_of(alloc: Global, program: &[u8]) -> R<Setup> {
         sense: 0x00,
         reads: Reads::Logged,
     })
-}
-
-/// A guest at boot.
-pub fn boot<T: Completes + Drop, S: Completes + Drop, W: Completes + Drop>(
-    alloc: Global,
-    setup: &Setup,
-    callbacks: Callbacks<T, S, W>,
-) -> R<Board<T, S, W>>
-    ensures { IfOk result (λ board. board.guest ≡ guest_at_boot setup.now) }
-{
-    match Board::boot(alloc, setup, callbacks) {
-        Ok(board) => Ok(board),
-        Err((_, fault)) => Err(fault),
-    }
 }

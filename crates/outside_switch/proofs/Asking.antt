@@ -1,55 +1,11 @@
 -- A host asks for a generation: the first has won it, and whoever asks later is answered by the winner that is kept.
-use Rattle.std.proofs.Common.{◌≡◌, [], ◌∷◌, ◌++◌, ◌∙◌, Bool, List, None, Option, Some, Err, Ok, ap, cond, eq-eqb, eqb-true, false, find, inl, inr, is_some, ne_eqb, refl, subst, sym, true, ℕ}
-use Rattle.std.specs.Option.{option_map}
-use Rattle.std.specs.Prelude.{Result, ◌==◌, ◌≢◌, is_none, map}
-use Rattle.std.proofs.lemmas.List.{map-append}
-use Rattle.arbiter_core.proofs.FirstAskers.{first_wins}
+use Rattle.std.proofs.Common.{◌≡◌, [], ◌∷◌, ◌++◌, ◌∙◌, Bool, List, None, Option, Some, Err, Ok, ap, cond, eq-eqb, eqb-true, false, is_some, refl, subst, sym, true, ℕ}
+use Rattle.std.specs.Prelude.{Result, ◌==◌, ◌≢◌, is_none}
 use Rattle.host_law.specs.Outside as outside
 use Rattle.pair_protocol.proofs.Keeps.Arbiter.{winner-push}
-use Rattle.pair_protocol.proofs.Traces.Lists.{bool_cases}
+use Rattle.pair_protocol.proofs.SharedDevices.{winners_after}
 use Rattle.outside_switch.proofs.Words.{AreWinners, Asking, AsksArbiter, Fault, HasLost, HasWon, Held, IsAnswer, Lost, Machine, OutOfMemory, Outside, Shows, Winner, Won, after_asking, answering, winner_in, winner_of, with_first}
 use Rattle.outside_switch.specs.Steps.{ArbiterMakes, Makes, Wins}
-
--- the law's winners, as the arbiter keeps them
-abbrev asking_of : Winner → Asking
-asking_of w = record { generation = w.generation; node = w.node }
-
-same_winner : (w : Winner) (g : ℕ) (p q : Bool) (found : Option Asking) (other : Option ℕ) → p ≡ q →
-    option_map (λ (a : Asking). a.node) found ≡ other →
-    option_map (λ (a : Asking). a.node) (cond p (Some (asking_of w)) found)
-    ≡ cond q (Some w.node) other
-same_winner w g true true found other e h = refl
-same_winner w g false false found other e h = h
-same_winner w g true false found other e h = absurd (cc)
-same_winner w g false true found other e h = absurd (cc)
-
-same_test : (m n : ℕ) → (m == n) ≡ (n == m)
-same_test m n = elim (bool_cases (m == n)) [
-  | inl t ↦ t ∙ sym (eq-eqb n m (sym (eqb-true m n t)))
-  | inr f ↦ f ∙ sym (ne_eqb n m (λ e. let t = eq-eqb m n (sym e) in (cc)))
-]
-
-winner_of-kept : (ws : List Winner) (g : ℕ) →
-    winner_of (map asking_of ws) g ≡ winner_in ws g
-winner_of-kept [] g = refl
-winner_of-kept (w ∷ ws) g =
-    same_winner w g (w.generation == g) (g == w.generation)
-    (find (λ (a : Asking). a.generation == g)
-    (map asking_of ws))
-    (winner_in ws g) (same_test w.generation g) (winner_of-kept ws g)
-
--- one more winner, here and in the law
-winners_after : (askings : List Asking) (ws : List Winner) (g n : ℕ) → AreWinners askings ws →
-    winner_of askings g ≡ None →
-    AreWinners (after_asking askings g n) (ws ++ record { generation = g; node = n } ∷ [])
-winners_after askings ws g n are none k =
-    (first_wins askings g n (after_asking askings g n)
-    (ap (λ o. cond (is_some o) askings (askings ++ record { generation = g; node = n } ∷ [])) none)).so_far
-    (map asking_of ws)
-    (λ j. are j ∙ sym (winner_of-kept ws j)) k
-    ∙ ap (λ l. winner_of l k) (sym (map-append asking_of ws
-    (record { generation = g; node = n } ∷ [])))
-    ∙ winner_of-kept (ws ++ record { generation = g; node = n } ∷ []) k
 
 own_answer : (winner host : ℕ) (won : Won) (b : Bool) → (winner == host) ≡ b →
     ◌≡◌ {A = Result Won Fault} (Ok won) (cond b (Ok (record {})) (Err Lost)) → winner ≡ host

@@ -1,48 +1,15 @@
 -- The disk has the record of the greatest number for each sector, and is read there; if it fails, its records stay.
-use Rattle.std.proofs.Common.{◌≡◌, [], ◌∷◌, ◌++◌, ◌∙◌, Bool, List, None, Option, Some, ap, cond, false, refl, subst, sym, true, ℕ}
+use Rattle.std.proofs.Common.{◌≡◌, [], ◌∷◌, ◌++◌, ◌∙◌, List, None, Option, Some, ap, refl, subst, sym, ℕ}
 use Rattle.std.specs.Option.{option_map}
-use Rattle.std.specs.Prelude.{if◌then◌else◌, IsSome, is_some, nat_lt}
+use Rattle.std.specs.Prelude.{IsSome}
 use Rattle.std.proofs.lemmas.Option.{same_Some}
-use Rattle.disk_dcdd.specs.Address.{same_address}
 use Rattle.event_callbacks.specs.declared.operations.Operation.TheVariants.{Write}
 use Rattle.host_law.specs.Outside as outside
-use Rattle.pair_protocol.proofs.Promises.OneMore.{sector_record-one}
+use Rattle.pair_protocol.proofs.SharedDevices.{disk_put, not_put}
 use Rattle.pair_protocol.specs.World.{Released, SectorRead}
-use Rattle.shared_disk.proofs.Arriving.{known_put, record_at-put}
-use Rattle.shared_disk.specs.Arrivals.{record_of}
 use Rattle.shared_disk.specs.declared.disk.SectorRead as device
-use Rattle.outside_switch.proofs.Words.{AsksSector, Carries, DeviceFault, Fault, Held, IsAt, IsDisk, IsThere, Machine, Outside, OutsideStep, Record, SectorAddress, SectorRecord, SectorWrite, Shows, Unknown, address_of, after_put, answering, read_of, record_at, refusal_at, sector_record}
+use Rattle.outside_switch.proofs.Words.{AsksSector, Carries, Held, IsDisk, IsThere, Machine, Outside, OutsideStep, Record, SectorAddress, SectorWrite, Shows, address_of, after_put, answering, read_of, record_at, sector_record}
 use Rattle.outside_switch.specs.Steps.{DiskMakes}
-
--- a record of the disk has this number and these bytes
-abbrev Has : SectorRecord → Record → Type 0
-Has k r = (r.number ≡ k.number) × (r.bytes ≡ k.bytes)
-
-there_after : (rs : List Record) (write : SectorWrite) (met : Record) (a : SectorAddress) →
-    record_at rs (address_of write) ≡ Some met → (r : Record) × IsAt rs a r → (r : Record) × IsAt (after_put rs write) a r
-there_after rs write met a at there = go (same_address (address_of write) a) (record_at-put rs write met a at)
-  where
-    go : (here : Bool) → record_at (after_put rs write) a
-        ≡ cond here (Some (cond (nat_lt met.number write.number) (record_of write) met)) (record_at rs a)
-        → (r : Record) × IsAt (after_put rs write) a r
-    go true is = (cond (nat_lt met.number write.number) (record_of write) met, is)
-    go false is = (there.0, is ∙ there.1)
-
--- one write more
-disk_put : {S : Type 0} (M : Machine S) (drives : ℕ) (rs : List Record) (puts : List SectorWrite)
-    (write : SectorWrite) (met : Record) → IsDisk M drives rs puts → record_at rs (address_of write) ≡ Some met →
-    IsDisk M drives (after_put rs write) (puts ++ write ∷ [])
-disk_put M drives rs puts write met d at = record {
-  there = λ a t. there_after rs write met a at (d.there a t);
-  kept = λ a r e. subst (λ k. Has k r) (sym (sector_record-one M puts write a))
-      (known_put Has (λ (k : SectorRecord). k.number) (λ k r has. has.0) rs write
-      (record { number = write.number; bytes = write.bytes }) (refl, refl) met at a (sector_record M puts a) (d.kept a) r e);
-}
-
--- a sector that is there is refused by the device alone
-not_put : (rs : List Record) (a : SectorAddress) (met : Record) (fault : Fault) → record_at rs a ≡ Some met →
-    fault ≡ refusal_at rs a → fault ≡ DeviceFault
-not_put rs a met fault at e = e ∙ ap (λ (o : Option Record). if is_some o then DeviceFault else Unknown) at
 
 there_is : (o : Option Record) → IsSome o → (r : Record) × (o ≡ Some r)
 there_is (Some r) s = (r, refl)

@@ -6,7 +6,8 @@ use Rattle.host_law.specs.Frame.{Act, Frame, sent, taken}
 use Rattle.host_law.specs.Outside.{Outside, OutsideRun, at_first}
 use Rattle.outside_switch.specs.DeviceCalls.{admitted_after}
 use Rattle.outside_switch.specs.Held.{Held, at_boot}
-use Rattle.outside_switch.specs.Shown.{IsDisk, Shows}
+use Rattle.pair_protocol.specs.SharedDevices.{IsDisk}
+use Rattle.outside_switch.specs.Shown.{Shows}
 use Rattle.outside_switch.specs.Steps.{Makes}
 
 -- a run from this outside took in and sent these frames, and the devices show where it leads

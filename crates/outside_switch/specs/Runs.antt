@@ -6,12 +6,13 @@ use Rattle.host_law.specs.Outside.{Outside, at_first}
 use Rattle.shared_disk.specs.declared.store.Record.{Record}
 use Rattle.outside_switch.specs.Held.{Held, at_boot}
 use Rattle.outside_switch.specs.Ran.{OutsideRan}
-use Rattle.outside_switch.specs.Shown.{IsDisk, Shows}
+use Rattle.outside_switch.specs.Shown.{Shows}
 use Rattle.outside_switch.specs.Goes as goes
 use Rattle.outside_switch.specs.Goes.{Goes, Moves, passed_by}
 use Rattle.outside_switch.specs.Lines.{AreApart, Pushed, number_at}
 use Rattle.outside_switch.specs.Meets.{Seen}
 use Rattle.outside_switch.specs.Passing.{Passed, shown_at, typed_at}
+use Rattle.pair_protocol.specs.SharedDevices.{IsDisk}
 use Rattle.pair_protocol.specs.World.{accepted_in, terminal_in}
 use Rattle.outside_switch.specs.Says.{Brings}
 

@@ -1,16 +1,10 @@
 -- Which outside of the law the devices show: it has every arrival, every key and every write, of which they keep less.
-use Rattle.std.specs.Prelude.{◌≡◌, ℕ, ◌≤◌, IsTrue, List, drop, length}
-use Rattle.arbiter_core.specs.Winners.{winner_of}
-use Rattle.arbiter_core.specs.declared.arbiter.Asking.{Asking}
-use Rattle.disk_dcdd.specs.Address.{has_sector}
-use Rattle.disk_dcdd.specs.declared.address.SectorAddress.{SectorAddress}
-use Rattle.disk_dcdd.specs.declared.sector.SectorWrite.{SectorWrite}
+use Rattle.std.specs.Prelude.{◌≡◌, ℕ, ◌≤◌, List, drop, length}
 use Rattle.event_callbacks.specs.declared.devices.TheConstants.{PORTS}
 use Rattle.guest_lockstep.specs.Machine.{Machine}
 use Rattle.host_law.specs.Outside.{Outside}
-use Rattle.pair_protocol.specs.World.{Terminal, Winner, accepted_after, sector_record, terminal_in, winner_in}
-use Rattle.shared_disk.specs.Records.{IsAt}
-use Rattle.shared_disk.specs.declared.store.Record.{Record}
+use Rattle.pair_protocol.specs.SharedDevices.{AreWinners, IsDisk}
+use Rattle.pair_protocol.specs.World.{Terminal, accepted_after, terminal_in}
 use Rattle.outside_switch.specs.DeviceCalls.{terminal_at}
 use Rattle.outside_switch.specs.Held.{Held}
 use Rattle.outside_switch.specs.Terminal.{KeptTerminal, next_key}
@@ -29,19 +23,6 @@ pub record AreTerminals (kept : List KeptTerminal) (terminals : List Terminal) :
   pub ports : length kept ≡ PORTS
   pub count : length terminals ≡ PORTS
   pub each : (port : ℕ) → IsTerminal (terminal_at kept port) (terminal_in terminals port)
-
--- the winners of the askings that are kept are the arbiter's
-abbrev pub AreWinners : List Asking → List Winner → Type 0
-AreWinners askings winners = (generation : ℕ) → winner_of askings generation ≡ winner_in winners generation
-
--- the disk has a record for each sector of its drives: what the writes that arrived have left there
-pub record IsDisk {S : Type 0} (M : Machine S) (drives : ℕ) (records : List Record) (puts : List SectorWrite)
-    : Type 0 where
-  pub there : (address : SectorAddress) → IsTrue (has_sector drives address)
-      → (r : Record) × IsAt records address r
-  pub kept : (address : SectorAddress) (r : Record) → IsAt records address r
-      → (r.number ≡ (sector_record M puts address).number)
-      × (r.bytes ≡ (sector_record M puts address).bytes)
 
 -- the devices show this outside, whose disk has this many drives; a host that is not there yet may be counted by it
 pub record Shows {S : Type 0} (M : Machine S) (drives : ℕ) (held : Held) (o : Outside) : Type 0 where

@@ -1,8 +1,9 @@
 //! What a line of a script answers, in the words of its output.
-ghost use Rattle.std.specs.Prelude.{◌∷◌, Some};
+ghost use Rattle.std.specs.Prelude.{Some};
 ghost use Rattle.std.specs.Fmt.{WritesOnOk};
-ghost use Rattle.pair_events.specs.Printed.{accepted_text, answer_text, byte_text, bytes_text, node_text, packet_text};
+ghost use Rattle.pair_events.specs.Printed.{accepted_text, answer_text, node_text, packet_text};
 
+use crate::in_hexadecimal::{Hexadecimal, Spaced};
 use crate::reply::{Reply, Role, write_number};
 use i8080_words::Fault;
 use std::fmt::{self, Display};
@@ -28,45 +29,6 @@ pub enum Answer<'a> {
         generation: u32,
         count: u64,
     },
-}
-
-// A byte that prints as two hexadecimal digits.
-#[derive(Clone, Copy)]
-struct Hexadecimal(u8);
-
-impl fmt::Display for Hexadecimal {
-    ghost output = { λ byte. Some (byte_text byte.0) };
-
-    fn fmt<W: fmt::Write>(&self, f: &mut fmt::Formatter<W>) -> fmt::Result {
-        write_byte(f, self.0)
-    }
-}
-
-fn write_byte<W: fmt::Write>(f: &mut fmt::Formatter<W>, byte: u8) -> fmt::Result
-    ensures { WritesOnOk W.write_str_gives f.old result (byte_text byte) f.new }
-{
-    write!(f, "{byte:02X}")
-}
-
-// Bytes printed that way, each after a space.
-#[derive(Clone, Copy)]
-struct Spaced<'a>(&'a [u8]);
-
-impl fmt::Display for Spaced<'_> {
-    ghost output = { λ spaced. Some (bytes_text spaced.0.now) };
-
-    fn fmt<W: fmt::Write>(&self, f: &mut fmt::Formatter<W>) -> fmt::Result {
-        for byte in self.0 {
-            write_spaced(f, *byte)?;
-        }
-        Ok(())
-    }
-}
-
-fn write_spaced<W: fmt::Write>(f: &mut fmt::Formatter<W>, byte: u8) -> fmt::Result
-    ensures { WritesOnOk W.write_str_gives f.old result (32 ∷ byte_text byte) f.new }
-{
-    write!(f, " {}", Hexadecimal(byte))
 }
 
 impl fmt::Display for Answer<'_> {

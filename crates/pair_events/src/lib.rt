@@ -3,8 +3,10 @@
 
 mod answer;
 mod event;
+mod in_hexadecimal;
 mod reply;
 
 pub use answer::Answer;
 pub use event::Event;
+pub use in_hexadecimal::{Hexadecimal, Spaced};
 pub use reply::{Reply, Role};

@@ -10,4 +10,5 @@ pub mod InputRows
 pub mod RowActions
 pub mod Needing
 pub mod Promises
+pub mod SharedDevices
 pub mod Booted

@@ -19,6 +19,7 @@ pub mod Row
 pub mod Survival
 -- For the layers above.
 pub mod NodeStands
+pub mod SharedDevices
 pub mod Joining
 pub mod Traces
 pub mod Laws

@@ -1,5 +1,5 @@
 //! A board repeats what another one recorded, with closures of different types.
-ghost use Rattle.std.specs.Prelude.{◌≡◌, [], IfOk, IsTrue, List, None, OnOk, Some};
+ghost use Rattle.std.specs.Prelude.{◌≡◌, [], IsTrue, List, None, OnOk, Some};
 ghost use Rattle.event_callbacks.specs.Completions.{is_due, done_of};
 ghost use Rattle.event_callbacks.specs.Keeping.{Keeps, kind_of};
 ghost use Rattle.event_callbacks.specs.declared.devices.TheConstants.{SECTOR, SENT, WRITTEN};
@@ -223,20 +223,6 @@ fn deliver_all(rt: &(impl Abort + AllocGlobal), log: &LogBuffer, receiver: &mut 
     Ok(())
 }
 
-// A guest of this setup at boot, with these callbacks.
-fn boot<T: Completes + Drop, S: Completes + Drop, W: Completes + Drop>(
-    alloc: Global,
-    setup: &Setup,
-    callbacks: Callbacks<T, S, W>,
-) -> R<Board<T, S, W>>
-    ensures { IfOk result (λ board. board.guest ≡ guest_at_boot setup.now) }
-{
-    match Board::boot(alloc, setup, callbacks) {
-        Ok(board) => Ok(board),
-        Err((_, fault)) => Err(fault),
-    }
-}
-
 // All is done to the guest of a recorder, and its log arrives at the receiver.
 fn record_all<T: Completes, S: Completes, W: Completes>(
     rt: &(impl Abort + AllocGlobal),
@@ -270,7 +256,7 @@ fn record_on<T: Completes + Drop, S: Completes + Drop, W: Completes + Drop>(
     ensures { OnOk result (IsOnTrace some_altair (guest_at_boot setup.now) receiver.new.entries None) }
 {
     let log = LogBuffer::new(rt.alloc(), 0)?;
-    let board = boot(rt.alloc(), setup, Callbacks::of(sent, sector, written))?;
+    let board = Board::booted(rt.alloc(), setup, Callbacks::of(sent, sector, written))?;
     record_all(rt, &mut Recorder::new(board, log, Reads::Logged), receiver)
 }
 
@@ -310,7 +296,7 @@ fn replay_on<T: Completes + Drop, S: Completes + Drop, W: Completes + Drop>(
     requires written { Keeps (W.may written) (W.gives written) WRITTEN }
     requires trace { IsOnTrace some_altair (guest_at_boot setup.now) receiver.old.entries None }
 {
-    let board = boot(rt.alloc(), setup, Callbacks::of(sent, sector, written))?;
+    let board = Board::booted(rt.alloc(), setup, Callbacks::of(sent, sector, written))?;
     replay_all(rt, &mut Replayer::new(board), receiver)
 }
 

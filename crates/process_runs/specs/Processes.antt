@@ -8,13 +8,13 @@ use Rattle.host_frames.specs.Frames.{framed}
 use Rattle.host_node.specs.declared.host.HostNode.{HostNode}
 use Rattle.host_node.specs.declared.host.Hosted.TheVariants as hosted
 use Rattle.outside_switch.specs.Held.{at_boot}
-use Rattle.outside_switch.specs.Shown.{IsDisk}
 use Rattle.outside_switch.specs.Goes.{first_number}
 use Rattle.outside_switch.specs.Lines.{Pushed, number_at}
 use Rattle.outside_switch.specs.Meets.{Seen}
 use Rattle.pair_protocol.specs.Copying.{Copying}
 use Rattle.pair_protocol.specs.Lawful.{Among}
 use Rattle.pair_protocol.specs.Node.{Primary, Backup, Role, first_node}
+use Rattle.pair_protocol.specs.SharedDevices.{IsDisk}
 use Rattle.shared_disk.specs.declared.store.Record.{Record}
 
 -- the hosts by their places, the outside, and all frames that it has pushed to them so far

@@ -1,13 +1,13 @@
 //! What a message carries, in words.
 ghost use Rattle.std.specs.Prelude.{◌<◌, ◌++◌, Some, codes};
 ghost use Rattle.std.specs.Fmt.{WritesOnOk, decimal};
-ghost use Rattle.pair_events.specs.Printed.{byte_text, ◌␣◌};
+ghost use Rattle.pair_events.specs.Printed.{◌␣◌};
 ghost use Rattle.sequence_diagram.specs.Words.{cargo_text, carried_text, counted_text, entry_text, held_text, input_text, key_text, letter_text, named_byte, part_text, sector_text};
 
 use crate::moment::{Cargo, Moment};
 use guest_lockstep::Bare;
-use pair_events::Event;
-use std::fmt;
+use pair_events::{Event, Hexadecimal};
+use std::fmt::{self, Display};
 
 /// What the message that an event sent carries.
 #[derive(Clone, Copy)]
@@ -16,10 +16,6 @@ pub struct Carried(pub Moment);
 /// A byte in hexadecimal, and the letter or digit that it is, if it is one.
 #[derive(Clone, Copy)]
 pub struct Byte(pub u8);
-
-// A byte as two hexadecimal digits.
-#[derive(Clone, Copy)]
-struct Hexadecimal(u8);
 
 // The input of an entry of the log; none if it is a mark.
 #[derive(Clone, Copy)]
@@ -146,7 +142,7 @@ impl fmt::Display for Byte {
         if self.0.is_ascii_alphanumeric() {
             return write_letter(f, self.0);
         }
-        write_byte(f, self.0)
+        Hexadecimal(self.0).fmt(f)
     }
 }
 
@@ -156,20 +152,6 @@ fn write_letter<W: fmt::Write>(f: &mut fmt::Formatter<W>, byte: u8) -> fmt::Resu
     ensures { WritesOnOk W.write_str_gives f.old result (letter_text byte) f.new }
 {
     write!(f, "{} ({})", Hexadecimal(byte), char::from(byte))
-}
-
-impl fmt::Display for Hexadecimal {
-    ghost output = { λ byte. Some (byte_text byte.0) };
-
-    fn fmt<W: fmt::Write>(&self, f: &mut fmt::Formatter<W>) -> fmt::Result {
-        write_byte(f, self.0)
-    }
-}
-
-fn write_byte<W: fmt::Write>(f: &mut fmt::Formatter<W>, byte: u8) -> fmt::Result
-    ensures { WritesOnOk W.write_str_gives f.old result (byte_text byte) f.new }
-{
-    write!(f, "{byte:02X}")
 }
 
 /// Words, a space and a number.

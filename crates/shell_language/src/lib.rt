@@ -24,5 +24,5 @@ pub use look::{Look, Span, View};
 pub use mistake::{LINE_BYTES, Mistake};
 pub use quoted::Quoted;
 pub use reading::read_line;
-pub use shown::{Address, Hexadecimal, Printable, Shown};
+pub use shown::{Address, Printable, Shown};
 pub use spelled::Spelled;

@@ -8,7 +8,8 @@ ghost use Rattle.shell_language.specs.Mistakes.{record_text};
 ghost use Rattle.shell_language.specs.declared.loading.RecordMistake.TheVariants as mistake;
 ghost use Rattle.shell_language.specs.Records.{Loaded, by_type, extended, start, record_by, record_in, record_of};
 
-use crate::shown::{Address, Hexadecimal};
+use crate::shown::Address;
+use pair_events::Hexadecimal;
 use std::fmt;
 use std::marker::Model;
 

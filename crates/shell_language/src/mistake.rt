@@ -8,7 +8,8 @@ ghost use Rattle.shell_language.specs.Mistakes.{Detached, Late, Misfit, Missing,
 use crate::form::Form;
 use crate::kind::Kind;
 use crate::loading::RecordMistake;
-use crate::shown::{Hexadecimal, Shown};
+use crate::shown::Shown;
+use pair_events::Hexadecimal;
 use std::fmt::{self, Display};
 
 /// How many bytes a line may have, without its end.

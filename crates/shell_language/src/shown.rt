@@ -1,31 +1,13 @@
 //! Bytes as they are shown: as text, or in hexadecimal.
 ghost use Rattle.std.specs.Prelude.{◌≡◌, ◌∷◌, [], Some};
 ghost use Rattle.std.specs.Fmt.{WritesOnOk};
-ghost use Rattle.pair_events.specs.Printed.{byte_text};
 ghost use Rattle.shell_language.specs.Shown.{address_text, shown_byte, shown_bytes, shown_text};
 
+use pair_events::Hexadecimal;
 use std::fmt;
 
 // How many bytes of a word are shown.
 const SHOWN_BYTES: usize = 24;
-
-/// A byte as two hexadecimal digits.
-#[derive(Clone, Copy)]
-pub struct Hexadecimal(pub u8);
-
-impl fmt::Display for Hexadecimal {
-    ghost output = { λ byte. Some (byte_text byte.0) };
-
-    fn fmt<W: fmt::Write>(&self, f: &mut fmt::Formatter<W>) -> fmt::Result {
-        write_byte(f, self.0)
-    }
-}
-
-fn write_byte<W: fmt::Write>(f: &mut fmt::Formatter<W>, byte: u8) -> fmt::Result
-    ensures { WritesOnOk W.write_str_gives f.old result (byte_text byte) f.new }
-{
-    write!(f, "{byte:02X}")
-}
 
 /// An address as four hexadecimal digits.
 #[derive(Clone, Copy)]

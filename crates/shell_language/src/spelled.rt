@@ -4,9 +4,8 @@ ghost use Rattle.std.specs.Fmt.{WritesOnOk, decimal};
 ghost use Rattle.pair_events.specs.Printed.{byte_text, ◌␣◌};
 ghost use Rattle.shell_language.specs.Spelling.{change_text, effect_text, event_text, operation_text};
 
-use crate::shown::Hexadecimal;
 use event_callbacks::OpId;
-use pair_events::Event;
+use pair_events::{Event, Hexadecimal};
 use std::fmt;
 
 /// An event that prints as the line of a script that says it.

@@ -7,7 +7,8 @@ ghost use Rattle.shell_picture.specs.Assembly.{accumulator_word, arithmetic_text
 use i8080_words::{
     AccumulatorOperation, AluOperation, Condition, Op, Register, RegisterPair, StackPair,
 };
-use shell_language::{Address, Hexadecimal};
+use pair_events::Hexadecimal;
+use shell_language::Address;
 use std::fmt;
 
 /// An instruction that prints as an assembler takes it.

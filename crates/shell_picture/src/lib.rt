@@ -13,7 +13,6 @@ mod picture;
 mod roles;
 mod screen;
 mod sector;
-mod spaced;
 mod words;
 
 pub use answers::{print_help, print_last, print_refusal, print_refusals, print_screen, print_sum};

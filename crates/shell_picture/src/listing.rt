@@ -5,8 +5,8 @@ ghost use Rattle.shell_picture.specs.Listings.{byte_in, gap_text, listing_rows, 
 
 use crate::answers::after;
 use crate::assembly::InstructionText;
-use crate::spaced::Spaced;
 use i8080_words::{decode, length};
+use pair_events::Spaced;
 use shell_book::Printed;
 use shell_language::Address;
 use std::alloc::AllocError;

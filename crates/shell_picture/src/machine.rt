@@ -8,10 +8,10 @@ ghost use Rattle.shell_language.specs.Shown.{address_text};
 ghost use Rattle.shell_picture.specs.Machines.{flags_text, halt_text, interrupts_text, letter_text, memory_rows, memory_text, register_rows, registers_text, state_text};
 
 use crate::answers::after;
-use crate::spaced::Spaced;
 use i8080_words::{Flags, Interrupts, Processor, Regs, psw};
+use pair_events::{Hexadecimal, Spaced};
 use shell_book::Printed;
-use shell_language::{Address, Hexadecimal, Printable};
+use shell_language::{Address, Printable};
 use std::alloc::AllocError;
 use std::fmt;
 

@@ -3,7 +3,7 @@ ghost use Rattle.std.specs.Prelude.{◌≡◌, Some};
 ghost use Rattle.std.specs.Fmt.{WritesOnOk};
 ghost use Rattle.shell_picture.specs.Screens.{bytes_word, escaped_byte, escaped_text, head_text, screen_text, without};
 
-use shell_language::Hexadecimal;
+use pair_events::Hexadecimal;
 use std::fmt;
 
 /// The first line of a screen: a port, and how many bytes are shown, all of them or what is new.

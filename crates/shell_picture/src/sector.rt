@@ -6,12 +6,12 @@ ghost use Rattle.shell_picture.specs.Sectors.{dump_row, dump_text, sector_text, 
 
 use crate::answers::{after, print_refusal};
 use crate::machine::{LINE, before};
-use crate::spaced::Spaced;
 use disk_dcdd::SectorAddress;
 use i8080_words::R;
+use pair_events::{Hexadecimal, Spaced};
 use shared_disk::SectorRead;
 use shell_book::Printed;
-use shell_language::{Hexadecimal, Printable};
+use shell_language::Printable;
 use std::alloc::AllocError;
 use std::fmt;
 

@@ -67,3 +67,17 @@ impl<T: Completes, S: Completes, W: Completes> Board<T, S, W> {
         }
     }
 }
+
+impl<T: Completes + Drop, S: Completes + Drop, W: Completes + Drop> Board<T, S, W> {
+    /// The guest at boot, with these closures. `OutOfMemory` lets them go.
+    pub fn booted(alloc: Global, setup: &Setup, callbacks: Callbacks<T, S, W>) -> R<Self>
+        ensures ok { IfOk result (λ board. board
+            ≡ record { guest = guest_at_boot setup.now; versions = zeros PAGES }) }
+        ensures full { IfErr result (λ fault. fault ≡ OutOfMemory) }
+    {
+        match Board::boot(alloc, setup, callbacks) {
+            Ok(board) => Ok(board),
+            Err((_, fault)) => Err(fault),
+        }
+    }
+}

@@ -3,7 +3,6 @@ ghost use Rattle.event_callbacks.specs.declared.devices.TheConstants.{SENT, SECT
 ghost use Rattle.event_callbacks.specs.Keeping.{Keeps};
 ghost use Rattle.board_image.specs.Drafts.{Agrees};
 
-use crate::boards::boot;
 use board_image::{Draft, board_of, drafts_keep_up, image_of, image_of_draft};
 use clone_state::{Assembly, Image};
 use event_callbacks::{Callbacks, Completes, plain_completions};
@@ -81,7 +80,7 @@ fn make_with<T: Completes + Drop + Copy, S: Completes + Drop + Copy, W: Complete
     requires sector { Keeps (S.may sector) (S.gives sector) SECTOR }
     requires written { Keeps (W.may written) (W.gives written) WRITTEN }
 {
-    let board = boot(alloc, setup, Callbacks::of(sent, sector, written))?;
+    let board = Board::booted(alloc, setup, Callbacks::of(sent, sector, written))?;
     make_all(alloc, &board, made, times, sent, sector, written)
 }
 

@@ -6,7 +6,6 @@ ghost use Rattle.guest_board.specs.Guest.{guest_at_boot};
 ghost use Rattle.shared_disk.specs.Records.{IsUnwritten};
 
 use super::case::Case;
-use crate::boards::boot;
 use altair_laws::altairs_are_lawful;
 use disk_dcdd::SectorWrite;
 use event_callbacks::{Callbacks, Completes, plain_completions};
@@ -89,8 +88,8 @@ fn boards<T: Completes + Drop + Copy, S: Completes + Drop + Copy, W: Completes +
     requires written { Keeps (W.may written) (W.gives written) WRITTEN }
     ensures { IfOk result (λ boards. (boards.0.guest ≡ guest_at_boot setup.now) × (boards.1.guest ≡ guest_at_boot setup.now)) }
 {
-    let primary = boot(alloc, setup, Callbacks::of(sent, sector, written))?;
-    let backup = boot(alloc, setup, Callbacks::of(sent, sector, written))?;
+    let primary = Board::booted(alloc, setup, Callbacks::of(sent, sector, written))?;
+    let backup = Board::booted(alloc, setup, Callbacks::of(sent, sector, written))?;
     Ok((primary, backup))
 }
 

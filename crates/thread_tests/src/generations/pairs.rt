@@ -75,20 +75,6 @@ fn setup_of(alloc: Global, program: &[u8]) -> R<Setup> {
     })
 }
 
-// A guest at boot.
-fn boot<T: Completes + Drop, S: Completes + Drop, W: Completes + Drop>(
-    alloc: Global,
-    setup: &Setup,
-    callbacks: Callbacks<T, S, W>,
-) -> R<Board<T, S, W>>
-    ensures { IfOk result (λ board. board.guest ≡ guest_at_boot setup.now) }
-{
-    match Board::boot(alloc, setup, callbacks) {
-        Ok(board) => Ok(board),
-        Err((_, fault)) => Err(fault),
-    }
-}
-
 // An unwritten disk of one drive, whose access of this number fails.
 fn unwritten_disk(alloc: Global, fails: u64) -> R<SharedDisk<Store>>
     ensures { IfOk result (λ disk. IsUnwritten disk.store) }
@@ -137,8 +123,8 @@ fn altairs_of<T: Completes + Drop + Copy, S: Completes + Drop + Copy, W: Complet
         × (workers.backup.guest ≡ guest_at_boot setup.now)) }
     ensures unwritten { IfOk result (λ workers. IsUnwritten workers.disk.store) }
 {
-    let primary = boot(alloc, setup, Callbacks::of(sent, sector, written))?;
-    let backup = boot(alloc, setup, Callbacks::of(sent, sector, written))?;
+    let primary = Board::booted(alloc, setup, Callbacks::of(sent, sector, written))?;
+    let backup = Board::booted(alloc, setup, Callbacks::of(sent, sector, written))?;
     workers_of(alloc, case, primary, backup)
 }
 

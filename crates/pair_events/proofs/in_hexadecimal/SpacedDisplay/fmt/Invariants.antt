@@ -2,7 +2,7 @@
 use Rattle.std.proofs.Common.{take}
 use Rattle.std.specs.Fmt.{HasWritten, IsPlainFormatter}
 use Rattle.pair_events.specs.Printed.{bytes_text}
-use Rattle.shell_picture.proofs.spaced.SpacedDisplay.fmt.Given as goal
+use Rattle.pair_events.proofs.in_hexadecimal.SpacedDisplay.fmt.Given as goal
 
 abbrev pub invariant-loop-byte : goal.invariant-loop-byte
 invariant-loop-byte g l =
