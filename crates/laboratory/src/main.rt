@@ -1,5 +1,5 @@
-//! Measures guests on each executor and the copies of a board (`guest`), the steps of the threads' table (`seat`), and pairs
-//! on threads (`live`), which it also runs at random, to compare each with one machine.
+//! Measures guests on each executor and the copies of a board (`guest`), the steps of the threads' table (`seat`), and guests
+//! alone or in a pair on threads (`live`).
 #![tactic(auto)]
 
 mod alone;
@@ -41,7 +41,7 @@ fn measure<H: Threads + Sync + Clock + Print>(
     match subject {
         "guest" => guest::run(rt, alloc, what, number, words),
         "seat" => seat::run(rt, alloc, what, number),
-        "live" => live::run(rt, alloc, what, number, words),
+        "live" => live::run(rt, alloc, what, number),
         other => bail!("the laboratory has no {other}"),
     }
 }

@@ -1,8 +1,10 @@
 //! What guests have done that are timed.
 
-use super::pair::PairEnd;
 use crate::alone::Alone;
+use guest_lockstep::Lockstep;
 use log_entry::Entry;
+use pair_threads::GenerationEnd;
+use shared_disk::MemoryStore;
 use std::fmt;
 
 /// What a guest has done, alone or in a pair.
@@ -28,10 +30,10 @@ impl Done {
     }
 
     /// What the guest of a pair has done.
-    pub fn in_pair(end: &PairEnd) -> Done {
+    pub fn in_pair<B: Lockstep + Drop>(end: &GenerationEnd<B, MemoryStore>) -> Done {
         let [first, second] = &end.accepted;
         Done {
-            steps: end.steps,
+            steps: end.primary_board.count(),
             bytes: (first.len() as u64).saturating_add(second.len() as u64),
             entries: end.primary.len() as u64,
             log_bytes: bytes_of(&end.primary),

@@ -1,32 +1,5 @@
 //! The programs of the guests, from address 0000.
 
-/// Prints this many bytes at port 0, the complements at port 1, as each takes them, and halts.
-pub fn printer(bytes: u8) -> [u8; 40] {
-    [
-        0x3e, 0x03, // 0000 MVI A,03
-        0xd3, 0x10, // 0002 OUT 10, reset of port 0
-        0xd3, 0x12, // 0004 OUT 12, reset of port 1
-        0x3e, 0x15, // 0006 MVI A,15
-        0xd3, 0x10, // 0008 OUT 10
-        0xd3, 0x12, // 000A OUT 12
-        0x0e, bytes, // 000C MVI C,bytes
-        0xdb, 0x10, // 000E IN 10
-        0xe6, 0x02, // 0010 ANI 02
-        0xca, 0x0e, 0x00, // 0012 JZ 000E
-        0x79, // 0015 MOV A,C
-        0xd3, 0x11, // 0016 OUT 11
-        0xdb, 0x12, // 0018 IN 12
-        0xe6, 0x02, // 001A ANI 02
-        0xca, 0x18, 0x00, // 001C JZ 0018
-        0x79, // 001F MOV A,C
-        0x2f, // 0020 CMA
-        0xd3, 0x13, // 0021 OUT 13
-        0x0d, // 0023 DCR C
-        0xc2, 0x0e, 0x00, // 0024 JNZ 000E
-        0x76, // 0027 HLT
-    ]
-}
-
 /// Echoes the keys of both ports by interrupts: those of port 0 at level 7, those of port 1 at level 6.
 pub const ECHO: [u8; 61] = [
     0x31, 0x00, 0x80, // 0000 LXI SP,8000
@@ -49,61 +22,6 @@ pub const ECHO: [u8; 61] = [
     0xd3, 0x11, // 003A OUT 11
     0xc9, // 003C RET
 ];
-
-/// Reads a sector and sums its bytes, writes the next one from the sum, and prints the sum, this many times, every second
-/// time a track further in; then halts.
-pub fn storer(rounds: u8) -> [u8; 90] {
-    [
-        0x31, 0x00, 0x80, // 0000 LXI SP,8000
-        0x3e, 0x03, // 0003 MVI A,03
-        0xd3, 0x10, // 0005 OUT 10, reset of port 0
-        0x3e, 0x15, // 0007 MVI A,15
-        0xd3, 0x10, // 0009 OUT 10
-        0x0e, rounds, // 000B MVI C,rounds
-        0xaf, // 000D XRA A
-        0xd3, 0x08, // 000E OUT 08, drive 0
-        0x3e, 0x04, // 0010 MVI A,04
-        0xd3, 0x09, // 0012 OUT 09, its head is loaded
-        0xdb, 0x09, // 0014 IN 09
-        0x0f, // 0016 RRC
-        0xda, 0x14, 0x00, // 0017 JC 0014, no sector yet
-        0x06, 0x89, // 001A MVI B,137
-        0xdb, 0x08, // 001C IN 08
-        0x07, // 001E RLC
-        0xda, 0x1c, 0x00, // 001F JC 001C, no byte yet
-        0xdb, 0x0a, // 0022 IN 0A
-        0x82, // 0024 ADD D
-        0x57, // 0025 MOV D,A
-        0x05, // 0026 DCR B
-        0xc2, 0x1c, 0x00, // 0027 JNZ 001C
-        0xdb, 0x09, // 002A IN 09
-        0x0f, // 002C RRC
-        0xda, 0x2a, 0x00, // 002D JC 002A
-        0x3e, 0x80, // 0030 MVI A,80
-        0xd3, 0x09, // 0032 OUT 09, it is written
-        0x06, 0x89, // 0034 MVI B,137
-        0xdb, 0x08, // 0036 IN 08
-        0x0f, // 0038 RRC
-        0xda, 0x36, 0x00, // 0039 JC 0036, no place yet
-        0x7a, // 003C MOV A,D
-        0x80, // 003D ADD B
-        0xd3, 0x0a, // 003E OUT 0A
-        0x05, // 0040 DCR B
-        0xc2, 0x36, 0x00, // 0041 JNZ 0036
-        0xdb, 0x10, // 0044 IN 10
-        0xe6, 0x02, // 0046 ANI 02
-        0xca, 0x44, 0x00, // 0048 JZ 0044
-        0x7a, // 004B MOV A,D
-        0xd3, 0x11, // 004C OUT 11
-        0x79, // 004E MOV A,C
-        0xe6, 0x01, // 004F ANI 01
-        0xf6, 0x04, // 0051 ORI 04
-        0xd3, 0x09, // 0053 OUT 09, a step in if C is odd
-        0x0d, // 0055 DCR C
-        0xc2, 0x14, 0x00, // 0056 JNZ 0014
-        0x76, // 0059 HLT
-    ]
-}
 
 /// How many instructions the guest that computes makes before each byte.
 pub const ROUND_STEPS: u64 = 100_045;

@@ -6,48 +6,37 @@ ghost use Rattle.guest_board.specs.Guest.{guest_at_boot};
 ghost use Rattle.shared_disk.specs.Records.{IsUnwritten};
 
 use super::case::Case;
+use super::done::Done;
+use super::stopwatch::Stopwatch;
 use altair_laws::altairs_are_lawful;
-use disk_dcdd::SectorWrite;
 use event_callbacks::{Callbacks, Completes, plain_completions};
 use guest_board::{Board, Setup};
 use guest_lockstep::Lockstep;
 use i8080_words::R;
-use log_entry::Entry;
-use pair_threads::{Fate, Gate, GenerationEnd, Who, Workers, run_generation};
+use pair_threads::{Workers, run_generation};
 use shared_disk::{MemoryStore, SharedDisk};
 use std::alloc::Global;
 use std::thread::Threads;
 use std::time::Clock;
 
-/// What a pair has come to.
-#[derive(Drop)]
-pub struct PairEnd {
-    /// How many steps the primary has made.
-    pub steps: u64,
-    /// The lists of entries.
-    pub primary: Vec<Entry>,
-    pub backup: Vec<Entry>,
-    /// How many entries are acknowledged.
-    pub held: u64,
-    /// Who goes on alone, if anybody asked to.
-    pub winner: Option<Who>,
-    /// What the terminal of each port has accepted.
-    pub accepted: [Vec<u8>; 2],
-    pub disk: SharedDisk<MemoryStore>,
-}
+// How many steps a guest has in a turn: as many as `pair live` has.
+const STEPS: u64 = 20_000;
 
-/// Runs a pair through a gate.
-pub fn run<H: Threads + Sync + Clock, G: Gate + Sync>(
+// How many turns primary and backup have: more than any run takes.
+const TURNS: u64 = 1 << 40;
+
+/// Runs a pair with this stopwatch as its gate, and says what its guest has done.
+pub fn run<H: Threads + Sync + Clock>(
     rt: &H,
     alloc: Global,
     case: &Case,
-    gate: &G,
-) -> R<PairEnd> {
+    stopwatch: &Stopwatch<'_, H>,
+) -> R<Done> {
     run_with(
         rt,
         alloc,
         case,
-        gate,
+        stopwatch,
         plain_completions::sent,
         plain_completions::sector,
         plain_completions::written,
@@ -57,20 +46,27 @@ pub fn run<H: Threads + Sync + Clock, G: Gate + Sync>(
 // Runs it with these closures as completions.
 fn run_with<
     H: Threads + Sync + Clock,
-    G: Gate + Sync,
     T: Completes + Drop + Copy + Send,
     S: Completes + Drop + Copy + Send,
     W: Completes + Drop + Copy + Send,
->(rt: &H, alloc: Global, case: &Case, gate: &G, sent: T, sector: S, written: W) -> R<PairEnd>
+>(
+    rt: &H,
+    alloc: Global,
+    case: &Case,
+    stopwatch: &Stopwatch<'_, H>,
+    sent: T,
+    sector: S,
+    written: W,
+) -> R<Done>
     requires sent { Keeps (T.may sent) (T.gives sent) SENT }
     requires sector { Keeps (S.may sector) (S.gives sector) SECTOR }
     requires written { Keeps (W.may written) (W.gives written) WRITTEN }
 {
     altairs_are_lawful();
-    let (primary, backup) = boards(alloc, &case.given.setup, sent, sector, written)?;
+    let (primary, backup) = boards(alloc, &case.setup, sent, sector, written)?;
     let workers = workers_of(alloc, case, primary, backup)?;
-    match run_generation(rt, alloc, workers, gate, case.how.turns) {
-        Ok(end) => Ok(without_boards(end)),
+    match run_generation(rt, alloc, workers, stopwatch, TURNS) {
+        Ok(end) => Ok(Done::in_pair(&end)),
         Err(fault) => Err(fault),
     }
 }
@@ -93,37 +89,7 @@ fn boards<T: Completes + Drop + Copy, S: Completes + Drop + Copy, W: Completes +
     Ok((primary, backup))
 }
 
-// What a pair begins with besides its guests.
-#[derive(Drop)]
-struct Begin {
-    disk: SharedDisk<MemoryStore>,
-    typed0: Vec<u8>,
-    typed1: Vec<u8>,
-    fates: Vec<Fate>,
-}
-
-fn begin_of(alloc: Global, case: &Case) -> R<Begin>
-    ensures { IfOk result (λ begin. IsUnwritten begin.disk) }
-{
-    let (typed0, typed1) = copies_of(alloc, &case.given.typed)?;
-    let fates = Vec::from_slice(alloc, &case.fates)?;
-    let disk = disk_of(alloc, case.given.setup.drives, &case.given.sectors)?;
-    Ok(Begin {
-        disk,
-        typed0,
-        typed1,
-        fates,
-    })
-}
-
-fn copies_of(alloc: Global, typed: &[Vec<u8>; 2]) -> R<(Vec<u8>, Vec<u8>)> {
-    let [first, second] = typed;
-    let typed0 = Vec::from_slice(alloc, first)?;
-    let typed1 = Vec::from_slice(alloc, second)?;
-    Ok((typed0, typed1))
-}
-
-// The workers of these guests.
+// The workers of these guests, on a link that delivers each packet.
 fn workers_of<B: Lockstep + Drop>(
     alloc: Global,
     case: &Case,
@@ -133,47 +99,25 @@ fn workers_of<B: Lockstep + Drop>(
     ensures guests { IfOk result (λ workers. (workers.primary ≡ primary) × (workers.backup ≡ backup)) }
     ensures unwritten { IfOk result (λ workers. IsUnwritten workers.disk) }
 {
-    let begin = begin_of(alloc, case)?;
+    let disk = disk_of(alloc, case.setup.drives)?;
+    let typed0 = Vec::from_slice(alloc, &case.typed)?;
     Ok(Workers {
         primary,
         backup,
-        disk: begin.disk,
-        typed0: begin.typed0,
-        typed1: begin.typed1,
-        fates: begin.fates,
-        primary_contests: case.how.primary_contests,
-        backup_contests: case.how.backup_contests,
-        steps: case.how.steps,
+        disk,
+        typed0,
+        typed1: Vec::new(alloc),
+        fates: Vec::new(alloc),
+        primary_contests: None,
+        backup_contests: case.backup_contests,
+        steps: STEPS,
     })
 }
 
-// Lets the boards go.
-fn without_boards<B: Lockstep + Drop>(end: GenerationEnd<B, MemoryStore>) -> PairEnd {
-    let steps = end.primary_board.count();
-    let GenerationEnd {
-        primary,
-        backup,
-        held,
-        winner,
-        accepted,
-        disk,
-        ..
-    } = end;
-    PairEnd {
-        steps,
-        primary,
-        backup,
-        held,
-        winner,
-        accepted,
-        disk,
-    }
-}
-
-// The disk at boot.
-fn disk_of(alloc: Global, drives: u8, sectors: &[SectorWrite]) -> R<SharedDisk<MemoryStore>>
+// The disk at boot, with zeros alone.
+fn disk_of(alloc: Global, drives: u8) -> R<SharedDisk<MemoryStore>>
     ensures { IfOk result (λ disk. IsUnwritten disk) }
 {
-    let store = MemoryStore::at_boot(alloc, drives, sectors)?;
+    let store = MemoryStore::at_boot(alloc, drives, &[])?;
     Ok(SharedDisk::new(store))
 }

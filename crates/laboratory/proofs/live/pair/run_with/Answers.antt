@@ -6,5 +6,5 @@ use Rattle.laboratory.proofs.live.pair.run_with.Goals as goal
 
 pub run_generation-requires-clause-lawful : goal.run_generation-requires-clause-lawful
 run_generation-requires-clause-lawful g c κs within =
-    let booted : c.in_ok-workers.workers.primary.guest ≡ guest_at_boot c.args.case.now.given.setup = search rules in
-    rw booted (c.altairs_are_lawful.ensures c.args.case.now.given.setup (bytes_in c.in_ok-workers.workers.disk))
+    let booted : c.in_ok-workers.workers.primary.guest ≡ guest_at_boot c.args.case.now.setup = search rules in
+    rw booted (c.altairs_are_lawful.ensures c.args.case.now.setup (bytes_in c.in_ok-workers.workers.disk))
