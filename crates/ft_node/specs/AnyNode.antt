@@ -37,7 +37,7 @@ IsNode state M C drives (node.Backup b) x =
 IsNode state M C drives (node.Joining j) x = IsJoining C drives j x
 IsNode state M C drives (node.Draining d) x =
     IsFollower Draining d.reads (state d.draining.replayer.board) d.draining.replayer.fetched d.draining.receiver x
-IsNode state M C drives (node.Alone a) x = IsAlone a.reads (state a.board) a.generation x
+IsNode state M C drives (node.Alone a) x = IsAlone a.recorder.reads (state a.recorder.board) a.generation x
 IsNode state M C drives (node.Halted h) x = IsHalted M h.generation h.count x
 
 -- ---- a node that takes input
@@ -48,7 +48,7 @@ board_of (node.Primary p) = Some p.recorder.board
 board_of (node.Backup b) = None
 board_of (node.Joining j) = None
 board_of (node.Draining d) = None
-board_of (node.Alone a) = Some a.board
+board_of (node.Alone a) = Some a.recorder.board
 board_of (node.Halted h) = None
 
 -- what its log answers to one more entry; only a primary has a log
@@ -68,7 +68,7 @@ alone_board (node.Primary p) = None
 alone_board (node.Backup b) = None
 alone_board (node.Joining j) = None
 alone_board (node.Draining d) = None
-alone_board (node.Alone a) = Some a.board
+alone_board (node.Alone a) = Some a.recorder.board
 alone_board (node.Halted h) = None
 
 -- this many pages of its guest are stale, once the lowest of them, at most `pages`, were copied

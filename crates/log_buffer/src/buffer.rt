@@ -4,6 +4,7 @@ ghost use Rattle.i8080_words.specs.declared.limits.TheConstants.{GREATEST_NUMBER
 ghost use Rattle.i8080_words.specs.declared.refusal.Fault.TheVariants.{OutOfMemory};
 ghost use Rattle.log_buffer.specs.Log as table;
 
+use crate::log::EntryLog;
 use circular_buffer::HeapCircularBuffer;
 use i8080_words::{Fault, GREATEST_NUMBER, R};
 use log_entry::Entry;
@@ -119,5 +120,20 @@ impl LogBuffer {
         let count = (index - self.first) as usize;
         self.entries.truncate_front(self.entries.len() - count);
         self.first = index;
+    }
+}
+
+impl EntryLog for LogBuffer {
+    ghost logging = { table.kept };
+
+    fn check_room(&self) -> R<()> {
+        self.room()
+    }
+
+    fn append(&mut self, entry: Entry) -> u64 {
+        match self.push(entry) {
+            Ok(index) => index,
+            Err(_) => unreachable!(),
+        }
     }
 }
