@@ -10,7 +10,8 @@ use Rattle.guest_lockstep.specs.Outstanding.{IsFrugal}
 use Rattle.guest_lockstep.specs.Pages.{every_page}
 use Rattle.guest_lockstep.specs.declared.input.Input.{Input}
 use Rattle.i8080_words.specs.declared.refusal.Fault.{Fault}
-use Rattle.log_buffer.specs.Log.{room_answer}
+use Rattle.log_buffer.specs.Log.{kept}
+use Rattle.log_buffer.specs.Logs.{room_answer}
 use Rattle.log_channel.specs.Channel as channel
 use Rattle.log_entry.specs.Standing.{IsOnTrace}
 use Rattle.log_entry.specs.declared.entry.Entry.{Entry}
@@ -53,7 +54,7 @@ board_of (node.Halted h) = None
 
 -- what its log answers to one more entry; only a primary has a log
 abbrev pub room_of : {B : Type 0} {H : Type 0} → code.Node B H → Result (Unit {0}) Fault
-room_of (node.Primary p) = room_answer p.recorder.log
+room_of (node.Primary p) = room_answer kept p.recorder.log
 room_of (node.Backup b) = Ok tt
 room_of (node.Joining j) = Ok tt
 room_of (node.Draining d) = Ok tt
