@@ -87,7 +87,7 @@ module _ {B S : Type 0} {H : Type 0} (state : B → S) (M : Machine S) (C : Copy
       record { acts = acts; machine = is.machine ∙ ap state same; log = log acts }
   takes_input (node.Alone a) x b room is has log =
       let acts : serves x ≡ None = rw (is.role, is.up) refl in
-      let same : a.board ≡ b = cc in
+      let same : a.recorder.board ≡ b = cc in
       record { acts = acts; machine = is.machine ∙ ap state same; log = log acts }
   takes_input (node.Backup r) x b room is has log = absurd cc
   takes_input (node.Joining j) x b room is has log = absurd cc

@@ -3,7 +3,7 @@
 use Rattle.std.proofs.Common.{◌≡◌, ℕ, ◌+◌, ◌≤◌, Option, Some, None, Ok, List, [], ◌∷◌, ◌++◌, length, drop, length-append, refl, sym, ap, subst, ◌∙◌, arith}
 use Rattle.std.proofs.lemmas.List.{drop-append-le, length-drop}
 use Rattle.std.proofs.lemmas.List.Elements.{All-push}
-use Rattle.ft_node.proofs.Words.{ComesAndGoes, Covering, Entry, IsEntry, IsPrimary, IsWithinLimits, Log, Machine, Makes, Node, Offers, OpId, Reads, Sending, Took, after_forget, completed_by, entry_of, log, next_of, primary_takes, pushed, reads_in, took, with_entry}
+use Rattle.ft_node.proofs.Words.{ComesAndGoes, Covering, Entry, IsEntry, IsPrimary, IsWithinLimits, Log, Machine, Makes, Node, Offers, OpId, Reads, Sending, Took, after_forget, buffered, completed_by, entry_of, log, next_of, primary_takes, pushed, reads_in, took, with_entry}
 use Rattle.guest_lockstep.specs.declared.input.Input.{Input}
 use Rattle.output_rule.specs.declared.notes.Note.{Note}
 use Rattle.ft_node.proofs.LastReads.{last_after}
@@ -99,7 +99,7 @@ by_completed {S} {K} {reads} M s t l sd c x i (Some name) index laws p valid tak
 
 -- the input is taken, with the operation that it completes
 pub accepts : {S : Type 0} {K : Option S → Type 0} {reads : Reads} (M : Machine S) (s t : S) (l new : Log) (sd : Sending) (c : Covering) (x : Node S) (i : Input)
-    (name : Option OpId) (index : ℕ) → ComesAndGoes M → IsPrimary M K reads s l sd c x → Offers M reads s l i (Ok index) t new
+    (name : Option OpId) (index : ℕ) → ComesAndGoes M → IsPrimary M K reads s l sd c x → Offers M buffered reads s l i (Ok index) t new
     → IsEntry (entry_of reads (M.count s) i) → name ≡ completed_by M s i → index ≡ next_of l
     → Makes x (Took M i)
     (IsPrimary M K reads t new sd (notes_left name (with_entry c (entry_of reads (M.count s) i) index)))

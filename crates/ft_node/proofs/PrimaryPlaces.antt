@@ -5,6 +5,7 @@ use Rattle.std.proofs.lemmas.List.Filters.{length-filter_both}
 use Rattle.ft_node.proofs.Words.{AdvancesSome, AdvancesUnless, AreFew, Covering, Covers, Fault, HasPlace, IsCovering, IsFrugal, Log, Machine, Node, Stopped}
 use Rattle.guest_lockstep.specs.declared.running.StopReason.{StopReason}
 use Rattle.guest_lockstep.specs.declared.running.StopReason.TheVariants as reason
+use Rattle.log_buffer.specs.Logs.{Logging}
 use Rattle.output_rule.specs.Notes.{same_name}
 use Rattle.output_rule.specs.declared.notes.Note.{Note}
 use Rattle.output_rule.specs.declared.notes.TheConstants.{PLACES}
@@ -16,10 +17,10 @@ use Rattle.ft_node.proofs.PrimaryNotes.{few_outstanding}
 
 -- ---- a run that was made
 
-pub made_some : {S : Type 0} (M : Machine S) (s t : S) (l new : Log) (turns : ℕ) (a : Stopped) (r : Option Fault)
-    → AdvancesUnless M s l turns r (Ok a) t new → (r ≡ None) × AdvancesSome M s l turns (Ok a) t new
-made_some M s t l new turns a None made = (refl, made)
-made_some M s t l new turns a (Some fault) made = let no = made.0 in absurd (cc)
+pub made_some : {S L : Type 0} (M : Machine S) (K : Logging L) (s t : S) (l new : L) (turns : ℕ) (a : Stopped) (r : Option Fault)
+    → AdvancesUnless M K s l turns r (Ok a) t new → (r ≡ None) × AdvancesSome M K s l turns (Ok a) t new
+made_some M K s t l new turns a None made = (refl, made)
+made_some M K s t l new turns a (Some fault) made = let no = made.0 in absurd (cc)
 
 -- ---- the room is looked at before the run
 

@@ -7,9 +7,9 @@ use Rattle.std.proofs.lemmas.Bool.{le-leb, lt-leb, eq-eqb, ne_eqb, cases_lt}
 use Rattle.std.proofs.lemmas.List.{length-drop}
 use Rattle.i8080_words.specs.declared.limits.TheConstants.{GREATEST_NUMBER}
 use Rattle.guest_lockstep.specs.Lockstep as lockstep
-use Rattle.ft_node.proofs.Words.{Alone, Fault, Idle, IsWithinLimits, Log, LogFull, Machine, Node, Primary, Spent, Unless, WrongRole, advance_refusal, fault_if, first_of, is_role, log, log_full, log_size, log_spent, next_of, refusal_behind, role_refusal, room_answer, serves, step_refusal}
+use Rattle.ft_node.proofs.Words.{Alone, Fault, Idle, IsWithinLimits, Log, LogFull, Machine, Node, Primary, Spent, Unless, WrongRole, advance_refusal, buffered, fault_if, first_of, is_role, log, log_full, log_size, log_spent, next_of, refusal_behind, role_refusal, room_answer, serves, step_refusal}
 use Rattle.log_buffer.specs.Log as buffer
-use Rattle.log_buffer.specs.Log.{answered}
+use Rattle.log_buffer.specs.Logs.{answered}
 use Rattle.log_buffer.specs.declared.buffer.TheConstants.{CAPACITY}
 use Rattle.pair_protocol.specs.Lawful.{top}
 use Rattle.ft_node.specs.Due.{refused_by}
@@ -113,7 +113,7 @@ by_log x l rest k =
 
 -- what the log answers to one more entry
 pub log_answers : {S : Type 0} (x : Node S) (l : Log) → Keeps x l
-    → first_of (log_full x ∷ log_spent x ∷ []) ≡ refused_by (room_answer l)
+    → first_of (log_full x ∷ log_spent x ∷ []) ≡ refused_by (room_answer buffered l)
 log_answers x l k = by_log x l [] k ∙ returned (buffer.refusal_of l)
   where
     returned : (r : Option Fault) → or_else r None ≡ refused_by (answered r tt)
@@ -140,7 +140,7 @@ by_machine false true = refl
 by_machine false false = refl
 
 pub steps_refused : {S : Type 0} (M : Machine S) (x : Node S) (l : Log) (turns : ℕ) → Keeps x l
-    → step_refusal M turns x ≡ advance_refusal M x.machine l turns
+    → step_refusal M turns x ≡ advance_refusal M buffered x.machine l turns
 steps_refused M x l zero k = primary_serves x k.role k.up
 steps_refused M x l (suc turns) k =
     served x l _ k ∙ by_log x l _ k

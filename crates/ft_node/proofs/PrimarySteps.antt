@@ -4,10 +4,11 @@ use Rattle.std.proofs.Common.{◌≡◌, ℕ, ◌<◌, ◌≤◌, Option, Some, 
 use Rattle.std.proofs.lemmas.List.{append-nil, drop-append-le}
 use Rattle.std.proofs.lemmas.List.Elements.{All-push}
 use Rattle.i8080_words.specs.declared.limits.TheConstants.{GREATEST_NUMBER}
-use Rattle.ft_node.proofs.Words.{AdvancesUnless, ComesAndGoes, Covering, Fault, IsEntry, IsPrimary, Log, Machine, Node, Operation, Reads, Sending, Stopped, Unless, advance_refusal, id_of, log, logged, next_of, noted, primary_steps, pushed, reads_in, stepped}
+use Rattle.ft_node.proofs.Words.{AdvancesUnless, ComesAndGoes, Covering, Fault, IsEntry, IsPrimary, Log, Machine, Node, Operation, Reads, Sending, Stopped, Unless, advance_refusal, buffered, id_of, log, logged, next_of, noted, primary_steps, pushed, reads_in, stepped}
 use Rattle.log_entry.specs.declared.entry.Entry.TheVariants.{Mark}
 use Rattle.pair_protocol.specs.Refusals as refusals
 use Rattle.guest_lockstep.specs.declared.running.StopReason.{StopReason}
+use Rattle.log_buffer.specs.Logs.{Logging}
 use Rattle.ft_node.specs.Calls as calls
 use Rattle.ft_node.specs.declared.ran.Ran.{Ran}
 use Rattle.ft_node.proofs.PrimaryInputs.{next_behind, same_primary}
@@ -79,17 +80,17 @@ giving_primary {S} {K} {reads} M s t l sd c x given laws p made valid =
 
 -- what a primary is after a run, if the mark of an operation that the run gave can be spelled
 abbrev After : {S : Type 0} → (Option S → Type 0) → Reads → Machine S → Log → Sending → Covering → StopReason → S → Node S → Type 0
-After K reads M l sd c why t y = IsEntry (Mark (M.count t)) → IsPrimary M K reads t (logged l (M.count t) why) sd (noted c why (next_of l)) y
+After K reads M l sd c why t y = IsEntry (Mark (M.count t)) → IsPrimary M K reads t (logged buffered l (M.count t) why) sd (noted c why (next_of l)) y
 
 -- some steps were made, or none were asked for
 pub steps_made : {S : Type 0} {K : Option S → Type 0} {reads : Reads} (M : Machine S) (s t : S) (l new : Log) (sd : Sending) (c later : Covering) (x : Node S)
     (turns count : ℕ) (a : Stopped) → ComesAndGoes M → IsPrimary M K reads s l sd c x → Keeps x l
-    → AdvancesUnless M s l turns (advance_refusal M s l turns) (Ok a) t new → count ≡ M.count t
+    → AdvancesUnless M buffered s l turns (advance_refusal M buffered s l turns) (Ok a) t new → count ≡ M.count t
     → count ≤ GREATEST_NUMBER → later ≡ noted c a.reason (next_of l)
     → calls.Steps M turns x (Ok (record { steps = a.steps; count = count; why = a.reason })) (IsPrimary M K reads t new sd later)
 steps_made {S} {K} {reads} M s t l new sd c later x turns count a laws p k made count_is within after =
     let ran : Ran = record { steps = a.steps; count = count; why = a.reason } in
-    let some = made_some M s t l new turns a (advance_refusal M s l turns) made in
+    let some = made_some M buffered s t l new turns a (advance_refusal M buffered s l turns) made in
     let valid : IsEntry (Mark (M.count t)) = omega arith in
     let to = steps_to M (λ s x. IsPrimary M K reads s l sd c x) (After K reads M l sd c) (λ s x p. p.machine)
     (λ s t x p moved. quiet_primary M s t l sd c x laws p moved)
@@ -97,7 +98,7 @@ steps_made {S} {K} {reads} M s t l new sd c later x turns count a laws p k made 
     (λ s x p valid. p) (λ s x fault p valid. p) s t x turns a p some.1.0.runs in
     let primary = to.after valid in
     let is : refusals.step_refusal M turns x ≡ None =
-    steps_refused M x l turns k ∙ ap (λ s. advance_refusal M s l turns) p.machine ∙ some.0 in
+    steps_refused M x l turns k ∙ ap (λ s. advance_refusal M buffered s l turns) p.machine ∙ some.0 in
     subst
     (λ r. Unless r (Ok ran) (IsPrimary M K reads t new sd later x)
     (calls.Makes x (calls.SteppedBy M turns ran) (IsPrimary M K reads t new sd later)))
@@ -114,12 +115,12 @@ steps_made {S} {K} {reads} M s t l new sd c later x turns count a laws p k made 
           (subst (λ kept. IsPrimary M K reads t kept sd (noted c a.reason (next_of l)) to.y) (sym some.1.0.log_is) primary);
     })
 
-not_made : {S : Type 0} (M : Machine S) (s t : S) (l new : Log) (turns : ℕ) (fault : Fault) (r : Option Fault)
-    (stays : Type 0) (does : Ran → Type 0) → AdvancesUnless M s l turns r (Err fault) t new
+pub not_made : {S L : Type 0} (M : Machine S) (K : Logging L) (s t : S) (l new : L) (turns : ℕ) (fault : Fault) (r : Option Fault)
+    (stays : Type 0) (does : Ran → Type 0) → AdvancesUnless M K s l turns r (Err fault) t new
     → ((t ≡ s) → (new ≡ l) → stays)
     → Unless {A = Ran} r (Err fault) stays (calls.Gives {A = Ran} (Err fault) ((0 < turns) × stays) does)
-not_made M s t l new turns fault None stays does made same = (made.0, (made.1, same made.2 made.3))
-not_made M s t l new turns fault (Some first) stays does made same =
+not_made M K s t l new turns fault None stays does made same = (made.0, (made.1, same made.2 made.3))
+not_made M K s t l new turns fault (Some first) stays does made same =
     let answer = made.0 in
     let is : fault ≡ first = cc in
     (ap (λ f. Err f) is, same made.1 made.2)
@@ -127,14 +128,14 @@ not_made M s t l new turns fault (Some first) stays does made same =
 -- none was made
 pub steps_not_made : {S : Type 0} {K : Option S → Type 0} {reads : Reads} (M : Machine S) (s t : S) (l new : Log) (sd : Sending) (c : Covering) (x : Node S)
     (turns : ℕ) (fault : Fault) → IsPrimary M K reads s l sd c x → Keeps x l
-    → AdvancesUnless M s l turns (advance_refusal M s l turns) (Err fault) t new
+    → AdvancesUnless M buffered s l turns (advance_refusal M buffered s l turns) (Err fault) t new
     → calls.Steps M turns x (Err fault) (IsPrimary M K reads t new sd c)
 steps_not_made {S} {K} {reads} M s t l new sd c x turns fault p k made =
     subst
     (λ r. Unless {A = Ran} r (Err fault) (IsPrimary M K reads t new sd c x)
     (calls.Gives {A = Ran} (Err fault) ((0 < turns) × IsPrimary M K reads t new sd c x)
     (λ ran. calls.Makes x (calls.SteppedBy M turns ran) (IsPrimary M K reads t new sd c))))
-    (sym (steps_refused M x l turns k ∙ ap (λ s. advance_refusal M s l turns) p.machine))
-    (not_made M s t l new turns fault (advance_refusal M s l turns) (IsPrimary M K reads t new sd c x)
+    (sym (steps_refused M x l turns k ∙ ap (λ s. advance_refusal M buffered s l turns) p.machine))
+    (not_made M buffered s t l new turns fault (advance_refusal M buffered s l turns) (IsPrimary M K reads t new sd c x)
     (λ ran. calls.Makes x (calls.SteppedBy M turns ran) (IsPrimary M K reads t new sd c)) made
     (λ same logged. same_primary M s t l new sd c x same logged p))

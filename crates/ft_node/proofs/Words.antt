@@ -15,7 +15,7 @@ pub use Rattle.guest_lockstep.specs.declared.running.Stopped.{Stopped}
 pub use Rattle.guest_lockstep.specs.declared.timed.Timed.{Timed}
 pub use Rattle.i8080_words.specs.declared.refusal.Fault.{Fault}
 pub use Rattle.i8080_words.specs.declared.refusal.Fault.TheVariants.{BadAck, Idle, LogFull, Malformed, NotCovered, NotDue, OutOfMemory, Spent, StaleRead, Unknown, WrongGeneration, WrongNumber, WrongRole}
-pub use Rattle.log_buffer.specs.Log.{IsWithinLimits, Log, dropped_to, log, next_of, pushed, room_answer}
+pub use Rattle.log_buffer.specs.Log.{IsWithinLimits, Log, dropped_to, log, next_of, pushed}
 pub use Rattle.log_channel.specs.Channel.{Receiving, Sending, ack_answer, acknowledged, holding}
 pub use Rattle.log_entry.specs.Entries.{entry_of, inputs_of, is_read, marks}
 pub use Rattle.log_entry.specs.Spelling.{IsEntry}
@@ -27,6 +27,8 @@ pub use Rattle.pair_protocol.specs.Node.{Alone, Backup, Draining, Joining, Node,
 pub use Rattle.pair_protocol.specs.Refusals.{begin_pair_refusal, deliver_acknowledgement_refusal, deliver_log_refusal, fault_if, first_of, generation_refusal, get_reply_refusal, has_part, is_number, keys_spent, log_full, log_size, log_spent, part_comes_refusal, put_reply_refusal, release_refusal, role_refusal, send_part_refusal, serves, step_refusal, stop_refusal, take_key_refusal, tell_sent_refusal}
 unfoldable pub use Rattle.pair_protocol.specs.Refusals.{last_generation}
 pub use Rattle.pair_protocol.specs.Waiting.{reads_in, up_to_read, waits_for}
+pub use Rattle.log_buffer.specs.Log.{kept as buffered}
+pub use Rattle.log_buffer.specs.Logs.{room_answer}
 pub use Rattle.recorder.specs.Recording.{AdvancesSome, AdvancesUnless, Offers, advance_refusal, logged, refusal_behind}
 pub use Rattle.ft_node.specs.Calls.{BeginsPair, Begun, Call, DeliversAcknowledgement, DeliversLog, Ever, Expects, Freshens, GetsPart, Gives, HasTakenKeys, IsLast, Makes, SendsPart, SpellsPart, Unless, last_refusal, next_after, part_refusal, parts_with, part_reply, unfit}
 pub use Rattle.ft_node.specs.Noting.{HasPlace, noted, with_entry}

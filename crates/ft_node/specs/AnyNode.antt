@@ -10,7 +10,8 @@ use Rattle.guest_lockstep.specs.Outstanding.{IsFrugal}
 use Rattle.guest_lockstep.specs.Pages.{every_page}
 use Rattle.guest_lockstep.specs.declared.input.Input.{Input}
 use Rattle.i8080_words.specs.declared.refusal.Fault.{Fault}
-use Rattle.log_buffer.specs.Log.{room_answer}
+use Rattle.log_buffer.specs.Log.{kept}
+use Rattle.log_buffer.specs.Logs.{room_answer}
 use Rattle.log_channel.specs.Channel as channel
 use Rattle.log_entry.specs.Standing.{IsOnTrace}
 use Rattle.log_entry.specs.declared.entry.Entry.{Entry}
@@ -37,7 +38,7 @@ IsNode state M C drives (node.Backup b) x =
 IsNode state M C drives (node.Joining j) x = IsJoining C drives j x
 IsNode state M C drives (node.Draining d) x =
     IsFollower Draining d.reads (state d.draining.replayer.board) d.draining.replayer.fetched d.draining.receiver x
-IsNode state M C drives (node.Alone a) x = IsAlone a.reads (state a.board) a.generation x
+IsNode state M C drives (node.Alone a) x = IsAlone a.recorder.reads (state a.recorder.board) a.generation x
 IsNode state M C drives (node.Halted h) x = IsHalted M h.generation h.count x
 
 -- ---- a node that takes input
@@ -48,12 +49,12 @@ board_of (node.Primary p) = Some p.recorder.board
 board_of (node.Backup b) = None
 board_of (node.Joining j) = None
 board_of (node.Draining d) = None
-board_of (node.Alone a) = Some a.board
+board_of (node.Alone a) = Some a.recorder.board
 board_of (node.Halted h) = None
 
 -- what its log answers to one more entry; only a primary has a log
 abbrev pub room_of : {B : Type 0} {H : Type 0} → code.Node B H → Result (Unit {0}) Fault
-room_of (node.Primary p) = room_answer p.recorder.log
+room_of (node.Primary p) = room_answer kept p.recorder.log
 room_of (node.Backup b) = Ok tt
 room_of (node.Joining j) = Ok tt
 room_of (node.Draining d) = Ok tt
@@ -68,7 +69,7 @@ alone_board (node.Primary p) = None
 alone_board (node.Backup b) = None
 alone_board (node.Joining j) = None
 alone_board (node.Draining d) = None
-alone_board (node.Alone a) = Some a.board
+alone_board (node.Alone a) = Some a.recorder.board
 alone_board (node.Halted h) = None
 
 -- this many pages of its guest are stale, once the lowest of them, at most `pages`, were copied

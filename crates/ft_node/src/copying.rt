@@ -44,7 +44,11 @@ impl<B: Copies<H> + Drop, H: Drop> Node<B, H> {
     {
         parts_make_their_machines();
         match self {
-            Node::Alone(alone) => next_of(alone.generation, alone.board.drives(), alone.reads),
+            Node::Alone(alone) => next_of(
+                alone.generation,
+                alone.recorder.board().drives(),
+                alone.recorder.reads(),
+            ),
             _ => Err(Fault::WrongRole),
         }
     }
@@ -148,22 +152,22 @@ fn freshened<B: Copies<H> + Drop, H: Drop>(
     alloc: Global,
     pages: u64,
 ) -> R<u64>
-    ensures answer { (x : protocol.Node B.State) → IsAlone alone.old.reads (B.state alone.old.board) alone.old.generation x
-        → calls.Freshens x result (IsAlone alone.new.reads (B.state alone.new.board) alone.new.generation) }
-    ensures fewer { IfOk result (λ left. left ≡ stale_count (B.stale alone.old.board) - pages) }
-    ensures left { IfOk result (λ left. left ≡ stale_count (B.stale alone.new.board)) }
-    ensures lowest { OnOk result (AreCopied pages (B.stale alone.old.board) (B.stale alone.new.board)) }
-    ensures begins { OnErr result (B.stale alone.old.board ≡ every_page) }
+    ensures answer { (x : protocol.Node B.State) → IsAlone alone.old.recorder.reads (B.state alone.old.recorder.board) alone.old.generation x
+        → calls.Freshens x result (IsAlone alone.new.recorder.reads (B.state alone.new.recorder.board) alone.new.generation) }
+    ensures fewer { IfOk result (λ left. left ≡ stale_count (B.stale alone.old.recorder.board) - pages) }
+    ensures left { IfOk result (λ left. left ≡ stale_count (B.stale alone.new.recorder.board)) }
+    ensures lowest { OnOk result (AreCopied pages (B.stale alone.old.recorder.board) (B.stale alone.new.recorder.board)) }
+    ensures begins { OnErr result (B.stale alone.old.recorder.board ≡ every_page) }
     ensures unchanged { OnErr result (alone.new ≡ alone.old) }
 {
-    alone.board.freshen(alloc, pages)
+    alone.recorder.board_mut().freshen(alloc, pages)
 }
 
 // The node that an alone node becomes when it begins the next generation; if it can't, it stays alone.
 fn begun<B: Copies<H> + Drop, H: Drop>(alloc: Global, mut alone: Alone<B>) -> (R<u32>, Node<B, H>)
     ensures answer { (C : Copying B.State) (drives : ℕ) (x : protocol.Node B.State)
         → CopiesAs B.state B.copied drives C.parts C.part_count C.assemble
-        → calls.HasTakenKeys B.machine x → IsAlone alone.reads (B.state alone.board) alone.generation x
+        → calls.HasTakenKeys B.machine x → IsAlone alone.recorder.reads (B.state alone.recorder.board) alone.generation x
         → calls.BeginsPair B.machine x result.0 (IsNode B.state B.machine C drives result.1) }
     ensures pages { OnOk result.0 (alone_board result.1 ≡ None) }
     ensures unchanged { OnErr result.0 (result.1 ≡ node.Alone alone) }
@@ -176,9 +180,12 @@ fn begun<B: Copies<H> + Drop, H: Drop>(alloc: Global, mut alone: Alone<B>) -> (R
         Ok(made) => made,
         Err(fault) => return (Err(fault), Node::Alone(alone)),
     };
-    let keys = [alone.board.keys(0), alone.board.keys(1)];
+    let board = alone.recorder.board();
+    let keys = [board.keys(0), board.keys(1)];
+    let reads = alone.recorder.reads();
     let image = KeptImage::of(image);
-    let primary = Primary::begin(alone.board, log, generation, alone.reads, keys, image);
+    let board = alone.recorder.into_board();
+    let primary = Primary::begin(board, log, generation, reads, keys, image);
     (Ok(generation), Node::Primary(primary))
 }
 
@@ -191,16 +198,16 @@ fn log_and_image<B: Copies<H> + Drop, H: Drop>(
     requires { 0 < generation }
     ensures log { IfOk result (λ made. made.0 ≡ logs.log 0 []) }
     ensures image { IfOk result (λ made. image_of made.1
-        ≡ record { generation = generation; parts = image_parts (B.copied alone.old.board) }) }
+        ≡ record { generation = generation; parts = image_parts (B.copied alone.old.recorder.board) }) }
     ensures keys { IfOk result (λ made. (port : ℕ) → port < PORTS
-        → B.machine.keys (B.state alone.new.board) port ≤ GREATEST_NUMBER) }
-    ensures state { B.state alone.new.board ≡ B.state alone.old.board }
-    ensures reads { alone.new.reads ≡ alone.old.reads }
+        → B.machine.keys (B.state alone.new.recorder.board) port ≤ GREATEST_NUMBER) }
+    ensures state { B.state alone.new.recorder.board ≡ B.state alone.old.recorder.board }
+    ensures reads { alone.new.recorder.reads ≡ alone.old.recorder.reads }
     ensures full { IsOkUnless result OutOfMemory }
     ensures unchanged { OnErr result (alone.new ≡ alone.old) }
 {
     let log = LogBuffer::new(alloc, 0)?;
-    let image = alone.board.image(alloc, generation)?;
+    let image = alone.recorder.board_mut().image(alloc, generation)?;
     Ok((log, image))
 }
 

@@ -146,7 +146,7 @@ impl<B: Copies<H> + Drop, H: Drop> Node<B, H> {
             Node::Backup(backup) => backup.replayer.board().count(),
             Node::Joining(joining) => joining.count(),
             Node::Draining(winner) => winner.draining.board().count(),
-            Node::Alone(alone) => alone.board.count(),
+            Node::Alone(alone) => alone.recorder.board().count(),
             Node::Halted(halted) => halted.count,
         }
     }
@@ -176,7 +176,7 @@ impl<B: Copies<H> + Drop, H: Drop> Node<B, H> {
             Node::Backup(backup) => Some(backup.replayer.board()),
             Node::Joining(_) => None,
             Node::Draining(winner) => Some(winner.draining.board()),
-            Node::Alone(alone) => Some(&alone.board),
+            Node::Alone(alone) => Some(alone.recorder.board()),
             Node::Halted(_) => None,
         }
     }
@@ -188,7 +188,7 @@ impl<B: Copies<H> + Drop, H: Drop> Node<B, H> {
     {
         match self {
             Node::Primary(primary) => Ok(primary.recorder.board()),
-            Node::Alone(alone) => Ok(&alone.board),
+            Node::Alone(alone) => Ok(alone.recorder.board()),
             _ => Err(Fault::WrongRole),
         }
     }

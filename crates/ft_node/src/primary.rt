@@ -36,7 +36,7 @@ use std::alloc::Global;
 /// sections 2.1 and 2.2).
 #[derive(Drop)]
 pub struct Primary<B> {
-    pub(crate) recorder: Recorder<B>,
+    pub(crate) recorder: Recorder<B, LogBuffer>,
     pub(crate) sender: Sender,
     pub(crate) coverage: Coverage,
     pub(crate) image: KeptImage,
@@ -136,7 +136,7 @@ impl<B: Lockstep + Drop> Primary<B> {
 
     /// Takes an input that nothing refuses: logs it, and forgets the operation that it completes.
     pub(crate) fn accept(&mut self, input: Input)
-        requires { MayTake B.machine (B.state self.old.recorder.board) self.old.recorder.log input }
+        requires { MayTake B.machine logs.kept (B.state self.old.recorder.board) self.old.recorder.log input }
         ensures { (C : Copying B.State) (x : Node B.State)
             → IsPrimary B.machine (HasImage C self.old.sender.generation self.old.image) self.old.recorder.reads (B.state self.old.recorder.board) self.old.recorder.log self.old.sender
             self.old.coverage x

@@ -19,6 +19,8 @@ use clone_state::Copies;
 use go_live::Draining;
 use guest_lockstep::{Reads, ReplayEnd};
 use i8080_words::{Fault, R};
+use log_buffer::NoLog;
+use recorder::Recorder;
 
 impl<B: Copies<H> + Drop, H: Drop> Node<B, H> {
     /// Asks the arbiter for the generation: the first node to ask has won, and is alone, or drains first if it was a
@@ -117,16 +119,15 @@ impl<B: Copies<H> + Drop, H: Drop> Node<B, H> {
 // A node that is alone from now on: no page of its guest is copied early yet.
 fn gone_live<B: Copies<H> + Drop, H: Drop>(mut board: B, generation: u32, reads: Reads) -> Alone<B>
     requires { 0 < generation }
-    ensures state { B.state result.board ≡ B.state board }
-    ensures pages { B.stale result.board ≡ every_page }
+    ensures state { B.state result.recorder.board ≡ B.state board }
+    ensures pages { B.stale result.recorder.board ≡ every_page }
     ensures generation { result.generation ≡ generation }
-    ensures reads { result.reads ≡ reads }
+    ensures reads { result.recorder.reads ≡ reads }
 {
     board.forget();
     Alone {
-        board,
+        recorder: Recorder::new(board, NoLog {}, reads),
         generation,
-        reads,
     }
 }
 

@@ -1,3 +1,4 @@
+pub mod Logs
 pub mod Log
 pub mod Buffer
 pub mod Laws

@@ -1,7 +1,8 @@
 -- The log of a generation: the entries that are kept, and the index of the first of them.
-use Rattle.std.specs.Prelude.{ℕ, ◌+◌, ◌-◌, ◌≤◌, ◌==◌, nat_lt, max, if◌then◌else◌, List, [], ◌∷◌, ◌++◌, length, drop, slice_get, Option, Some, None, is_none, Result, Ok, Err}
+use Rattle.std.specs.Prelude.{ℕ, ◌+◌, ◌-◌, ◌≤◌, ◌==◌, nat_lt, max, if◌then◌else◌, List, [], ◌∷◌, ◌++◌, length, drop, slice_get, Option, Some, None, is_none}
 use Rattle.i8080_words.specs.declared.refusal.Fault.{Fault}
 use Rattle.i8080_words.specs.declared.refusal.Fault.TheVariants.{LogFull, Spent}
+use Rattle.log_buffer.specs.Logs.{Logging}
 use Rattle.log_entry.specs.declared.entry.Entry.{Entry}
 use Rattle.log_buffer.specs.declared.buffer.TheConstants.{CAPACITY}
 use Rattle.i8080_words.specs.declared.limits.TheConstants.{GREATEST_NUMBER}
@@ -34,21 +35,13 @@ refusal_of l =
     then Some LogFull
     else (if next_of l == GREATEST_NUMBER then Some Spent else None)
 
--- a value, or why there is none
-abbrev pub answered : {A : Type 0} → Option Fault → A → Result A Fault
-answered None value = Ok value
-answered (Some fault) value = Err fault
-
--- whether an entry can be pushed, and the index of one that is
-abbrev pub room_answer : Log → Result (Unit {0}) Fault
-room_answer l = answered (refusal_of l) tt
-
-abbrev pub push_answer : Log → Result ℕ Fault
-push_answer l = answered (refusal_of l) (next_of l)
-
 -- with an entry after the others
 abbrev pub pushed : Log → Entry → Log
 pushed l entry = log l.first (l.entries ++ entry ∷ [])
+
+-- what it does with an entry that comes after the others
+abbrev pub kept : Logging Log
+kept = record { refusal = refusal_of; next = next_of; pushed = pushed }
 
 -- a refusal changes nothing
 abbrev pub after_push : Log → Entry → Log

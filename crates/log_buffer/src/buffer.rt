@@ -3,7 +3,9 @@ ghost use Rattle.std.specs.Prelude.{◌≡◌, ◌≤◌, [], length, IfOk, IfEr
 ghost use Rattle.i8080_words.specs.declared.limits.TheConstants.{GREATEST_NUMBER};
 ghost use Rattle.i8080_words.specs.declared.refusal.Fault.TheVariants.{OutOfMemory};
 ghost use Rattle.log_buffer.specs.Log as table;
+ghost use Rattle.log_buffer.specs.Logs as logs;
 
+use crate::log::EntryLog;
 use circular_buffer::HeapCircularBuffer;
 use i8080_words::{Fault, GREATEST_NUMBER, R};
 use log_entry::Entry;
@@ -74,7 +76,7 @@ impl LogBuffer {
     /// Whether `push` would append an entry: `LogFull` if `CAPACITY` entries are kept, otherwise `Spent` if `next` is
     /// at `GREATEST_NUMBER`.
     pub fn room(&self) -> R<()>
-        ensures { result ≡ table.room_answer self.now }
+        ensures { result ≡ logs.room_answer table.kept self.now }
     {
         if self.entries.len() == CAPACITY {
             return Err(Fault::LogFull);
@@ -87,7 +89,7 @@ impl LogBuffer {
 
     /// Appends an entry, and returns its index. Allocates no memory, and is refused as `room` is.
     pub fn push(&mut self, entry: Entry) -> R<u64>
-        ensures answer { result ≡ table.push_answer self.old }
+        ensures answer { result ≡ logs.push_answer table.kept self.old }
         ensures after { self.new ≡ table.after_push self.old entry }
     {
         self.room()?;
@@ -119,5 +121,20 @@ impl LogBuffer {
         let count = (index - self.first) as usize;
         self.entries.truncate_front(self.entries.len() - count);
         self.first = index;
+    }
+}
+
+impl EntryLog for LogBuffer {
+    ghost logging = { table.kept };
+
+    fn check_room(&self) -> R<()> {
+        self.room()
+    }
+
+    fn append(&mut self, entry: Entry) -> u64 {
+        match self.push(entry) {
+            Ok(index) => index,
+            Err(_) => unreachable!(),
+        }
     }
 }

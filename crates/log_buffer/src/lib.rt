@@ -3,6 +3,8 @@
 
 mod buffer;
 mod laws;
+mod log;
 
 pub use buffer::{CAPACITY, LogBuffer};
 pub use laws::{entries_keep_their_indexes, limits};
+pub use log::{EntryLog, NoLog};

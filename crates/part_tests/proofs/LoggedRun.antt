@@ -10,7 +10,7 @@ use Rattle.guest_lockstep.specs.Recorded.{Counts}
 use Rattle.guest_lockstep.specs.declared.input.Input.{Input}
 use Rattle.guest_lockstep.specs.declared.reads.Reads.{Reads}
 use Rattle.i8080_words.specs.declared.refusal.Fault.{Fault}
-use Rattle.log_buffer.specs.Log.{Log, log, kept_at}
+use Rattle.log_buffer.specs.Log.{Log, kept, log, kept_at}
 use Rattle.log_channel.proofs.SentEntries.{keeps_holding}
 use Rattle.log_channel.specs.Channel.{Receiving, Answers, heard}
 use Rattle.log_channel.specs.Laws.{HoldsFirst, IsSent}
@@ -33,22 +33,22 @@ Logged M reads s before t new = (moves : List Move) × Records M reads s before 
 pub advance_logs : {S : Type 0} (M : Machine S) (reads : Reads) (s t : S) (before new : Log) (turns : ℕ)
     (refusal : Option Fault)
     (result : Result Stopped Fault) (a : Stopped) → Counts M → result ≡ Ok a
-    → AdvancesUnless M s before turns refusal result t new → Logged M reads s before t new
+    → AdvancesUnless M kept s before turns refusal result t new → Logged M reads s before t new
 advance_logs M reads s t before new turns (Some fault) result a counts made answer =
     let no : Ok a ≡ Err fault = sym made ∙ answer.0 in absurd cc
 advance_logs M reads s t before new turns None result a counts made answer =
-    let advances : AdvancesUnless M s before turns None (Ok a) t new =
-    subst (λ result. AdvancesUnless M s before turns None result t new) made answer in
+    let advances : AdvancesUnless M kept s before turns None (Ok a) t new =
+    subst (λ result. AdvancesUnless M kept s before turns None result t new) made answer in
     let steps : RecordsSteps M reads s before a t new = records_steps M reads s t before new turns a counts advances.0
     in
     (steps.moves, steps.records)
 
 pub offer_logs : {S : Type 0} (M : Machine S) (reads : Reads) (s t : S) (before new : Log) (input : Input)
     (result : Result ℕ Fault)
-    (index : ℕ) → result ≡ Ok index → Offers M reads s before input result t new → Logged M reads s before t new
+    (index : ℕ) → result ≡ Ok index → Offers M kept reads s before input result t new → Logged M reads s before t new
 offer_logs M reads s t before new input result index taken answer =
-    let offers : Offers M reads s before input (Ok index) t new =
-    subst (λ result. Offers M reads s before input result t new) taken answer in (
+    let offers : Offers M kept reads s before input (Ok index) t new =
+    subst (λ result. Offers M kept reads s before input result t new) taken answer in (
       Take input ∷ [],
       record {
         runs = (t, offers.0, refl);

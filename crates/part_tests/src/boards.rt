@@ -120,7 +120,12 @@ fn may_offer<B: Lockstep>(board: &B, input: &Input) -> bool
 }
 
 // The recorder runs this many turns, and stops like this.
-fn advance<B: Lockstep>(rt: &impl Abort, recorder: &mut Recorder<B>, turns: u64, stopped: Stopped)
+fn advance<B: Lockstep>(
+    rt: &impl Abort,
+    recorder: &mut Recorder<B, LogBuffer>,
+    turns: u64,
+    stopped: Stopped,
+)
     requires { recorder.old.reads ≡ Logged }
     ensures reads { recorder.new.reads ≡ Logged }
     ensures records { (moves : List Move) × Records B.machine Logged (B.state recorder.old.board) recorder.old.log
@@ -133,7 +138,12 @@ fn advance<B: Lockstep>(rt: &impl Abort, recorder: &mut Recorder<B>, turns: u64,
 }
 
 // The recorder takes an input, and logs it under this index.
-fn offer<B: Lockstep>(rt: &impl Abort, recorder: &mut Recorder<B>, input: Input, index: u64)
+fn offer<B: Lockstep>(
+    rt: &impl Abort,
+    recorder: &mut Recorder<B, LogBuffer>,
+    input: Input,
+    index: u64,
+)
     requires reads { recorder.old.reads ≡ Logged }
     ensures reads { recorder.new.reads ≡ Logged }
     ensures records { (moves : List Move) × Records B.machine Logged (B.state recorder.old.board) recorder.old.log
@@ -147,7 +157,7 @@ fn offer<B: Lockstep>(rt: &impl Abort, recorder: &mut Recorder<B>, input: Input,
 }
 
 // Does this to the guest of a recorder.
-fn make<B: Lockstep>(rt: &impl Abort, recorder: &mut Recorder<B>, act: &GuestAct)
+fn make<B: Lockstep>(rt: &impl Abort, recorder: &mut Recorder<B, LogBuffer>, act: &GuestAct)
     requires { recorder.old.reads ≡ Logged }
     ensures reads { recorder.new.reads ≡ Logged }
     ensures records { (moves : List Move) × Records B.machine Logged (B.state recorder.old.board) recorder.old.log
@@ -163,7 +173,7 @@ fn make<B: Lockstep>(rt: &impl Abort, recorder: &mut Recorder<B>, act: &GuestAct
 }
 
 // Does all of it.
-fn make_all<B: Lockstep>(rt: &impl Abort, recorder: &mut Recorder<B>)
+fn make_all<B: Lockstep>(rt: &impl Abort, recorder: &mut Recorder<B, LogBuffer>)
     requires { recorder.old.reads ≡ Logged }
     ensures records { (moves : List Move) × Records B.machine Logged (B.state recorder.old.board) recorder.old.log
         moves (B.state recorder.new.board) recorder.new.log }
@@ -226,7 +236,7 @@ fn deliver_all(rt: &(impl Abort + AllocGlobal), log: &LogBuffer, receiver: &mut 
 // All is done to the guest of a recorder, and its log arrives at the receiver.
 fn record_all<T: Completes, S: Completes, W: Completes>(
     rt: &(impl Abort + AllocGlobal),
-    recorder: &mut Recorder<Board<T, S, W>>,
+    recorder: &mut Recorder<Board<T, S, W>, LogBuffer>,
     receiver: &mut Receiver,
 ) -> R<GuestView>
     requires reads { recorder.old.reads ≡ Logged }

@@ -69,18 +69,23 @@ const OTHER_KEY: Entry = Entry::Rx {
     byte: 0x48,
 };
 
-fn offer(rt: &impl Abort, recorder: &mut Recorder<Echo>, input: Input, wanted: R<u64>)
+fn offer(rt: &impl Abort, recorder: &mut Recorder<Echo, LogBuffer>, input: Input, wanted: R<u64>)
     requires { IsInput input }
 {
     assert!(rt; recorder.board().keys(0) < KEYS && recorder.board().keys(1) < KEYS);
     assert!(rt; recorder.offer(input) == wanted);
 }
 
-fn advance(rt: &impl Abort, recorder: &mut Recorder<Echo>, turns: u64, wanted: R<Stopped>) {
+fn advance(
+    rt: &impl Abort,
+    recorder: &mut Recorder<Echo, LogBuffer>,
+    turns: u64,
+    wanted: R<Stopped>,
+) {
     assert!(rt; recorder.advance(turns) == wanted);
 }
 
-fn ask(rt: &impl Abort, recorder: &mut Recorder<Echo>, asked: &Question) {
+fn ask(rt: &impl Abort, recorder: &mut Recorder<Echo, LogBuffer>, asked: &Question) {
     match asked {
         Question::Advance(turns, steps, reason) => {
             let (steps, reason) = (*steps, *reason);

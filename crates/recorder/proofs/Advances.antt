@@ -6,7 +6,7 @@ use Rattle.event_callbacks.specs.declared.operations.Operation.{Operation}
 use Rattle.guest_lockstep.specs.Machine.{Machine, Move, Do}
 use Rattle.guest_lockstep.specs.Recorded.{Counts, Recorded}
 use Rattle.guest_lockstep.specs.declared.reads.Reads.{Reads}
-use Rattle.log_buffer.specs.Log.{Log, pushed}
+use Rattle.log_buffer.specs.Log.{Log, kept, pushed}
 use Rattle.log_entry.specs.Entries.{entries}
 use Rattle.log_entry.specs.declared.entry.Entry.{Entry}
 use Rattle.log_entry.specs.declared.entry.Entry.TheVariants.{Mark}
@@ -85,11 +85,11 @@ with_mark M reads s t u log n a given counts made q st =
     }
 
 pub records_steps : {S : Type 0} (M : Machine S) (reads : Reads) (s t : S) (log new : Log) (turns : ℕ) (a : Stopped)
-    → Counts M → Advances M s log turns a t new → RecordsSteps M reads s log a t new
+    → Counts M → Advances M kept s log turns a t new → RecordsSteps M reads s log a t new
 records_steps {S} M reads s t log new turns a counts v = subst (λ l. RecordsSteps M reads s log a t l) (sym v.log_is)
     (by a t v.runs)
   where
-    by : (a : Stopped) (t : S) → RunsOn M s turns a t → RecordsSteps M reads s log a t (logged log (M.count t) a.reason)
+    by : (a : Stopped) (t : S) → RunsOn M s turns a t → RecordsSteps M reads s log a t (logged kept log (M.count t) a.reason)
     by _ t (AllTurns q) = quietly M reads s t log turns _ refl q
     by _ t (IsRefused {n = n} lt q) = quietly M reads s t log n _ refl q
     by _ t (Gives {n = n} {t = v} {given = given} lt q r st) = with_mark M reads s v t log n _ given counts refl q st

@@ -9,10 +9,10 @@ use Rattle.guest_lockstep.specs.Running.{Begin, RunsOn, AllTurns, Gives, IsRefus
 use Rattle.guest_lockstep.specs.declared.running.StopReason.TheVariants as reason
 use Rattle.guest_lockstep.specs.declared.running.Stopped.{Stopped}
 use Rattle.i8080_words.specs.declared.refusal.Fault.{Fault}
-use Rattle.log_buffer.specs.Log.{Log}
+use Rattle.log_buffer.specs.Logs.{Logging}
 use Rattle.recorder.specs.Recording.{advance_refusal, AdvancesUnless, logged}
 
-module _ {S : Type 0} (M : Machine S) (s t : S) (turns : ℕ) where
+module _ {S L : Type 0} (M : Machine S) (K : Logging L) (s t : S) (turns : ℕ) where
   -- ---- some steps were executed
 
   pub some_steps : (r : Stopped) → 0 < turns → RunsOn M s turns r t → r.reason ≡ reason.Turns → 0 < r.steps
@@ -30,34 +30,34 @@ module _ {S : Type 0} (M : Machine S) (s t : S) (turns : ℕ) where
   not_refused _ (Gives {n = n} {t = v} lt q allowed made) some = start_allowed M s v n q allowed
   not_refused _ (IsRefused {n = n} lt q) some = first_allowed M s t n some q
 
-  pub ended : (log new : Log) (r : Stopped) → RunsOn M s turns r t → 0 < r.steps → new ≡ logged log (M.count t) r.reason
-      → AdvancesUnless M s log turns (step_refusal M s) (Ok r) t new
+  pub ended : (log new : L) (r : Stopped) → RunsOn M s turns r t → 0 < r.steps → new ≡ logged K log (M.count t) r.reason
+      → AdvancesUnless M K s log turns (step_refusal M s) (Ok r) t new
   ended log new r runs some log_is =
-      subst (λ refusal. AdvancesUnless M s log turns refusal (Ok r) t new) (sym (not_refused r runs some))
+      subst (λ refusal. AdvancesUnless M K s log turns refusal (Ok r) t new) (sym (not_refused r runs some))
       (record { runs = runs; log_is = log_is }, inr some)
 
   -- ---- the first one was refused
 
-  refused_as : (log : Log) (refusal : Option Fault) → 0 < turns → t ≡ s
-      → AdvancesUnless M s log turns refusal (Err (fault_of refusal)) t log
+  refused_as : (log : L) (refusal : Option Fault) → 0 < turns → t ≡ s
+      → AdvancesUnless M K s log turns refusal (Err (fault_of refusal)) t log
   refused_as log (Some fault) some stays = (refl, stays, refl)
   refused_as log None some stays = (refl, some, stays, refl)
 
-  pub refused : (log : Log) (r : Stopped) (fault : Fault) → 0 < turns → RunsOn M s turns r t
+  pub refused : (log : L) (r : Stopped) (fault : Fault) → 0 < turns → RunsOn M s turns r t
       → r.reason ≡ reason.Refused fault → r.steps ≡ 0
-      → AdvancesUnless M s log turns (step_refusal M s) (Err fault) t log
+      → AdvancesUnless M K s log turns (step_refusal M s) (Err fault) t log
   refused log _ fault some (AllTurns q) is none = absurd cc
   refused log _ fault some (Gives lt q allowed made) is none = absurd cc
   refused log _ fault some (IsRefused {n = n} lt q) is none =
       let here : t ≡ s = none_made M s t n none q in
       let fault_is : fault_of (step_refusal M s) ≡ fault =
       ap (λ s. fault_of (step_refusal M s)) (sym here) ∙ (let e : fault_of (step_refusal M t) ≡ fault = cc in e) in
-      subst (λ fault. AdvancesUnless M s log turns (step_refusal M s) (Err fault) t log) fault_is
+      subst (λ fault. AdvancesUnless M K s log turns (step_refusal M s) (Err fault) t log) fault_is
       (refused_as log (step_refusal M s) some here)
 
 -- ---- no turns
 
-pub no_turns : {S : Type 0} (M : Machine S) (s : S) (log : Log) (turns : ℕ) → turns ≡ 0
-    → AdvancesUnless M s log turns (advance_refusal M s log turns) (Ok (stopped 0 reason.Turns)) s log
-no_turns M s log zero e = (record { runs = AllTurns Begin; log_is = refl }, inl refl)
-no_turns M s log (suc turns) e = absurd (omega arith)
+pub no_turns : {S L : Type 0} (M : Machine S) (K : Logging L) (s : S) (log : L) (turns : ℕ) → turns ≡ 0
+    → AdvancesUnless M K s log turns (advance_refusal M K s log turns) (Ok (stopped 0 reason.Turns)) s log
+no_turns M K s log zero e = (record { runs = AllTurns Begin; log_is = refl }, inl refl)
+no_turns M K s log (suc turns) e = absurd (omega arith)

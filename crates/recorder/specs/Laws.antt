@@ -5,7 +5,7 @@ use Rattle.guest_lockstep.specs.Recorded.{Counts, Recorded}
 use Rattle.guest_lockstep.specs.declared.input.Input.{Input}
 use Rattle.guest_lockstep.specs.declared.reads.Reads.{Reads}
 use Rattle.guest_lockstep.specs.declared.running.Stopped.{Stopped}
-use Rattle.log_buffer.specs.Log.{Log}
+use Rattle.log_buffer.specs.Log.{Log, kept}
 use Rattle.log_entry.specs.Entries.{entries}
 use Rattle.guest_lockstep.specs.Reach.{inputs, steps}
 use Rattle.recorder.specs.Recording.{Advances, Offers}
@@ -27,12 +27,12 @@ pub record RecordsSteps {S : Type 0} (M : Machine S) (reads : Reads) (s : S) (lo
 
 abbrev pub AdvancesRecord : Type 0 → Type 0
 AdvancesRecord S = (M : Machine S) (reads : Reads) (s t : S) (log new : Log) (turns : ℕ) (a : Stopped) → Counts M
-    → Advances M s log turns a t new → RecordsSteps M reads s log a t new
+    → Advances M kept s log turns a t new → RecordsSteps M reads s log a t new
 
 -- an offer that is not refused records its input
 abbrev pub OffersRecord : Type 0 → Type 0
 OffersRecord S = (M : Machine S) (reads : Reads) (s t : S) (log new : Log) (input : Input) (index : ℕ)
-    → Offers M reads s log input (Ok index) t new → Records M reads s log (Take input ∷ []) t new
+    → Offers M kept reads s log input (Ok index) t new → Records M reads s log (Take input ∷ []) t new
 
 -- one run after another is one run, and what both push is what it pushes
 abbrev pub RecordsJoin : Type 0 → Type 0

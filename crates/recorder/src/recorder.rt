@@ -1,11 +1,11 @@
 //! A guest with the log of its moves.
-ghost use Rattle.std.specs.Prelude.{◌≡◌, Ok, OnErr, OnOk};
+ghost use Rattle.std.specs.Prelude.{◌≡◌, IfOk, Ok, OnErr, OnOk};
 ghost use Rattle.guest_lockstep.specs.Lockstep.{HasRoom, IsInput};
 ghost use Rattle.guest_lockstep.specs.Machine.{refusal_of};
-ghost use Rattle.log_buffer.specs.contracts.buffer.LogBuffer as buffer;
-ghost use Rattle.log_buffer.specs.Log.{next_of};
+ghost use Rattle.guest_lockstep.specs.Pages.{stale_after};
 ghost use Rattle.log_entry.specs.Entries.{entry_of};
 ghost use Rattle.log_entry.specs.Spelling.{IsEntry};
+ghost use Rattle.log_buffer.specs.contracts.log.NoLog as no_log;
 ghost use Rattle.recorder.specs.Recording as table;
 ghost use Rattle.recorder.specs.contracts.recorder.Recorder.{the_row};
 ghost use Rattle.std.specs.Borrow.{Lends, sem};
@@ -13,20 +13,20 @@ ghost use Rattle.std.specs.Borrow.{Lends, sem};
 use crate::run::run;
 use guest_lockstep::{Input, Lockstep, Reads, StopReason, Stopped};
 use i8080_words::R;
-use log_buffer::LogBuffer;
+use log_buffer::{EntryLog, NoLog};
 use log_entry::Entry;
 
 /// A guest with the log of what it was given and what it gave (VMware FT, section 2.1).
 #[derive(Drop)]
-pub struct Recorder<B> {
+pub struct Recorder<B, L> {
     board: B,
-    log: LogBuffer,
+    log: L,
     reads: Reads,
 }
 
-impl<B: Lockstep> Recorder<B> {
+impl<B: Lockstep, L: EntryLog> Recorder<B, L> {
     /// A guest with a log of its moves; `reads` says whether that log carries sector bytes.
-    pub fn new(board: B, log: LogBuffer, reads: Reads) -> Recorder<B>
+    pub fn new(board: B, log: L, reads: Reads) -> Recorder<B, L>
         ensures board { result.board ≡ board }
         ensures log { result.log ≡ log }
         ensures reads { result.reads ≡ reads }
@@ -42,7 +42,7 @@ impl<B: Lockstep> Recorder<B> {
     }
 
     /// The log.
-    pub fn log(&self) -> &LogBuffer
+    pub fn log(&self) -> &L
         ensures { result.now ≡ self.now.log }
     {
         &self.log
@@ -56,9 +56,9 @@ impl<B: Lockstep> Recorder<B> {
     }
 
     /// The log, for its owner to drop what the backup has acknowledged.
-    pub fn log_mut(&mut self) -> &mut LogBuffer
+    pub fn log_mut(&mut self) -> &mut L
         ensures value { result.now ≡ self.old.log }
-        ensures* writes_back { sem 𝓛 (Lends (the_row B.row) buffer.the_row self.entry result
+        ensures* writes_back { sem 𝓛 (Lends (the_row B.row L.row) L.row self.entry result
             (λ log. record self.old { log = log })) }
     {
         &mut self.log
@@ -80,10 +80,11 @@ impl<B: Lockstep> Recorder<B> {
     /// only if no step is executed: `LogFull` and `Spent` by the log, `Spent` and `Idle` by the guest, and
     /// `OutOfMemory`.
     pub fn advance(&mut self, turns: u64) -> R<Stopped>
-        ensures answer { table.AdvancesUnless B.machine (B.state self.old.board) self.old.log turns
-            (table.advance_refusal B.machine (B.state self.old.board) self.old.log turns) result
+        ensures answer { table.AdvancesUnless B.machine L.logging (B.state self.old.board) self.old.log turns
+            (table.advance_refusal B.machine L.logging (B.state self.old.board) self.old.log turns) result
             (B.state self.new.board) self.new.log }
         ensures reads { self.new.reads ≡ self.old.reads }
+        ensures pages { IfOk result (λ a. B.stale self.new.board ≡ stale_after B.machine B.writes (B.stale self.old.board) (B.state self.old.board) a.steps) }
         ensures unchanged { OnErr result (self.new ≡ self.old) }
     {
         if turns == 0 {
@@ -92,7 +93,7 @@ impl<B: Lockstep> Recorder<B> {
                 reason: StopReason::Turns,
             });
         }
-        self.log.room()?;
+        self.log.check_room()?;
         run(&mut self.board, &mut self.log, turns)
     }
 
@@ -101,27 +102,28 @@ impl<B: Lockstep> Recorder<B> {
         requires input { IsInput input.now }
         requires room { HasRoom B.machine (B.state self.now.board) input.now }
         ensures answer { result
-            ≡ table.check_answer (refusal_of B.machine (B.state self.now.board) input.now) self.now.log }
-        ensures may { OnOk result (table.MayTake B.machine (B.state self.now.board) self.now.log input.now) }
+            ≡ table.check_answer L.logging (refusal_of B.machine (B.state self.now.board) input.now) self.now.log }
+        ensures may { OnOk result (table.MayTake B.machine L.logging (B.state self.now.board) self.now.log input.now) }
     {
         self.board.check(input)?;
-        self.log.room()
+        self.log.check_room()
     }
 
     /// Takes an input that nothing refuses, and logs it at the guest's count, as an entry that can be spelled. Returns
     /// the index of the entry. Allocates no memory.
     pub fn accept(&mut self, input: Input) -> u64
-        requires { table.MayTake B.machine (B.state self.old.board) self.old.log input }
-        ensures index { result ≡ next_of self.old.log }
-        ensures after { table.Offers B.machine self.old.reads (B.state self.old.board) self.old.log input (Ok result)
+        requires { table.MayTake B.machine L.logging (B.state self.old.board) self.old.log input }
+        ensures index { result ≡ L.logging.next self.old.log }
+        ensures after { table.Offers B.machine L.logging self.old.reads (B.state self.old.board) self.old.log input (Ok result)
             (B.state self.new.board) self.new.log }
         ensures entry { IsEntry (entry_of self.old.reads (B.machine.count (B.state self.old.board)) input) }
         ensures reads { self.new.reads ≡ self.old.reads }
+        ensures pages { B.stale self.new.board ≡ B.stale self.old.board }
     {
         let entry = Entry::of_input(self.reads, self.board.count(), input);
-        match (self.log.push(entry), self.board.take(input)) {
-            (Ok(index), Ok(())) => index,
-            _ => unreachable!(),
+        match self.board.take(input) {
+            Ok(()) => self.log.append(entry),
+            Err(_) => unreachable!(),
         }
     }
 
@@ -131,8 +133,8 @@ impl<B: Lockstep> Recorder<B> {
         requires input { IsInput input }
         requires room { HasRoom B.machine (B.state self.old.board) input }
         ensures answer { result
-            ≡ table.offer_answer (refusal_of B.machine (B.state self.old.board) input) self.old.log }
-        ensures after { table.Offers B.machine self.old.reads (B.state self.old.board) self.old.log input result
+            ≡ table.offer_answer L.logging (refusal_of B.machine (B.state self.old.board) input) self.old.log }
+        ensures after { table.Offers B.machine L.logging self.old.reads (B.state self.old.board) self.old.log input result
             (B.state self.new.board) self.new.log }
         ensures unchanged { OnErr result (self.new ≡ self.old) }
         ensures entry { OnOk result
@@ -141,5 +143,16 @@ impl<B: Lockstep> Recorder<B> {
     {
         self.check(&input)?;
         Ok(self.accept(input))
+    }
+}
+
+impl<B: Lockstep> Recorder<B, NoLog> {
+    /// The guest, for its owner to copy: there is no log that would miss what is done to it.
+    pub fn board_mut(&mut self) -> &mut B
+        ensures value { result.now ≡ self.old.board }
+        ensures* writes_back { sem 𝓛 (Lends (the_row B.row no_log.the_row) B.row self.entry result
+            (λ board. record self.old { board = board })) }
+    {
+        &mut self.board
     }
 }

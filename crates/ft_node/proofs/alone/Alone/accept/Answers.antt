@@ -4,5 +4,7 @@ use Rattle.ft_node.proofs.alone.Alone.accept.Goals as goal
 
 pub returns-clause-node : goal.returns-clause-node
 returns-clause-node g c = λ x a.
-    alone_accepts g.B.Lockstep.machine c.args.self.now.reads c.args.input x (g.B.Lockstep.state c.args.self.now.board)
-    (g.B.Lockstep.state c.take.new.self) c.args.self.now.generation a c.in-Ok.ensures.answer.1
+    rw c.accept-index.ensures.reads
+    (alone_accepts g.B.Lockstep.machine c.args.self.now.recorder.reads c.args.input x
+    (g.B.Lockstep.state c.args.self.now.recorder.board) (g.B.Lockstep.state c.accept-index.new.self.board)
+    c.args.self.now.generation a c.accept-index.ensures.after.0.taken)

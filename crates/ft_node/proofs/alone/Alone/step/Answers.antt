@@ -1,33 +1,27 @@
--- What holds at each way out of the steps, by the lemmas of `AloneSteps`.
-use Rattle.std.proofs.Common.{inr, arith}
-use Rattle.ft_node.proofs.AloneSteps.{all_turns, last_step, made, refused}
+-- The recorder's advance is what the node makes.
+use Rattle.std.proofs.Common.{ap, ◌∙◌}
+use Rattle.std.proofs.lemmas.Result.{err_from_is_err_and}
+use Rattle.ft_node.proofs.AloneSteps.{made, none_made}
 use Rattle.ft_node.proofs.alone.Alone.step.Goals as goal
 
-pub returns-in-Turns-clause-answer : goal.returns-in-Turns-clause-answer
-returns-in-Turns-clause-answer g c = λ x a.
+pub returns-in_err-steps-clause-answer : goal.returns-in_err-steps-clause-answer
+returns-in_err-steps-clause-answer g c = λ x a.
     let M = g.B.Lockstep.machine in
-    let s = g.B.Lockstep.state c.args.self.now.board in
-    let t = g.B.Lockstep.state c.run-steps.new.guest in
-    made M x s t c.args.self.now.generation c.args.turns c.count.result c.run-steps.result a c.run-steps.ensures.runs
-    (all_turns M s t c.args.turns c.run-steps.result c.run-steps.ensures.runs c.in-Turns.is) c.count.ensures.value
+    let state = g.B.Lockstep.state in
+    let old = c.args.self.now.recorder in
+    let new = c.advance.new.self in
+    let e = err_from_is_err_and c.from_residual.result c.from_residual.ensures.1 in
+    rw (e.1, e.2, c.in_err-steps.ensures.reads)
+    (none_made M x (state old.board) (state new.board) old.log new.log c.args.self.now.generation c.args.turns a
+    c.in_err-steps.field-0.0 c.in_err-steps.ensures.answer)
 
-pub returns-in-Operation-clause-answer : goal.returns-in-Operation-clause-answer
-returns-in-Operation-clause-answer g c = λ x a.
+pub returns-clause-answer : goal.returns-clause-answer
+returns-clause-answer g c = λ x a.
     let M = g.B.Lockstep.machine in
-    let s = g.B.Lockstep.state c.args.self.now.board in
-    let t = g.B.Lockstep.state c.run-steps.new.guest in
-    made M x s t c.args.self.now.generation c.args.turns c.count.result c.run-steps.result a c.run-steps.ensures.runs
-    (last_step M s t c.args.turns c.run-steps.result c.in-Operation.field-0 c.run-steps.ensures.runs c.in-Operation.is)
-    c.count.ensures.value
-
-pub returns-in-Refused-clause-answer : goal.returns-in-Refused-clause-answer
-returns-in-Refused-clause-answer g c = λ x a.
-    refused g.B.Lockstep.machine x (g.B.Lockstep.state c.args.self.now.board)
-    (g.B.Lockstep.state c.run-steps.new.guest) c.args.self.now.generation c.args.turns c.run-steps.result
-    c.in-Refused.fault a c.run-steps.ensures.runs c.in-Refused.is c.if-steps-eq0.true
-
-pub returns-in-Refused-2-clause-answer : goal.returns-in-Refused-2-clause-answer
-returns-in-Refused-2-clause-answer g c = λ x a.
-    made g.B.Lockstep.machine x (g.B.Lockstep.state c.args.self.now.board) (g.B.Lockstep.state c.run-steps.new.guest)
-    c.args.self.now.generation c.args.turns c.count.result c.run-steps.result a c.run-steps.ensures.runs
-    (inr (omega arith)) c.count.ensures.value
+    let state = g.B.Lockstep.state in
+    let old = c.args.self.now.recorder in
+    let new = c.advance.new.self in
+    rw c.in_ok-steps.ensures.reads
+    (made M x (state old.board) (state new.board) old.log new.log c.args.self.now.generation c.args.turns a
+    c.count.result c.in_ok-steps.field-0 c.in_ok-steps.ensures.answer
+    (c.count.ensures.value ∙ ap (λ board. M.count (state board)) c.board.ensures))

@@ -13,5 +13,5 @@ returns-in-Primary-clause-node g c = λ C drives x is.
 
 pub returns-in-Alone-clause-node : goal.returns-in-Alone-clause-node
 returns-in-Alone-clause-node g c = λ C drives x is.
-    let a : IsAlone c.in-Alone.alone.reads (g.B.Lockstep.state c.in-Alone.alone.board) c.in-Alone.alone.generation x = rw c.in-Alone.is at is in
+    let a : IsAlone c.in-Alone.alone.recorder.reads (g.B.Lockstep.state c.in-Alone.alone.recorder.board) c.in-Alone.alone.generation x = rw c.in-Alone.is at is in
     c.accept-in-Alone.ensures.node x a
