@@ -11,8 +11,9 @@ each host is, and how it has ended. Any of them may be killed or stopped from el
 When one has ended and --later allows one more, a spare is started; `spare` starts one too. When the outside has ended, so do all hosts,
 since their streams do; one that is stopped is killed. With --host each host is at a place, on this machine or wherever ssh leads.
 
-A terminal gives each key as it is typed, Ctrl-C among them, and is set back as it was however the command ends. If it hangs up, no
-more keys come, and a program that goes on for half a minute is ended. If the input is a file or a pipe, its end is that of the keys.
+A terminal gives each key as it is typed, Ctrl-C among them, and is set back as it was however the command ends. If it hangs up, the
+program is to quit, and no more keys come; one that goes on for half a minute is ended. A signal such as SIGTERM has the program quit too,
+so that disks are saved; a second one ends it at once. If the input is a file or a pipe, its end is that of the keys.
 
 Lines about the pair appear on the last row of a terminal, if standard output and standard error both go to it, and what the machine prints
 scrolls above; with `--lines here` they are written where the cursor is.
@@ -66,6 +67,10 @@ PR_SET_PDEATHSIG = 1
 # How many keys are read at once, and for how many seconds a program may go on after its terminal has hung up.
 MOST_KEYS = 4096
 PATIENCE = 30
+# For how many seconds a program may go on that a signal has asked to quit.
+QUITS_IN = 5
+# What the escape key sends unless another is chosen, and what closes a line of commands that may be open.
+ESCAPE, CLOSES = 0x05, b"\x1b"
 # These end the command; a program does not hear those that a terminal sends, since this command does.
 ENDINGS = (signal.SIGINT, signal.SIGQUIT, signal.SIGTERM)
 # After how many seconds a signal is heard at the latest.
@@ -91,6 +96,7 @@ class Asked:
 
     def __init__(self, words):
         self.own, self.images, self.saves, self.attached = [], {}, {}, {}
+        self.escape = ESCAPE
         self.setup, self.memory, self.keys, self.lines = b"", None, [], None
         # How many hosts begin, how many may later, by which command those elsewhere are run, what each is given, and where the pipes are.
         self.hosts, self.later, self.remote, self.of_hosts, self.folder = None, None, {}, [], None
@@ -109,6 +115,7 @@ class Asked:
     def take(self, option, value):
         if option == "--escape":
             self.own += [option, escape_in(value)]
+            self.escape = int(self.own[-1])
         elif option == "--sense":
             self.setup += spelled([sense_line(value)])
         elif option == "--type":
@@ -207,15 +214,16 @@ class Asked:
         """The words that say which disks the program writes at its end, and what it writes before them."""
         return [*["--saved", drives_in(self.saves)] * bool(self.saves), "--mark", mark]
 
-    def end(self, status, screens):
-        """Ends the command if what its program wrote could not be passed on; else the disks are saved if it ended well. Gives its status."""
-        for screen in screens:
+    def end(self, status, run):
+        """Ends the command if what its program wrote could not be passed on; else the disks are saved if the program ended well. Gives the
+        status of the command."""
+        for screen in run.screens:
             if screen.error:
                 complain(f"the output is not written: {screen.error.strerror}", 5)
-        if self.saves and status not in (0, NO_HOSTS):
+        if self.saves and run.program.returncode not in (0, NO_HOSTS):
             complain(f"{', '.join(self.saves.values())}: not written, since `pair console` did not end well", status)
         if self.saves:
-            self.save(bytes(screens[0].kept or b""))
+            self.save(bytes(run.screens[0].kept or b""))
         return status
 
     def save(self, images):
@@ -229,8 +237,9 @@ class Asked:
 class Keys:
     """The keys of standard input, on their way to a program."""
 
-    def __init__(self, program, opening):
+    def __init__(self, program, opening, escape):
         self.program, self.opening, self.to = program, opening, program.stdin.fileno()
+        self.escape = bytes([escape])
         self.is_terminal = os.isatty(0)
 
     def pass_on(self):
@@ -250,12 +259,19 @@ class Keys:
         while some:
             some = some[os.write(self.to, some) :]
 
+    def quit(self):
+        """Types `quit`, after what closes a line of commands that may be open, and opens one."""
+        with contextlib.suppress(OSError):
+            self.write(self.escape + CLOSES + self.escape + b"quit\r")
+
     def end(self, has_hung_up):
-        """No more keys come, and what is written from now on goes nowhere. A program whose terminal has hung up may not go on for long."""
-        with open(os.devnull, "wb") as nowhere:
-            os.dup2(nowhere.fileno(), self.to)
+        """No more keys come, and what is written from now on goes nowhere. A program whose terminal has hung up is to quit, and may not go on
+        for long."""
         if has_hung_up:
             begin(threading.Timer(PATIENCE, self.program.kill))
+            self.quit()
+        with open(os.devnull, "wb") as nowhere:
+            os.dup2(nowhere.fileno(), self.to)
 
 
 class Run:
@@ -263,6 +279,7 @@ class Run:
 
     def __init__(self):
         self.program = self.hosts = self.keys = self.ended_by = None
+        self.is_killed = False
         self.lock = threading.Lock()
         # The last row of the terminal, if lines about the pair are shown there; and what they have told.
         self.row, self.story = None, Story()
@@ -278,13 +295,22 @@ class Run:
         signal.signal(signal.SIGTTOU, signal.SIG_IGN)
 
     def end(self, number, _frame=None):
+        """A signal has come: the program is to quit, but is killed if it does not, or at a second signal."""
+        if self.ended_by or not self.keys:
+            self.kill()
+        else:
+            begin(threading.Thread(target=self.keys.quit))
+            begin(threading.Timer(QUITS_IN, self.kill))
         self.ended_by = number
+
+    def kill(self):
+        self.is_killed = True
         if self.program:
             self.program.kill()
 
     def hang_up(self, number, _frame):
         if self.keys:
-            self.keys.end(True)
+            begin(threading.Thread(target=self.keys.end, args=[True]))
         else:
             self.end(number)
 
@@ -319,8 +345,8 @@ class Run:
         how = {"stdout": subprocess.PIPE, "stderr": subprocess.STDOUT if is_one_place() else subprocess.PIPE}
         self.program = subprocess.Popen([path, *asked.words(mark)], stdin=subprocess.PIPE, preexec_fn=self.prepare, **how)
         try:
-            self.keys = Keys(self.program, asked.opening())
-            if self.ended_by:
+            self.keys = Keys(self.program, asked.opening(), asked.escape)
+            if self.is_killed:
                 self.program.kill()
             yield self.program
         finally:
@@ -354,7 +380,7 @@ class Run:
         self.screens = [Screen(self.program, pipe, output, mark, self.heard) for pipe, output in ends if pipe]
         showing = [begin(threading.Thread(target=screen.pass_on)) for screen in self.screens]
         self.await_program()
-        await_all(showing, lambda: self.ended_by)
+        await_all(showing, lambda: self.is_killed)
 
     def await_program(self):
         """Waits until the program has ended. A signal that comes just before a wait is heard only after it, so no wait is long."""
@@ -494,7 +520,7 @@ def sit(path, asked, run):
     if status and os.isatty(0) and os.isatty(2):
         # What was said last may not end where a line begins.
         os.write(2, b"\r\n")
-    return asked.end(status, run.screens)
+    return asked.end(status, run)
 
 
 if __name__ == "__main__":
