@@ -43,7 +43,7 @@ import tty
 sys.path.insert(0, os.path.dirname(os.path.realpath(__file__)))
 import disks
 import last_row
-from files import drawn_as, hex_lines, image_in, path_in, place_in, read, save, saved_as
+from files import drawn_as, hex_lines, image_in, path_in, place_for, read, save_all, saved_as
 from hosts import ROLES, SIGNALS, Hosts
 from options import complain, count_in, drives_in, key_in, key_lines, memory_line, numbered, sense_line, spelled, taken
 from output import Output
@@ -122,7 +122,7 @@ class Asked:
             self.keys += key_lines(*numbered(option, value, 1))
         elif option == "--save-disk":
             drive, path = numbered(option, value, 3)
-            self.saves[drive] = place_in(path)
+            self.saves[drive] = place_for(self.saves, drive, path)
         elif option == "--attach":
             self.attach(*numbered(option, value, 3))
         elif option == "--sync":
@@ -227,11 +227,11 @@ class Asked:
         return status
 
     def save(self, images):
-        """Writes each disk that is to be saved."""
+        """Writes each disk that is to be saved, of those that came one after another."""
         is_whole = len(images) == len(self.saves) * disks.IMAGE_BYTES
-        for place, (drive, path) in enumerate(self.saves.items()):
-            image = images[place * disks.IMAGE_BYTES : (place + 1) * disks.IMAGE_BYTES]
-            save(path, image if is_whole else None, "the disks that came are not whole")
+        places = [slice(place * disks.IMAGE_BYTES, (place + 1) * disks.IMAGE_BYTES) for place in range(len(self.saves))]
+        by_drive = {drive: images[place] for drive, place in zip(self.saves, places)} if is_whole else {}
+        save_all(self.saves, by_drive, lambda _: "the disks that came are not whole")
 
 
 class Keys:

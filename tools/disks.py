@@ -1,7 +1,9 @@
 """Disks as files: an image of 77 tracks of 32 sectors of 137 bytes, as most archives and simh have them, and the lines of the shell for it."""
 
+import errno
 import os
 import re
+import stat
 import tempfile
 
 TRACKS, SECTORS, SECTOR_BYTES = 77, 32, 137
@@ -44,14 +46,31 @@ def image_in(answers, drive):
     return image if len(image) == IMAGE_BYTES else None
 
 
+def mode_at(path):
+    """The mode that a file will have which is written here: its own if it is there. Raises if what is there is no file to be replaced."""
+    try:
+        found = os.stat(path)
+    except FileNotFoundError:
+        return 0o666 & ~UMASK
+    if stat.S_ISDIR(found.st_mode):
+        raise IsADirectoryError(errno.EISDIR, os.strerror(errno.EISDIR))
+    if not stat.S_ISREG(found.st_mode):
+        raise OSError(errno.EINVAL, "It is no plain file")
+    if not os.access(path, os.W_OK):
+        raise PermissionError(errno.EACCES, os.strerror(errno.EACCES))
+    return stat.S_IMODE(found.st_mode)
+
+
 def write(path, image):
-    """Writes a file whole, or leaves it as it was."""
-    with tempfile.NamedTemporaryFile(dir=os.path.dirname(os.path.abspath(path)), delete=False) as file:
+    """Writes a file whole, or leaves it as it was. A symbolic link is followed, and a file that is replaced keeps its mode."""
+    path = os.path.realpath(path)
+    mode = mode_at(path)
+    with tempfile.NamedTemporaryFile(dir=os.path.dirname(path), delete=False) as file:
         try:
             file.write(image)
             file.flush()
             os.fsync(file.fileno())
-            os.chmod(file.name, 0o666 & ~UMASK)
+            os.chmod(file.name, mode)
             os.replace(file.name, path)
         except OSError:
             os.unlink(file.name)

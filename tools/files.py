@@ -2,6 +2,7 @@
 
 import os
 import re
+import sys
 
 import disks
 from options import complain
@@ -58,21 +59,54 @@ def image_in(path):
     return image
 
 
-def place_in(path):
-    """The path of a file, if it can be written there."""
-    if not os.access(os.path.dirname(os.path.abspath(path)), os.W_OK):
+def place_for(saves, drive, path):
+    """The path of a file to which the disk of a drive is saved, if it can be written there, and nothing else is saved to it."""
+    option = f"--save-disk {drive}={path}"
+    if not path:
+        complain(f"{option}: the name of a file is missing")
+    if drive in saves:
+        complain(f"{option}: drive {drive} is saved to {saves[drive]}, so give one of them")
+    if os.path.realpath(path) in map(os.path.realpath, saves.values()):
+        complain(f"{option}: another drive is saved to that file")
+    if not os.access(os.path.dirname(os.path.realpath(path)), os.W_OK):
         complain(f"{path}: there is no folder in which it can be written")
+    try:
+        disks.mode_at(path)
+    except OSError as error:
+        complain(f"{path} cannot be written: {error.strerror}")
     return path
 
 
-def save(path, image, reason):
-    """Writes a disk to a file, if its image has come; the reason is that for which it may not have."""
+def save_all(saves, images, reason):
+    """Writes the disk of each drive to its file, if its image has come, whatever becomes of the others. If one is not written, it is said
+    why, which of an image that has not come is what the reason says of a drive, and the command ends."""
+    failures = [unsaved(path, images.get(drive), reason(drive)) for drive, path in saves.items()]
+    for why in filter(None, failures):
+        print(f"pair: {why}", file=sys.stderr)
+    if any(failures):
+        sys.exit(5)
+
+
+def unsaved(path, image, reason):
+    """Writes a disk to a file; if that fails, into the folder in which the command runs. What is said if it is not in its file."""
     if image is None:
-        complain(f"{path} is not written: {reason}", 5)
+        return f"{path} is not written: {reason}"
     try:
         disks.write(path, image)
     except OSError as error:
-        complain(f"{path} is not written: {error.strerror}", 5)
+        return f"{path} is not written: {error.strerror}; {saved_beside(path, image)}"
+    return None
+
+
+def saved_beside(path, image):
+    """Writes a disk to the first of some names that is free in the folder in which the command runs; what is said of that."""
+    names = (f"./{os.path.basename(path)}.saved-{number}" for number in range(1, 1_000))
+    other = next(it for it in names if not os.path.lexists(it))
+    try:
+        disks.write(other, image)
+    except OSError as error:
+        return f"nor is {other}: {error.strerror}"
+    return f"the disk is in {other}"
 
 
 def saved_as(handed):

@@ -20,7 +20,7 @@ import threading
 
 sys.path.insert(0, os.path.dirname(os.path.realpath(__file__)))
 import disks
-from files import hex_lines, image_in, place_in, save
+from files import hex_lines, image_in, place_for, save_all
 from options import drives_in, key_lines, numbered, spelled, taken
 from sitting import Ended, Sitting
 
@@ -57,7 +57,7 @@ class Given:
             self.images[drive] = image_in(path)
         else:
             drive, path = numbered(option, value, 3)
-            self.saves[drive] = place_in(path)
+            self.saves[drive] = place_for(self.saves, drive, path)
 
     def input(self):
         """The standard input, as it comes. A script of files alone needs nobody who ends it; if a disk is to be saved, `quit` ends it."""
@@ -106,8 +106,7 @@ class Given:
 
     def save(self, images):
         """Writes each disk that is to be saved, if its image has come."""
-        for drive, path in self.saves.items():
-            save(path, images.get(drive), f"the session ended early, has no drive {drive}, or could not read its disk")
+        save_all(self.saves, images, lambda drive: f"the session ended early, has no drive {drive}, or could not read its disk")
 
 
 def session(program):
