@@ -45,6 +45,7 @@ import disks
 import last_row
 from files import drawn_as, hex_lines, image_in, path_in, place_for, read, save_all, saved_as
 from hosts import ROLES, SIGNALS, Hosts
+from keys import Keys, begin
 from options import complain, count_in, drives_in, key_in, key_lines, memory_line, numbered, sense_line, spelled, taken
 from output import Output
 from places import PlacedHosts, is_place
@@ -64,13 +65,10 @@ HOSTS, LATER, ASKED, MOST = 3, 8, 16, 99
 NO_HOSTS = 6
 # Asks Linux to kill a process when the one that started it ends.
 PR_SET_PDEATHSIG = 1
-# How many keys are read at once, and for how many seconds a program may go on after its terminal has hung up.
-MOST_KEYS = 4096
-PATIENCE = 30
 # For how many seconds a program may go on that a signal has asked to quit.
 QUITS_IN = 5
-# What the escape key sends unless another is chosen, and what closes a line of commands that may be open.
-ESCAPE, CLOSES = 0x05, b"\x1b"
+# What the escape key sends unless another is chosen.
+ESCAPE = 0x05
 # These end the command; a program does not hear those that a terminal sends, since this command does.
 ENDINGS = (signal.SIGINT, signal.SIGQUIT, signal.SIGTERM)
 # After how many seconds a signal is heard at the latest.
@@ -232,46 +230,6 @@ class Asked:
         places = [slice(place * disks.IMAGE_BYTES, (place + 1) * disks.IMAGE_BYTES) for place in range(len(self.saves))]
         by_drive = {drive: images[place] for drive, place in zip(self.saves, places)} if is_whole else {}
         save_all(self.saves, by_drive, lambda _: "the disks that came are not whole")
-
-
-class Keys:
-    """The keys of standard input, on their way to a program."""
-
-    def __init__(self, program, opening, escape):
-        self.program, self.opening, self.to = program, opening, program.stdin.fileno()
-        self.escape = bytes([escape])
-        self.is_terminal = os.isatty(0)
-
-    def pass_on(self):
-        """Passes on what comes before the keys, and then keys as they come, as long as there is a terminal and a program."""
-        with contextlib.suppress(OSError):
-            self.write(self.opening)
-            while some := self.next():
-                self.write(some)
-        self.end(self.is_terminal)
-
-    def next(self):
-        """The keys that come next. Whoever shares the input may have set it not to wait."""
-        select.select([0], [], [])
-        return os.read(0, MOST_KEYS)
-
-    def write(self, some):
-        while some:
-            some = some[os.write(self.to, some) :]
-
-    def quit(self):
-        """Types `quit`, after what closes a line of commands that may be open, and opens one."""
-        with contextlib.suppress(OSError):
-            self.write(self.escape + CLOSES + self.escape + b"quit\r")
-
-    def end(self, has_hung_up):
-        """No more keys come, and what is written from now on goes nowhere. A program whose terminal has hung up is to quit, and may not go on
-        for long."""
-        if has_hung_up:
-            begin(threading.Timer(PATIENCE, self.program.kill))
-            self.quit()
-        with open(os.devnull, "wb") as nowhere:
-            os.dup2(nowhere.fileno(), self.to)
 
 
 class Run:
@@ -444,13 +402,6 @@ def refuse(path, command, words):
 def new_mark():
     """A byte that guests seldom send, FS, and what nobody can guess."""
     return f"\x1c{secrets.token_hex(16)}"
-
-
-def begin(thread):
-    """Starts a thread that does not keep the command from ending."""
-    thread.daemon = True
-    thread.start()
-    return thread
 
 
 def await_all(threads, is_over):

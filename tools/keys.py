@@ -1,0 +1,59 @@
+"""The keys of standard input, on their way to the program of a console."""
+
+import contextlib
+import os
+import select
+import threading
+
+# How many keys are read at once, and for how many seconds a program may go on after its terminal has hung up.
+MOST_KEYS = 4096
+PATIENCE = 30
+# What closes a line of commands that may be open.
+CLOSES = b"\x1b"
+
+
+def begin(thread):
+    """Starts a thread that does not keep the command from ending."""
+    thread.daemon = True
+    thread.start()
+    return thread
+
+
+class Keys:
+    """The keys of standard input, on their way to a program."""
+
+    def __init__(self, program, opening, escape):
+        self.program, self.opening, self.to = program, opening, program.stdin.fileno()
+        self.escape = bytes([escape])
+        self.is_terminal = os.isatty(0)
+
+    def pass_on(self):
+        """Passes on what comes before the keys, and then keys as they come, as long as there is a terminal and a program."""
+        with contextlib.suppress(OSError):
+            self.write(self.opening)
+            while some := self.next():
+                self.write(some)
+        self.end(self.is_terminal)
+
+    def next(self):
+        """The keys that come next. Whoever shares the input may have set it not to wait."""
+        select.select([0], [], [])
+        return os.read(0, MOST_KEYS)
+
+    def write(self, some):
+        while some:
+            some = some[os.write(self.to, some) :]
+
+    def quit(self):
+        """Types `quit`, after what closes a line of commands that may be open, and opens one."""
+        with contextlib.suppress(OSError):
+            self.write(self.escape + CLOSES + self.escape + b"quit\r")
+
+    def end(self, has_hung_up):
+        """No more keys come, and what is written from now on goes nowhere. A program whose terminal has hung up is to quit, and may not go on
+        for long."""
+        if has_hung_up:
+            begin(threading.Timer(PATIENCE, self.program.kill))
+            self.quit()
+        with open(os.devnull, "wb") as nowhere:
+            os.dup2(nowhere.fileno(), self.to)
