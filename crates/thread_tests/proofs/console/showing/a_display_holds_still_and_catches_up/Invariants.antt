@@ -1,5 +1,0 @@
-use Rattle.console_terminal.specs.Screen.{IsClear}
-use Rattle.thread_tests.proofs.console.showing.a_display_holds_still_and_catches_up.Given as goal
-
-abbrev pub invariant-steps : goal.invariant-steps
-invariant-steps g l = IsClear l.display
