@@ -2,17 +2,16 @@
 ghost use Rattle.std.specs.Prelude.{◌≡◌, ◌∷◌, [], ◌++◌, ◌<◌, None, IfErr, IfOk, IsTrue, OnErr, OnOk, false};
 ghost use Rattle.command_console.specs.Mirrors.{Follows, IsMirrored, IsOfCopy, IsOfMoment, write_of};
 ghost use Rattle.rtrb.specs.Ring.{SameProducer, known_free, known_items, sent};
-ghost use Rattle.sector_file.specs.Drives.{IsOnDisk, all_records};
+ghost use Rattle.disk_file.specs.Drives.{IsOnDisk, all_records};
 ghost use Rattle.shared_disk.specs.Arrivals.{after_put};
 ghost use Rattle.shared_disk.specs.Failing.{before_failures};
 ghost use Rattle.shared_disk.specs.Records as table;
 
 use command_io::images_of;
 use disk_dcdd::{SectorAddress, SectorWrite};
-use disk_file::FileDevice;
+use disk_file::{DriveFiles, FileDevice};
 use i8080_words::{Fault, R};
 use rtrb::{Consumer, Producer};
-use sector_file::DriveFiles;
 use shared_disk::{MemoryStore, Record, SectorStore, SharedDisk};
 use std::alloc::Global;
 use std::sync::atomic::{AtomicBool, Ordering};

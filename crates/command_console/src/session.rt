@@ -5,7 +5,7 @@ ghost use Rattle.command_console.specs.Rings.{ComesOutOf};
 ghost use Rattle.command_console.specs.Sitting.{AreOpen, HasSat};
 ghost use Rattle.console_terminal.specs.Lines.{came_by};
 ghost use Rattle.pair_protocol.specs.Faithful.{IsPrefix};
-ghost use Rattle.sector_file.specs.Drives.{all_records};
+ghost use Rattle.disk_file.specs.Drives.{all_records};
 ghost use Rattle.rtrb.specs.Ring.{IsPair, SameConsumer, SameProducer, known_free, received, sent};
 
 use crate::console::Streams;

@@ -1,14 +1,13 @@
 //! The disk of a console at boot, and where its copy is.
 ghost use Rattle.std.specs.Prelude.{◌≡◌, IfOk};
-ghost use Rattle.sector_file.specs.Drives.{all_records};
+ghost use Rattle.disk_file.specs.Drives.{all_records};
 ghost use Rattle.shared_disk.specs.Records.{HasWholeSectors, IsAtBoot, IsUnwritten};
 
 use crate::mirror::{Mirror, Mirrored, Shelf};
 use command_io::Input;
-use disk_file::FileDevice;
+use disk_file::{DriveFiles, FileDevice};
 use i8080_words::{Fault, R};
 use rtrb::RingBuffer;
-use sector_file::DriveFiles;
 use shared_disk::{MemoryStore, SectorStore, SharedDisk};
 use std::alloc::Global;
 use std::sync::Arc;

@@ -1,10 +1,10 @@
 //! What a crash leaves: sessions on a device that crashes at each byte, and a journal by hand.
 ghost use Rattle.std.specs.Prelude.{◌≡◌, ◌<◌, ◌≤◌, length};
-ghost use Rattle.sector_file.specs.Device.{Only};
-ghost use Rattle.sector_file.specs.Kept.{IsKept};
+ghost use Rattle.disk_file.specs.Device.{Only};
+ghost use Rattle.disk_file.specs.Kept.{IsKept};
 
 use disk_dcdd::SECTOR_BYTES;
-use sector_file::{CrashingMemory, Device, Kept, Memory, close_kept, finish, open_kept};
+use disk_file::{CrashingMemory, Device, Kept, Memory, close_kept, finish, open_kept};
 use shared_disk::Record;
 use std::alloc::Global;
 use std::test::Fail;

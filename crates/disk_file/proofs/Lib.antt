@@ -1,2 +1,16 @@
 mod Blank
 mod Pasts
+mod Alike
+mod Blocks
+mod DriveWrites
+mod Drives
+mod Emptied
+mod Images
+mod SectorPasts
+mod Lists
+mod Moments
+mod Reading
+mod Redo
+mod Refusals
+mod Steps
+mod Tears

@@ -1,6 +1,6 @@
 -- One more content joins those that a file has had.
 use Rattle.std.proofs.Common.{◌≡◌, ◌⊎◌, inl, inr, ⊎_elim, ℕ, zero, suc, ◌≤◌, List, [], ◌∷◌, ◌++◌, length, drop, refl, sym, ◌∙◌, subst, arith, length-append}
-use Rattle.sector_file.specs.Device.{Elapses}
+use Rattle.disk_file.specs.Device.{Elapses}
 use Rattle.disk_file.specs.Past.{HadBeen}
 
 abbrev Contents : Type 0

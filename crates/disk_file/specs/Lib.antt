@@ -1,3 +1,9 @@
 pub mod FileBytes
 pub mod Names
 pub mod Past
+pub mod Device
+pub mod Drives
+pub mod Kept
+pub mod Memory
+pub mod SectorPast
+pub mod Sectors

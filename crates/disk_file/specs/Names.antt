@@ -4,7 +4,7 @@ use Rattle.std.specs.Option.{option_map_or}
 use Rattle.std.specs.declared.alloc.Global.{Global}
 use Rattle.disk_file.specs.FileBytes.{is_file}
 use Rattle.disk_file.specs.declared.file_device.FileDevice.{FileDevice}
-use Rattle.sector_file.specs.declared.kept.Kept.{Kept}
+use Rattle.disk_file.specs.declared.kept.Kept.{Kept}
 
 -- a drive has a name, and not an empty one
 abbrev pub is_named : List (String Global) → ℕ → Bool

@@ -6,8 +6,8 @@ use crate::closing::end_image;
 use crate::file_device::FileDevice;
 use crate::opening::{OpenImage, Opening, open_image, take_up};
 use crate::refusal::OpenError;
+use crate::{DriveFiles, FileStore};
 use disk_dcdd::{DRIVE_SECTORS, DRIVES, SECTORS, SectorAddress, SectorWrite};
-use sector_file::{DriveFiles, FileStore};
 use shared_disk::{MemoryStore, SectorStore};
 use std::alloc::Global;
 

@@ -1,6 +1,6 @@
 //! Bytes that a write changes in their place.
 ghost use Rattle.std.specs.Prelude.{◌≡◌, ◌≤◌, ◌+◌, length, max, take, OnErr, OnOk};
-ghost use Rattle.sector_file.specs.Device.{Holds};
+ghost use Rattle.disk_file.specs.Device.{Holds};
 
 use std::alloc::AllocError;
 

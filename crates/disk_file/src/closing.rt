@@ -1,12 +1,12 @@
 //! Ending an image: its journal is taken up, and it is padded as it was.
 ghost use Rattle.std.specs.Prelude.{◌≡◌, ◌++◌, IfOk};
 ghost use Rattle.disk_file.specs.FileBytes.{bytes_in};
-ghost use Rattle.sector_file.specs.Kept.{bytes_of};
+ghost use Rattle.disk_file.specs.Kept.{bytes_of};
 
 use crate::file_device::FileDevice;
 use crate::opening::{OpenImage, Opening, open_image};
 use crate::refusal::OpenError;
-use sector_file::write_through;
+use crate::write_through;
 use std::alloc::Global;
 
 /// Ends a session. The file is then an ordinary image of the disk, padded as it was.

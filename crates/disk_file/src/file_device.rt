@@ -6,7 +6,7 @@ ghost use Rattle.disk_file.specs.Past.{HadBeen, only_bytes};
 use crate::bytes::{lengthen, write_over};
 use crate::medium::Medium;
 use crate::past::Past;
-use sector_file::{Device, DeviceError};
+use crate::{Device, DeviceError};
 use std::alloc::Global;
 use std::fs::File;
 

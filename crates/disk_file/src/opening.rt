@@ -3,10 +3,10 @@ ghost use Rattle.std.specs.Prelude.{◌≡◌, ◌⊎◌, All, length, replicate
 ghost use Rattle.disk_file.specs.FileBytes.{begun, blank_image, is_padding};
 ghost use Rattle.shared_disk.specs.declared.store.Record.{Record};
 
+use crate::FileStore;
 use crate::file_device::FileDevice;
 use crate::refusal::OpenError;
 use disk_dcdd::{DRIVE_SECTORS, SECTOR_BYTES};
-use sector_file::FileStore;
 use std::alloc::{AllocError, Global};
 use std::fs::{File, OpenOptions, TryLockError};
 use std::os::unix::fs::FileExt;

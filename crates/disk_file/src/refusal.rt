@@ -1,7 +1,7 @@
 //! Why an image is not opened, or not ended.
 
+use crate::DeviceError;
 use i8080_words::Fault;
-use sector_file::DeviceError;
 use std::alloc::{AllocError, AllocFailed, Global};
 use std::io;
 use thiserror::Error;

@@ -1,7 +1,7 @@
 -- Places are added, one sits, and the disks are saved.
 use Rattle.std.proofs.Common.{refl, string_bytes}
 use Rattle.command_console.proofs.Running.{has_run, open_later, opens_later}
-use Rattle.sector_file.specs.Drives.{all_records}
+use Rattle.disk_file.specs.Drives.{all_records}
 use Rattle.command_console.proofs.console.run_input.Goals as goal
 
 pub sit-requires-after_bounds : goal.sit-requires-after_bounds

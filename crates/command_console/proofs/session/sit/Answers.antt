@@ -4,7 +4,7 @@ use Rattle.std.proofs.lemmas.Result.{IfOk-weaker}
 use Rattle.command_console.specs.declared.mirror.Mirrored.{Mirrored}
 use Rattle.command_console.proofs.Sitting.{both_keyboards, has_sat}
 use Rattle.command_console.specs.Sitting.{HasSat}
-use Rattle.sector_file.specs.Drives.{all_records}
+use Rattle.disk_file.specs.Drives.{all_records}
 use Rattle.command_console.proofs.session.sit.Goals as goal
 
 pub returns : goal.returns

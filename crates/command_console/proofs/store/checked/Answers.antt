@@ -2,7 +2,7 @@
 use Rattle.std.proofs.Common.{rules, ◌≡◌, true, List, refl, sym, subst}
 use Rattle.shared_disk.specs.Records.{IsAtBoot, IsUnwritten}
 use Rattle.shared_disk.specs.declared.store.Record.{Record}
-use Rattle.sector_file.specs.Drives.{all_records}
+use Rattle.disk_file.specs.Drives.{all_records}
 use Rattle.command_console.proofs.store.checked.Goals as goal
 
 pub returns-clause-at_boot : goal.returns-clause-at_boot

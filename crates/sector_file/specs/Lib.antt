@@ -1,6 +1,0 @@
-pub mod Device
-pub mod Drives
-pub mod Kept
-pub mod Memory
-pub mod Past
-pub mod Sectors
