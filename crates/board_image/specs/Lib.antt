@@ -1,3 +1,4 @@
 pub mod Drafts
 pub mod DraftLaws
 pub mod DraftedBoard
+pub mod Room

@@ -6,3 +6,15 @@ pub mod Sitting
 pub mod Leaving
 pub mod Running
 pub mod Answering
+pub mod Parts
+pub mod Fleets
+pub mod Speaking
+pub mod Standing
+pub mod Moving
+pub mod Numbering
+pub mod FleetBooting
+pub mod FleetRunning
+pub mod FleetEnding
+pub mod FleetStreams
+pub mod Starting
+pub mod Streams

@@ -4,10 +4,10 @@ use Rattle.std.proofs.KnownBytes.{Appends-trans}
 use Rattle.std.specs.Io.KnownBytes.{Appends}
 use Rattle.command_console.specs.Rings.{IsKeyboardOf, IsScreenOf}
 use Rattle.command_console.specs.declared.mirror.Mirrored.{Mirrored}
-use Rattle.command_host.specs.Places.{AddsPlaces}
-use Rattle.command_hosts.specs.declared.port.PortEnd.{PortEnd}
-use Rattle.command_hosts.specs.declared.session.HostsEnd.{HostsEnd}
-use Rattle.command_hosts.specs.declared.session.Session.{Session}
+use Rattle.command_console.specs.Places.{AddsPlaces}
+use Rattle.outside_switch.specs.declared.port.PortEnd.{PortEnd}
+use Rattle.outside_switch.specs.declared.session.HostsEnd.{HostsEnd}
+use Rattle.outside_switch.specs.declared.session.Session.{Session}
 use Rattle.command_io.specs.declared.input.Input.{Input}
 use Rattle.command_line.specs.declared.console_order.ConsoleOrder.{ConsoleOrder}
 use Rattle.command_io.specs.Saving.{images_of}

@@ -6,15 +6,15 @@ use Rattle.std.specs.List.{list_any}
 use Rattle.command_console.proofs.Ends.{came, comes_out, goes_into, none_shown}
 use Rattle.command_console.specs.Rings.{ComesOutOf, GoesInto, IsKeyboardOf, IsScreenOf}
 use Rattle.command_console.specs.Keys.{at_first, keys_typed}
-use Rattle.command_hosts.proofs.Passing.{shows_both}
-use Rattle.command_hosts.proofs.Typing.{types_both}
-use Rattle.command_hosts.specs.Ports.{Types}
-use Rattle.command_hosts.specs.Runs.{Ended, Shows}
-use Rattle.command_hosts.specs.declared.port.PortEnd.{PortEnd}
-use Rattle.command_hosts.specs.declared.session.HostsEnd.{HostsEnd}
-use Rattle.command_hosts.specs.declared.session.HostsEnd.TheVariants.{NoHosts, Settled, Silent, Stopped, UserQuit}
-use Rattle.command_hosts.specs.declared.session.Session.{Session}
-use Rattle.command_hosts.specs.declared.session.SessionParts.{SessionParts}
+use Rattle.outside_switch.proofs.TurnsPassing.{shows_both}
+use Rattle.outside_switch.proofs.Typing.{types_both}
+use Rattle.outside_switch.specs.Ports.{Types}
+use Rattle.outside_switch.specs.LoopRuns.{Ended, Shows}
+use Rattle.outside_switch.specs.declared.port.PortEnd.{PortEnd}
+use Rattle.outside_switch.specs.declared.session.HostsEnd.{HostsEnd}
+use Rattle.outside_switch.specs.declared.session.HostsEnd.TheVariants.{NoHosts, Settled, Silent, Stopped, UserQuit}
+use Rattle.outside_switch.specs.declared.session.Session.{Session}
+use Rattle.outside_switch.specs.declared.session.SessionParts.{SessionParts}
 use Rattle.command_io.specs.Typed.{typed_in}
 use Rattle.command_console.proofs.Typing.{keys_in_presses, same_ring}
 use Rattle.command_console.specs.Hearing.{LinesType, presses}

@@ -2,11 +2,11 @@
 use Rattle.std.specs.Prelude.{◌≡◌, ◌<◌, ℕ, List, [], ◌++◌, Option, Some, None, length, string_bytes}
 use Rattle.std.specs.Io.KnownBytes.{Appends, Consumes}
 use Rattle.command_console.specs.declared.mirror.Mirrored.{Mirrored}
-use Rattle.command_host.specs.Places.{HasFirstNumbers}
-use Rattle.command_hosts.specs.Floods.{unheard}
-use Rattle.command_hosts.specs.Runs.{Ended}
-use Rattle.command_hosts.specs.declared.session.HostsEnd.{HostsEnd}
-use Rattle.command_hosts.specs.declared.session.Session.{Session}
+use Rattle.command_console.specs.Places.{HasFirstNumbers}
+use Rattle.outside_switch.specs.Floods.{unheard}
+use Rattle.outside_switch.specs.LoopRuns.{Ended}
+use Rattle.outside_switch.specs.declared.session.HostsEnd.{HostsEnd}
+use Rattle.outside_switch.specs.declared.session.Session.{Session}
 use Rattle.command_io.specs.Inputs.{IsInput}
 use Rattle.command_io.specs.declared.input.Input.{Input}
 use Rattle.command_line.specs.declared.console_order.ConsoleOrder.{ConsoleOrder}

@@ -2,9 +2,9 @@
 use Rattle.std.specs.Prelude.{◌≡◌, ℕ, List, [], Option, Some, None}
 use Rattle.command_console.specs.Rings.{ComesOutOf, GoesInto}
 use Rattle.command_console.specs.declared.mirror.Mirrored.{Mirrored}
-use Rattle.command_hosts.specs.declared.session.HostsEnd.{HostsEnd}
-use Rattle.command_hosts.specs.declared.session.HostsEnd.TheVariants.{NoHosts, Settled, Silent, Stopped, UserQuit}
-use Rattle.command_hosts.specs.declared.session.SessionParts.{SessionParts}
+use Rattle.outside_switch.specs.declared.session.HostsEnd.{HostsEnd}
+use Rattle.outside_switch.specs.declared.session.HostsEnd.TheVariants.{NoHosts, Settled, Silent, Stopped, UserQuit}
+use Rattle.outside_switch.specs.declared.session.SessionParts.{SessionParts}
 use Rattle.command_console.specs.Hearing.{HasHeard}
 use Rattle.command_console.specs.declared.console.Streams.{Streams}
 use Rattle.command_console.specs.declared.hearing.Hearing.{Hearing}

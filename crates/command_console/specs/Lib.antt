@@ -13,3 +13,11 @@ pub mod Showing
 pub mod Leaving
 pub mod Sitting
 pub mod Console
+pub mod Processes
+pub mod Runs
+pub mod Laws
+pub mod Altairs
+pub mod Streams
+pub mod Serving
+pub mod Places
+pub mod Endings

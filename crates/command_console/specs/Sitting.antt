@@ -4,10 +4,10 @@ use Rattle.std.specs.Io.KnownBytes.{Appends, Consumes}
 use Rattle.std.specs.List.{list_any}
 use Rattle.command_console.specs.Rings.{IsKeyboardOf, IsScreenOf}
 use Rattle.command_console.specs.Keys.{at_first, keys_typed}
-use Rattle.command_hosts.specs.Runs.{Ended}
-use Rattle.command_hosts.specs.declared.session.HostsEnd.{HostsEnd}
-use Rattle.command_hosts.specs.declared.session.HostsEnd.TheVariants.{NoHosts, Settled, Silent, Stopped, UserQuit}
-use Rattle.command_hosts.specs.declared.session.Session.{Session}
+use Rattle.outside_switch.specs.LoopRuns.{Ended}
+use Rattle.outside_switch.specs.declared.session.HostsEnd.{HostsEnd}
+use Rattle.outside_switch.specs.declared.session.HostsEnd.TheVariants.{NoHosts, Settled, Silent, Stopped, UserQuit}
+use Rattle.outside_switch.specs.declared.session.Session.{Session}
 use Rattle.command_io.specs.Typed.{typed_in}
 use Rattle.command_console.specs.declared.console.Streams.{Streams}
 use Rattle.command_console.specs.declared.session.Ends.{Ends}

@@ -1,7 +1,7 @@
 -- Which hosts have the machine, by what becomes of them, and the lines that tell of it.
 use Rattle.std.specs.Prelude.{ℕ, ◌==◌, Bool, true, false, not, if◌then◌else◌, Option, Some, None}
-use Rattle.command_hosts.specs.declared.steward.HostEvent.{HostEvent}
-use Rattle.command_hosts.specs.declared.steward.HostEvent.TheVariants.{Alone, Became, Failed, Flooded, Gone, Joins, Unwritten, Won}
+use Rattle.outside_switch.specs.declared.steward.HostEvent.{HostEvent}
+use Rattle.outside_switch.specs.declared.steward.HostEvent.TheVariants.{Alone, Became, Failed, Flooded, Gone, Joins, Unwritten, Won}
 use Rattle.command_console.specs.declared.line.Line.{Line}
 use Rattle.command_console.specs.declared.story.Story.{Story}
 use Rattle.pair_events.specs.declared.reply.Role.TheVariants.{Backup, Primary}

@@ -6,7 +6,10 @@ ghost use Rattle.disk_file.specs.Names.{AreInFiles};
 use command_io::{Failure, Input};
 use command_line::ConsoleOrder;
 use disk_dcdd::SectorWrite;
-use disk_file::{Attached, DriveFiles, FileDevice, OpenError, are_named, end_image, is_named, open_drives, refusal_text};
+use disk_file::{
+    Attached, DriveFiles, FileDevice, OpenError, are_named, end_image, is_named, open_drives,
+    refusal_text,
+};
 use shared_disk::MemoryStore;
 use std::alloc::{AllocError, Global};
 use std::io::Write;

@@ -3,7 +3,7 @@ ghost use Rattle.std.specs.Prelude.{◌≡◌};
 ghost use Rattle.command_console.specs.Stories.{asks, begins, began, first_line, line_of, story_after};
 
 use crate::line::Line;
-use command_hosts::HostEvent;
+use outside_switch::HostEvent;
 use pair_events::Role;
 
 /// The hosts of a pair, by their places.

@@ -4,3 +4,8 @@ pub mod BodyLaws
 pub mod HeadLaws
 pub mod StreamLaws
 pub mod PopLaws
+pub mod Blocks
+pub mod StreamReading
+pub mod Writing
+pub mod Rings
+pub mod Threads

@@ -4,3 +4,12 @@ pub mod Stream
 pub mod Buffer
 pub mod Laws
 pub mod Meaning
+pub mod Blocks
+pub mod Slots
+pub mod Crossing
+pub mod StreamLaws
+pub mod StreamReading
+pub mod Writing
+pub mod Rings
+pub mod Threads
+pub mod Resting

@@ -2,7 +2,7 @@
 use Rattle.std.proofs.Common.{ℕ, ◌≡◌, List, [], ◌∷◌, ◌++◌, refl, sym, ap, ◌∙◌, subst}
 use Rattle.std.specs.Global.{Vec}
 use Rattle.std.specs.List.{All}
-use Rattle.frame_streams.specs.Reading.{contents_of}
+use Rattle.host_frames.specs.StreamReading.{contents_of}
 use Rattle.std.specs.Prelude.{slice_index_or}
 use Rattle.host_frames.specs.Frames.{Said, Transfers}
 use Rattle.host_frames.specs.declared.frame.Transfer.TheVariants.{Key}

@@ -1,8 +1,8 @@
 -- A host's mail stays at its rings: in one call, and from one state of the host to a later one.
 use Rattle.std.proofs.Common.{ℕ, ◌≡◌, refl, ◌∙◌}
 use Rattle.std.specs.Global.{Global, Vec}
-use Rattle.frame_streams.proofs.Rings.{put_into_same, taken_from_same}
-use Rattle.frame_streams.specs.Rings.{put_into, taken_from}
+use Rattle.host_frames.proofs.Rings.{put_into_same, taken_from_same}
+use Rattle.host_frames.specs.Rings.{put_into, taken_from}
 use Rattle.guest_lockstep.specs.Machine.{Machine}
 use Rattle.guest_parts.specs.Guest.{Guest}
 use Rattle.host_node.specs.Goes as goes

@@ -1,6 +1,6 @@
 -- What came to a host and what went from it, in bytes, and what is kept of it.
 use Rattle.std.specs.Prelude.{◌≡◌, ℕ, ◌==◌, if◌then◌else◌, List, [], ◌∷◌, ◌++◌}
-use Rattle.frame_streams.specs.Rings.{Ring}
+use Rattle.host_frames.specs.Rings.{Ring}
 use Rattle.host_frames.specs.Frames.{IsBodyOf, IsSpelling, Said, Transfers}
 use Rattle.host_frames.specs.declared.frame.Transfer.TheVariants.{Key}
 use Rattle.host_node.specs.declared.mail.KeptKey.{KeptKey}

@@ -1,8 +1,8 @@
 -- What the fields of a host's mail mean, and what holds of them.
 use Rattle.std.specs.Prelude.{ℕ, All}
 use Rattle.std.specs.Global.{Global, Vec}
-use Rattle.frame_streams.specs.Reading.{contents_of}
-use Rattle.frame_streams.specs.Rings.{put_into, taken_from}
+use Rattle.host_frames.specs.StreamReading.{contents_of}
+use Rattle.host_frames.specs.Rings.{put_into, taken_from}
 use Rattle.host_node.specs.Mail.{CameAsKey, Post, Rings}
 use Rattle.host_node.specs.declared.mail.Mail.TheInside.{Inside}
 use Rattle.rtrb.specs.Ring.{known_free, known_items, received, sent}

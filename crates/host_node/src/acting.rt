@@ -11,7 +11,7 @@ use disk_dcdd::{OUTSTANDING, SECTORS};
 use event_callbacks::OpId;
 use guest_lockstep::{ReplayEnd, StopReason};
 use i8080_words::{Fault, R};
-use key_room::{KeyRoom, OutstandingWrites, Snapshots};
+use board_image::{KeyRoom, OutstandingWrites, Snapshots};
 use pair_events::Role;
 
 // How many steps a guest makes before it is offered its next key, unless it idles.

@@ -6,7 +6,7 @@ use crate::pace::AGAIN;
 use crate::serving::Serving;
 use clone_state::Copies;
 use i8080_words::R;
-use key_room::{KeyRoom, OutstandingWrites, Snapshots};
+use board_image::{KeyRoom, OutstandingWrites, Snapshots};
 
 // How many parts are sent early in one turn at most.
 const FEW_PARTS: u64 = 32;

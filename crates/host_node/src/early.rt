@@ -9,7 +9,7 @@ use crate::host::{HostNode, Hosted};
 use clone_state::{Copies, Image};
 use host_frames::Frame;
 use i8080_words::{Fault, R};
-use key_room::Snapshots;
+use board_image::Snapshots;
 use std::alloc::Global;
 
 /// The first byte of a packet with a part that goes early. The bytes of the part's message follow.

@@ -8,7 +8,7 @@ use crate::serving::Serving;
 use clone_state::Copies;
 use guest_lockstep::StopReason;
 use i8080_words::{Fault, R};
-use key_room::{KeyRoom, OutstandingWrites, Snapshots};
+use board_image::{KeyRoom, OutstandingWrites, Snapshots};
 
 impl<B: Copies<H> + KeyRoom + OutstandingWrites + Snapshots + Drop, H: Drop> Serving<B, H> {
     // Whether a primary's guest waits for the backup.

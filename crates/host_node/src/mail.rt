@@ -1,6 +1,6 @@
 //! What comes to a host and what goes from it: frames on two rings, and the keys that wait until its guest looks for them.
 ghost use Rattle.std.specs.Prelude.{◌≡◌, ◌<◌, ◌++◌, ◌∷◌, [], IfErr, IfOk, IfSome, IsOkUnless, IsTrue, None, OnErr, OnOk, length, true};
-ghost use Rattle.frame_streams.specs.Reading.{contents_of};
+ghost use Rattle.host_frames.specs.StreamReading.{contents_of};
 ghost use Rattle.host_frames.specs.Frames.{IsSpelling, Tells, Transfers, said_by};
 ghost use Rattle.host_frames.specs.declared.frame.Transfer.TheVariants.{Key};
 ghost use Rattle.host_node.specs.Mail as table;

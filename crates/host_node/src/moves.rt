@@ -9,7 +9,7 @@ use disk_dcdd::Place;
 use ft_node::{Drained, Lead, Ran};
 use guest_lockstep::Stopped;
 use i8080_words::{Fault, R};
-use key_room::{KeyRoom, OutstandingWrites};
+use board_image::{KeyRoom, OutstandingWrites};
 use replayer::Replayed;
 
 impl<B: Copies<H> + Drop, H: Drop> HostNode<B, H> {

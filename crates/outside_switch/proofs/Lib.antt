@@ -12,3 +12,8 @@ pub mod Asking
 pub mod Records
 pub mod Calls
 pub mod DeviceSteps
+pub mod Typing
+pub mod TurnsPassing
+pub mod Cutting
+pub mod TurnsGoing
+pub mod Deserted

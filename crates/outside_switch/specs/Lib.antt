@@ -14,3 +14,7 @@ pub mod DeviceCalls
 pub mod Shown
 pub mod Steps
 pub mod Ran
+pub mod Floods
+pub mod Judging
+pub mod Ports
+pub mod LoopRuns

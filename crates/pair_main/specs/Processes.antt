@@ -5,8 +5,8 @@ use Rattle.command_console.specs.Console.{HasServed}
 use Rattle.command_console.specs.declared.console.Streams.{Streams}
 use Rattle.command_io.specs.Statuses.{EndsIn}
 use Rattle.command_io.specs.declared.failure.Failure.{Failure}
-use Rattle.command_host.specs.Endings.{console_status}
-use Rattle.command_hosts.specs.declared.session.HostsEnd.{HostsEnd}
+use Rattle.command_console.specs.Endings.{console_status}
+use Rattle.outside_switch.specs.declared.session.HostsEnd.{HostsEnd}
 use Rattle.command_line.specs.Orders.{IsAsked}
 use Rattle.command_line.specs.declared.console_order.ConsoleOrder.{ConsoleOrder}
 use Rattle.command_line.specs.declared.options.Request.{Request}

@@ -2,8 +2,7 @@
 ghost use Rattle.std.specs.Prelude.{IfSome, map, string_bytes};
 ghost use Rattle.pair_main.specs.Processes.{IsProcess, IsRunAs, Sits};
 
-use command_console::{Streams, run_console};
-use command_host::{ending_of_console, ending_of_host, run_host};
+use command_console::{Streams, ending_of_console, ending_of_host, run_console, run_host};
 use command_io::Failure;
 use command_line::{ConsoleOrder, HostOrder, Request, request_of};
 use disk_file::{recover_image, refusal_text};

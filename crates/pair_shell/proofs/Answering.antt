@@ -17,17 +17,17 @@ use Rattle.pair_shell.specs.Playing.{Plays}
 use Rattle.pair_shell.specs.Sessions.{AltairsPlay, BootsBy, HeedsSaid, IsAsBefore, MayRefuse, is_quit, is_run, trace_after}
 use Rattle.pair_shell.specs.declared.notes.Notes.{Notes}
 use Rattle.shared_disk.specs.Failing.{Disk, records_in}
-use Rattle.shell_book.specs.Outcomes.{is_ended}
-use Rattle.shell_book.specs.Tapes.{Begins, trace_text}
-use Rattle.shell_book.specs.declared.outcome.Outcome.{Outcome}
-use Rattle.shell_book.specs.declared.outcome.Outcome.TheVariants as outcome
-use Rattle.shell_book.specs.declared.printing.Printed.{Printed}
-use Rattle.shell_book.specs.declared.tape.Played.{Played}
+use Rattle.shell_language.specs.Outcomes.{is_ended}
+use Rattle.shell_language.specs.Tapes.{Begins, trace_text}
+use Rattle.shell_language.specs.declared.outcome.Outcome.{Outcome}
+use Rattle.shell_language.specs.declared.outcome.Outcome.TheVariants as outcome
+use Rattle.shell_language.specs.declared.printing.Printed.{Printed}
+use Rattle.shell_language.specs.declared.tape.Played.{Played}
 use Rattle.shell_language.specs.Saying.{said}
 use Rattle.shell_language.specs.declared.line.ShellLine.{ShellLine}
 use Rattle.shell_language.specs.declared.line.ShellLine.TheVariants as shell
-use Rattle.shell_book.specs.Openings.{SetsUpSaid}
-use Rattle.shell_book.specs.declared.opening.Opening.{Opening}
+use Rattle.shell_language.specs.Openings.{SetsUpSaid}
+use Rattle.shell_language.specs.declared.opening.Opening.{Opening}
 use Rattle.command_io.proofs.Handing.{keeps-appends}
 use Rattle.pair_shell.specs.Answering.{AreAnswers, Boots, Further, GoesOn, HasSeen, IsAnswer, Next, NoLine, Once, PairPasses, Passes, SeesIn, SeesSaid, Sitting, begun}
 use Rattle.pair_shell.specs.Lines.{is_run_line, without_cr}

@@ -17,11 +17,11 @@ use Rattle.pair_events.specs.declared.reply.Role.TheVariants.{Primary, Backup, J
 use Rattle.pair_protocol.specs.Settled.{Settled}
 use Rattle.pair_protocol.specs.World as protocol
 use Rattle.pair_shell.specs.Books.{HasBook, IsBookOf, IsNoted, brings_in, brings_of, brought_by, released_brings, sent_in}
-use Rattle.shell_book.specs.Notes.{all_settled, progress, restarted}
-use Rattle.shell_book.specs.Noting.{letters_after, noted, posted}
-use Rattle.shell_book.specs.declared.book.Book.{Book}
-use Rattle.shell_book.specs.declared.book.Brings.{Brings}
-use Rattle.shell_book.specs.declared.book.Brings.TheVariants as brings
+use Rattle.shell_language.specs.Notes.{all_settled, progress, restarted}
+use Rattle.shell_language.specs.Noting.{letters_after, noted, posted}
+use Rattle.shell_language.specs.declared.book.Book.{Book}
+use Rattle.shell_language.specs.declared.book.Brings.{Brings}
+use Rattle.shell_language.specs.declared.book.Brings.TheVariants as brings
 
 same_brings : (found : Message) (sent : protocol.Message) → IsMessage found sent → brings_in found ≡ brings_of sent
 same_brings (message.Log bytes) (protocol.LogEntry generation index entry) is = refl

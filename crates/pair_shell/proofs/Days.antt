@@ -2,13 +2,13 @@
 use Rattle.std.proofs.Common.{◌≡◌, ℕ, ◌++◌, Option, Some, None, codes, subst}
 use Rattle.std.specs.Prelude.{unwrap_or}
 use Rattle.std.specs.Fmt.{decimal}
-use Rattle.shell_book.specs.Texts.{AddsLine, Prints}
-use Rattle.shell_book.specs.declared.printing.Printed.{Printed}
-use Rattle.shell_book.proofs.Adding.{prints_none, prints_text}
-use Rattle.shell_day.specs.Endings.{ending_text}
-use Rattle.shell_day.specs.declared.day.Day.{Day}
-use Rattle.shell_day.specs.declared.ending.Ending.{Ending}
-use Rattle.shell_day.specs.declared.ending.Ending.TheVariants.{Turns}
+use Rattle.shell_language.specs.Texts.{AddsLine, Prints}
+use Rattle.shell_language.specs.declared.printing.Printed.{Printed}
+use Rattle.shell_language.proofs.Adding.{prints_none, prints_text}
+use Rattle.shell_picture.specs.Endings.{ending_text}
+use Rattle.shell_picture.specs.declared.day.Day.{Day}
+use Rattle.shell_picture.specs.declared.ending.Ending.{Ending}
+use Rattle.shell_picture.specs.declared.ending.Ending.TheVariants.{Turns}
 use Rattle.pair_shell.specs.Days.{ran_rows, ran_text}
 
 pub tells_ran : (days : Option Day) (day : Day) (count made : ℕ) (ending : Ending) (old new : Printed) → Some day ≡ days

@@ -20,8 +20,8 @@ use Rattle.shared_disk.specs.Failing.{Disk, records_in}
 use Rattle.shared_disk.specs.Records.{IsThere}
 use Rattle.shared_disk.specs.declared.disk.SectorRead.{SectorRead}
 use Rattle.shared_disk.specs.declared.store.Record.{Record}
-use Rattle.shell_book.specs.Texts.{AddsLine, Prints}
-use Rattle.shell_book.specs.declared.printing.Printed.{Printed}
+use Rattle.shell_language.specs.Texts.{AddsLine, Prints}
+use Rattle.shell_language.specs.declared.printing.Printed.{Printed}
 use Rattle.shell_picture.specs.Sectors.{sector_rows}
 
 -- images with as many parts are of machines with as many drives

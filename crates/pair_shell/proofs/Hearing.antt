@@ -7,8 +7,8 @@ use Rattle.std.proofs.KnownBytes.{Appends-trans, Consumes-trans, Keeps-refl, Con
 use Rattle.guest_parts.specs.Guest.{Guest}
 use Rattle.shared_disk.specs.Failing.{Disk}
 use Rattle.ft_world.specs.Running.{Running}
-use Rattle.shell_book.specs.Openings.{IsDefault}
-use Rattle.shell_book.specs.declared.opening.Opening.{Opening}
+use Rattle.shell_language.specs.Openings.{IsDefault}
+use Rattle.shell_language.specs.declared.opening.Opening.{Opening}
 use Rattle.pair_shell.specs.Lines.{ends_in, heard, heard_at, heard_in, kept_in, last_line}
 use Rattle.pair_shell.specs.Running.{AnswersAll, AnswersEach, Desk, HearsAllFrom, HearsFrom, PairShows, desk, sitting}
 use Rattle.pair_shell.specs.Hearing.{Answers, AnswersTo, Hears, HearsAll, Writes}

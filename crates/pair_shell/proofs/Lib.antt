@@ -12,3 +12,15 @@ pub mod Same
 pub mod Tracing
 pub mod Finding
 pub mod RestLines
+pub mod Completions
+pub mod Servers
+pub mod Others
+pub mod Allowed
+pub mod PairEvents
+pub mod Each
+pub mod Arrivals
+pub mod Endings
+pub mod Listing
+pub mod Sums
+pub mod Bounds
+pub mod Delivered

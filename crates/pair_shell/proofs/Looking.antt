@@ -21,9 +21,9 @@ use Rattle.ft_world.specs.Shows.{IsStatusAt}
 use Rattle.ft_world.specs.Standing.{Course}
 use Rattle.ft_world.specs.declared.hosts.NodeStatus.{NodeStatus}
 use Rattle.shared_disk.specs.Failing.{Disk, records_in}
-use Rattle.shell_book.specs.Texts.{Prints, Row}
-use Rattle.shell_book.specs.declared.printing.Printed.{Printed}
-use Rattle.shell_book.specs.declared.tape.Played.{Played}
+use Rattle.shell_language.specs.Texts.{Prints, Row}
+use Rattle.shell_language.specs.declared.printing.Printed.{Printed}
+use Rattle.shell_language.specs.declared.tape.Played.{Played}
 use Rattle.shell_language.specs.declared.line.ShellLine.{ShellLine}
 use Rattle.shell_language.specs.declared.line.ShellLine.TheVariants as shell
 use Rattle.shell_language.specs.declared.look.Look.{Look}

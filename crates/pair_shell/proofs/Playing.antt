@@ -18,10 +18,10 @@ use Rattle.altair_pair.specs.Disks.{over_records}
 use Rattle.altair_pair.proofs.Disks.{records_show, shows_records}
 use Rattle.pair_shell.specs.Playing.{Lengthens, Plays, answers_of, events_of, pauses}
 use Rattle.pair_shell.specs.Sessions.{LinePlays}
-use Rattle.shell_book.specs.Tapes.{played}
-use Rattle.shell_book.specs.declared.tape.Played.{Played}
-use Rattle.shell_day.specs.Rounds.{may_pause}
-use Rattle.shell_day.specs.declared.day.Day.{Day}
+use Rattle.shell_language.specs.Tapes.{played}
+use Rattle.shell_language.specs.declared.tape.Played.{Played}
+use Rattle.shell_picture.specs.Rounds.{may_pause}
+use Rattle.shell_picture.specs.declared.day.Day.{Day}
 
 -- an empty tape: the world over the records is as it was
 pub plays_nothing : {B H S : Type 0} (state : B → S) (copied : B → Guest) (M : Machine S) (old new : Running B H Disk)

@@ -7,8 +7,8 @@ use Rattle.i8080_words.specs.declared.refusal.Fault.TheVariants.{OutOfMemory, Un
 use Rattle.shared_disk.specs.Records.{AreOnDrives}
 use Rattle.pair_shell.specs.Sessions.{CannotBoot, ComesLate, IsWrong, MayRefuse, NoneBoots, SaysNothing, is_setup}
 use Rattle.shell_language.specs.declared.line.ShellLine.{ShellLine}
-use Rattle.shell_book.specs.Openings.{CannotSet}
-use Rattle.shell_book.specs.declared.opening.Opening.{Opening}
+use Rattle.shell_language.specs.Openings.{CannotSet}
+use Rattle.shell_language.specs.declared.opening.Opening.{Opening}
 
 -- one at which no pair boots
 pub none_boots : {X : Type 0} (opening : Opening) (world : Option X) (line : ShellLine) → world ≡ None → CannotBoot opening

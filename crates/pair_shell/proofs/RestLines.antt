@@ -4,9 +4,9 @@ use Rattle.std.specs.Prelude.{Result, Ok, Err, IfOk}
 use Rattle.std.specs.Fmt.{decimal}
 use Rattle.i8080_words.specs.Refusals.{number_of}
 use Rattle.i8080_words.specs.declared.refusal.Fault.{Fault}
-use Rattle.shell_book.proofs.Adding.{prints_one, prints_text}
-use Rattle.shell_book.specs.Texts.{AddsLine, AddsRow, Prints, Row, Text, Words}
-use Rattle.shell_book.specs.declared.printing.Printed.{Printed}
+use Rattle.shell_language.proofs.Adding.{prints_one, prints_text}
+use Rattle.shell_language.specs.Texts.{AddsLine, AddsRow, Prints, Row, Text, Words}
+use Rattle.shell_language.specs.declared.printing.Printed.{Printed}
 use Rattle.guest_lockstep.specs.Machine.{Machine}
 use Rattle.pair_protocol.specs.World.{World}
 use Rattle.pair_shell.specs.Resting.{HasLed, SaysWhere, events_text, rest_row}

@@ -6,16 +6,16 @@ use Rattle.pair_events.specs.Printed.{answer_line}
 use Rattle.pair_events.specs.declared.event.Event.{Event}
 use Rattle.pair_events.specs.declared.reply.Reply.{Reply}
 use Rattle.shell_language.specs.declared.line.ShellLine.{ShellLine}
-use Rattle.shell_book.specs.Openings.{SetsUp, SetsUpSaid}
+use Rattle.shell_language.specs.Openings.{SetsUp, SetsUpSaid}
 use Rattle.pair_shell.specs.Sessions.{HeedsSaid, IsHeeded, is_quit, is_setup, trace_after}
-use Rattle.shell_book.specs.Outcomes.{is_ended}
-use Rattle.shell_book.specs.declared.outcome.Outcome.{Outcome}
-use Rattle.shell_book.specs.declared.outcome.Outcome.TheVariants as outcome
-use Rattle.shell_book.specs.Tapes.{Begins, IsAnswered, Traces, event_lines, played, told_text, trace_text}
-use Rattle.shell_book.specs.Texts.{AddsLine, AddsSome, mark}
-use Rattle.shell_book.specs.declared.opening.Opening.{Opening}
-use Rattle.shell_book.specs.declared.printing.Printed.{Printed}
-use Rattle.shell_book.specs.declared.tape.Played.{Played}
+use Rattle.shell_language.specs.Outcomes.{is_ended}
+use Rattle.shell_language.specs.declared.outcome.Outcome.{Outcome}
+use Rattle.shell_language.specs.declared.outcome.Outcome.TheVariants as outcome
+use Rattle.shell_language.specs.Tapes.{Begins, IsAnswered, Traces, event_lines, played, told_text, trace_text}
+use Rattle.shell_language.specs.Texts.{AddsLine, AddsSome, mark}
+use Rattle.shell_language.specs.declared.opening.Opening.{Opening}
+use Rattle.shell_language.specs.declared.printing.Printed.{Printed}
+use Rattle.shell_language.specs.declared.tape.Played.{Played}
 
 -- nothing has happened: any text will do
 pub begins_nothing : (tape : List Played) (text : List ℕ) → tape ≡ [] → Begins (trace_text tape) text

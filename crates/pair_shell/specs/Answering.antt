@@ -17,17 +17,17 @@ use Rattle.pair_shell.specs.Playing.{answers_of, events_of}
 use Rattle.pair_shell.specs.Sessions.{HeedsSaid, MayRefuse, is_quit, is_run, trace_after}
 use Rattle.shared_disk.specs.Records.{HasDrives, IsAtBoot, IsUnwritten}
 use Rattle.shared_disk.specs.declared.store.Record.{Record}
-use Rattle.shell_book.specs.Outcomes.{is_ended}
-use Rattle.shell_book.specs.Tapes.{Begins, trace_text}
-use Rattle.shell_book.specs.declared.outcome.Outcome.{Outcome}
-use Rattle.shell_book.specs.declared.outcome.Outcome.TheVariants.{Done, Refused}
-use Rattle.shell_book.specs.declared.printing.Printed.{Printed}
-use Rattle.shell_book.specs.declared.tape.Played.{Played}
+use Rattle.shell_language.specs.Outcomes.{is_ended}
+use Rattle.shell_language.specs.Tapes.{Begins, trace_text}
+use Rattle.shell_language.specs.declared.outcome.Outcome.{Outcome}
+use Rattle.shell_language.specs.declared.outcome.Outcome.TheVariants.{Done, Refused}
+use Rattle.shell_language.specs.declared.printing.Printed.{Printed}
+use Rattle.shell_language.specs.declared.tape.Played.{Played}
 use Rattle.shell_language.specs.Saying.{said}
 use Rattle.shell_language.specs.declared.line.ShellLine.{ShellLine}
 use Rattle.shell_language.specs.declared.line.ShellLine.TheVariants as shell
-use Rattle.shell_book.specs.Openings.{IsDefault, IsSame, SetsUpSaid}
-use Rattle.shell_book.specs.declared.opening.Opening.{Opening}
+use Rattle.shell_language.specs.Openings.{IsDefault, IsSame, SetsUpSaid}
+use Rattle.shell_language.specs.declared.opening.Opening.{Opening}
 use Rattle.pair_shell.specs.Lines.{without_cr}
 
 -- a session between two lines: its setup, a world of the protocol if its pair has booted, and whether events are traced

@@ -3,9 +3,9 @@ use Rattle.std.specs.Prelude.{ℕ, ◌-◌, List, [], length, map}
 use Rattle.clone_state.specs.Parts.{part_count}
 use Rattle.pair_events.specs.declared.event.Event.{Event}
 use Rattle.pair_events.specs.declared.event.Event.TheVariants.{TypeByte}
-use Rattle.shell_book.specs.declared.book.Book.{Book}
-use Rattle.shell_day.specs.Series.{event_of, run_of}
-use Rattle.shell_day.specs.declared.series.Series.TheVariants as series
+use Rattle.shell_language.specs.declared.book.Book.{Book}
+use Rattle.shell_picture.specs.Series.{event_of, run_of}
+use Rattle.shell_picture.specs.declared.series.Series.TheVariants as series
 use Rattle.shell_language.specs.declared.line.ShellLine.{ShellLine}
 use Rattle.shell_language.specs.declared.line.ShellLine.TheVariants as shell
 

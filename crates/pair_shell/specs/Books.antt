@@ -17,11 +17,11 @@ use Rattle.pair_events.specs.declared.reply.Role.{Role}
 use Rattle.pair_events.specs.declared.reply.Role.TheVariants.{Alone}
 use Rattle.pair_protocol.specs.Settled.{Settled}
 use Rattle.pair_protocol.specs.World as protocol
-use Rattle.shell_book.specs.Notes.{all_settled, progress, restarted}
-use Rattle.shell_book.specs.Noting.{letters_after, noted, posted}
-use Rattle.shell_book.specs.declared.book.Book.{Book}
-use Rattle.shell_book.specs.declared.book.Brings.{Brings}
-use Rattle.shell_book.specs.declared.book.Brings.TheVariants as brings
+use Rattle.shell_language.specs.Notes.{all_settled, progress, restarted}
+use Rattle.shell_language.specs.Noting.{letters_after, noted, posted}
+use Rattle.shell_language.specs.declared.book.Book.{Book}
+use Rattle.shell_language.specs.declared.book.Brings.{Brings}
+use Rattle.shell_language.specs.declared.book.Brings.TheVariants as brings
 
 -- what a message of the protocol brings
 abbrev pub released_brings : Operation → Brings

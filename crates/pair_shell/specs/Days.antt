@@ -3,14 +3,14 @@ use Rattle.std.specs.Prelude.{ℕ, ◌||◌, Bool, true, false, List, [], ◌∷
 use Rattle.std.specs.Fmt.{decimal}
 use Rattle.i8080_words.specs.declared.refusal.Fault.{Fault}
 use Rattle.i8080_words.specs.declared.refusal.Fault.TheVariants.{LogFull, NotCovered}
-use Rattle.shell_book.specs.HeldUp.{holds_up, meeting_of}
-use Rattle.shell_book.specs.Notes.{waiting_in}
-use Rattle.shell_book.specs.declared.book.Book.{Book}
-use Rattle.shell_book.specs.declared.tape.Played.{Played}
-use Rattle.shell_book.specs.Texts.{Row, Text}
-use Rattle.shell_day.specs.Endings.{ending_text}
-use Rattle.shell_day.specs.declared.day.Day.{Day}
-use Rattle.shell_day.specs.declared.ending.Ending.TheVariants.{Turns}
+use Rattle.shell_language.specs.HeldUp.{holds_up, meeting_of}
+use Rattle.shell_language.specs.Notes.{waiting_in}
+use Rattle.shell_language.specs.declared.book.Book.{Book}
+use Rattle.shell_language.specs.declared.tape.Played.{Played}
+use Rattle.shell_language.specs.Texts.{Row, Text}
+use Rattle.shell_picture.specs.Endings.{ending_text}
+use Rattle.shell_picture.specs.declared.day.Day.{Day}
+use Rattle.shell_picture.specs.declared.ending.Ending.TheVariants.{Turns}
 
 -- `ran I count C W`: the steps that the day has made, those that the node has made, and why the day ended
 abbrev pub ran_text : Day → ℕ → List ℕ

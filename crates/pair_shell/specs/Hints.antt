@@ -1,7 +1,7 @@
 -- What a session says after an answer: that keys may get lost, or that no more events are kept for pictures.
 use Rattle.std.specs.Prelude.{ℕ, nat_le, nat_lt, Bool, true, false, not, ◌&&◌, List, [], ◌∷◌, ◌++◌, codes}
 use Rattle.std.specs.Fmt.{decimal}
-use Rattle.shell_book.specs.Texts.{Row, Text}
+use Rattle.shell_language.specs.Texts.{Row, Text}
 
 -- a guest that has not run yet has not set up its two ports
 abbrev pub is_early : ℕ → Bool → Bool

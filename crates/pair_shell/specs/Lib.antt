@@ -13,3 +13,12 @@ pub mod Resting
 pub mod Running
 pub mod Sessions
 pub mod Waits
+pub mod First
+pub mod Serves
+pub mod PlanHearing
+pub mod Allowed
+pub mod Arriving
+pub mod Ending
+pub mod Shown
+pub mod Outstanding
+pub mod Bound

@@ -20,9 +20,9 @@ use Rattle.altair_pair.specs.Queries.{Finds}
 use Rattle.script_language.specs.declared.line.Query.{Query}
 use Rattle.shared_disk.specs.declared.disk.SectorRead.{SectorRead}
 use Rattle.shared_disk.specs.Failing.{Disk, records_in}
-use Rattle.shell_book.specs.Texts.{AddsLine, Prints, Row}
-use Rattle.shell_book.specs.declared.printing.Printed.{Printed}
-use Rattle.shell_book.specs.declared.tape.Played.{Played}
+use Rattle.shell_language.specs.Texts.{AddsLine, Prints, Row}
+use Rattle.shell_language.specs.declared.printing.Printed.{Printed}
+use Rattle.shell_language.specs.declared.tape.Played.{Played}
 use Rattle.shell_language.specs.declared.line.ShellLine.{ShellLine}
 use Rattle.shell_language.specs.declared.line.ShellLine.TheVariants as shell
 use Rattle.shell_language.specs.declared.look.Look.{Look}

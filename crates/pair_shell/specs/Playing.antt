@@ -11,9 +11,9 @@ use Rattle.altair_pair.specs.Disks.{over_records}
 use Rattle.ft_world.specs.Applies.{Runs, Shows}
 use Rattle.ft_world.specs.Running.{Running}
 use Rattle.ft_world.specs.Standing.{Course}
-use Rattle.shell_book.specs.declared.tape.Played.{Played}
-use Rattle.shell_day.specs.Rounds.{may_pause}
-use Rattle.shell_day.specs.declared.day.Day.{Day}
+use Rattle.shell_language.specs.declared.tape.Played.{Played}
+use Rattle.shell_picture.specs.Rounds.{may_pause}
+use Rattle.shell_picture.specs.declared.day.Day.{Day}
 
 -- the events of a tape, and their answers
 abbrev pub events_of : List Played → List Event

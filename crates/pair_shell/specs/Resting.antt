@@ -2,12 +2,12 @@
 use Rattle.std.specs.Prelude.{ℕ, List, [], ◌∷◌, ◌++◌, codes}
 use Rattle.guest_lockstep.specs.Machine.{Machine}
 use Rattle.pair_protocol.specs.World.{World}
-use Rattle.pair_plan.specs.Ending.{Rests}
-use Rattle.pair_plan.specs.Serves.{NobodyServes, SomebodyServes}
+use Rattle.pair_shell.specs.Ending.{Rests}
+use Rattle.pair_shell.specs.Serves.{NobodyServes, SomebodyServes}
 use Rattle.std.specs.Fmt.{decimal}
 use Rattle.shell_picture.specs.Answers.{refused_text}
-use Rattle.shell_book.specs.Texts.{Prints, Row, Text, Words}
-use Rattle.shell_book.specs.declared.printing.Printed.{Printed}
+use Rattle.shell_language.specs.Texts.{Prints, Row, Text, Words}
+use Rattle.shell_language.specs.declared.printing.Printed.{Printed}
 use Rattle.pair_shell.specs.declared.resting.Rested.{Rested}
 use Rattle.pair_shell.specs.declared.resting.Rested.TheVariants as rested
 

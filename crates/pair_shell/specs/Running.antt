@@ -8,7 +8,7 @@ use Rattle.ft_world.specs.Standing.{Course}
 use Rattle.guest_board.specs.Inputs.{some_altair}
 use Rattle.guest_parts.specs.Guest.{Guest}
 use Rattle.shared_disk.specs.Failing.{Disk, records_in}
-use Rattle.shell_book.specs.declared.opening.Opening.{Opening}
+use Rattle.shell_language.specs.declared.opening.Opening.{Opening}
 use Rattle.command_io.specs.declared.failure.Failure.{Failure}
 use Rattle.pair_shell.specs.Answering.{AreAnswers, HaveAnswers, Sitting}
 use Rattle.pair_shell.specs.Lines.{heard, without_cr}

@@ -11,12 +11,12 @@ use Rattle.shell_language.specs.declared.line.ShellLine.{ShellLine}
 use Rattle.shell_language.specs.declared.line.ShellLine.TheVariants as shell
 use Rattle.altair_pair.specs.Booting.{IsBooted}
 use Rattle.shared_disk.specs.Records.{AreOnDrives}
-use Rattle.shell_book.specs.Openings.{CannotSet, IsSame}
+use Rattle.shell_language.specs.Openings.{CannotSet, IsSame}
 use Rattle.pair_shell.specs.Playing.{Plays}
-use Rattle.shell_book.specs.Tapes.{IsAnswered}
+use Rattle.shell_language.specs.Tapes.{IsAnswered}
 use Rattle.pair_shell.specs.declared.notes.Notes.{Notes}
-use Rattle.shell_book.specs.declared.opening.Opening.{Opening}
-use Rattle.shell_book.specs.declared.tape.Played.{Played}
+use Rattle.shell_language.specs.declared.opening.Opening.{Opening}
+use Rattle.shell_language.specs.declared.tape.Played.{Played}
 
 -- a pair has just booted as a session's setup says
 abbrev pub BootsBy : {B H : Type 0} → (B → Guest) → Opening → Running B H Disk → Type 0

@@ -5,9 +5,9 @@ use Rattle.event_callbacks.specs.declared.operations.OpId.{OpId}
 use Rattle.event_callbacks.specs.declared.operations.OpId.TheVariants as id
 use Rattle.ft_node.specs.declared.ran.Standing.{Standing}
 use Rattle.pair_events.specs.declared.event.Event.{Event}
-use Rattle.pair_plan.specs.declared.serving.Serving.{Serving}
-use Rattle.pair_plan.specs.declared.serving.Serving.TheVariants as serving
-use Rattle.shell_book.specs.Texts.{Row, Text}
+use Rattle.pair_shell.specs.declared.serving.Serving.{Serving}
+use Rattle.pair_shell.specs.declared.serving.Serving.TheVariants as serving
+use Rattle.shell_language.specs.Texts.{Row, Text}
 use Rattle.shell_language.specs.Spelling as spelling
 use Rattle.pair_shell.specs.declared.why.Wait.{Wait}
 use Rattle.pair_shell.specs.declared.why.Wait.TheVariants as wait

@@ -7,7 +7,7 @@ ghost use Rattle.pair_shell.specs.Sessions.{BootsBy, CannotBoot};
 use altair_pair::{Altairs, boot};
 use event_callbacks::Completes;
 use i8080_words::Fault;
-use shell_book::Opening;
+use shell_language::Opening;
 use std::alloc::{AllocError, Global};
 
 /// A pair that boots as a session's setup says; none if a sector of the setup is on a drive that is not attached.

@@ -1,18 +1,31 @@
 //! The shell with its pair: what was sent in it and typed at it, and an answer to each line.
+//! A plan that brings a pair to rest: the next event, from what the pair's world shows, and how many events there will be
+//! at most. Nothing here makes an event happen.
 #![tactic(auto)]
 
 mod asked;
 mod booting;
+mod bound;
+mod completing;
 mod lists;
 mod machine;
+mod names;
 mod notes;
+mod plan;
 mod play;
 mod polling;
+mod repeating;
 mod resting;
 mod running;
+mod serving;
 mod session;
 mod shell;
 mod showing;
 mod why;
 
+pub use bound::most_events;
+pub use completing::{Stage, stage_of};
+pub use names::outstanding;
+pub use plan::Plan;
+pub use serving::{Serving, who_serves};
 pub use shell::run_shell;

@@ -1,8 +1,8 @@
 //! The lists that a session prints.
 ghost use Rattle.std.specs.Prelude.{◌≡◌, IfOk};
-ghost use Rattle.shell_book.specs.declared.outcome.Outcome.TheVariants as outcome;
+ghost use Rattle.shell_language.specs.declared.outcome.Outcome.TheVariants as outcome;
 
-use shell_book::{Outcome, Printed};
+use shell_language::{Outcome, Printed};
 use shell_picture::{print_help, print_refusals};
 use std::alloc::AllocError;
 

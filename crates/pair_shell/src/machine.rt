@@ -1,8 +1,8 @@
 //! Lines that look at what a pair has: the machine of a node, a terminal, a sector, or what a query finds.
 ghost use Rattle.std.specs.Prelude.{◌≡◌, ◌<◌, ◌^◌, [], true, IfOk, Some, string_bytes};
 ghost use Rattle.guest_board.specs.Inputs.{some_altair};
-ghost use Rattle.shell_book.specs.Tapes.{Begins, trace_text};
-ghost use Rattle.shell_book.specs.Texts.{Prints};
+ghost use Rattle.shell_language.specs.Tapes.{Begins, trace_text};
+ghost use Rattle.shell_language.specs.Texts.{Prints};
 ghost use Rattle.pair_shell.specs.Looking.{IsLooked, Looks, bytes_from, rows_of};
 ghost use Rattle.pair_shell.specs.Playing.{Plays};
 ghost use Rattle.pair_shell.specs.Sessions.{IsHeeded};
@@ -14,8 +14,7 @@ use altair_pair::Altairs;
 use event_callbacks::Completes;
 use guest_board::Board;
 use i8080_words::Fault;
-use shell_book::{Opening, Printed};
-use shell_language::{Look, ShellLine, Span, View};
+use shell_language::{Look, Opening, Printed, ShellLine, Span, View};
 use shell_picture::{print_listing, print_memory, print_refusal, print_registers};
 use std::alloc::{AllocError, Global};
 

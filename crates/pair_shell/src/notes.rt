@@ -5,11 +5,11 @@ ghost use Rattle.pair_shell.specs.Playing.{Plays};
 ghost use Rattle.pair_shell.specs.Sessions.{IsHeeded, shown_at};
 ghost use Rattle.pair_shell.specs.Hints.{early_row, full_row, is_early, is_full};
 ghost use Rattle.pair_shell.specs.Looking.{left_out};
-ghost use Rattle.shell_book.specs.Texts.{AddsSome, Prints};
-ghost use Rattle.shell_book.specs.declared.printing.Printed.{Printed};
+ghost use Rattle.shell_language.specs.Texts.{AddsSome, Prints};
+ghost use Rattle.shell_language.specs.declared.printing.Printed.{Printed};
 ghost use Rattle.shell_picture.specs.Pictures.{DrawsPicture};
 ghost use Rattle.shell_picture.specs.Screens.{screen_rows};
-ghost use Rattle.shell_book.specs.Tapes.{Begins, IsAnswered, Traces, trace_text};
+ghost use Rattle.shell_language.specs.Tapes.{Begins, IsAnswered, Traces, trace_text};
 
 use crate::asked::{keys_of, left};
 use crate::play::{KEPT, play, play_one};
@@ -22,10 +22,8 @@ use ft_world::World;
 use pair_events::Event;
 use sequence_diagram::Moment;
 use shared_disk::Disk;
-use shell_book::{Book, Opening, Played, Printed};
-use shell_day::Plan;
-use shell_language::{Quoted, ShellLine, Stretch};
-use shell_picture::{print_last, print_picture, print_screen, print_sum};
+use shell_language::{Book, Opening, Played, Printed, Quoted, ShellLine, Stretch};
+use shell_picture::{Plan, print_last, print_picture, print_screen, print_sum};
 use std::alloc::{AllocError, Global};
 
 /// What was noted since the pair has booted: the book, the events of the last line, and all events with what was seen of them.
@@ -271,7 +269,7 @@ impl Notes {
 }
 
 // Says that no more events are kept for pictures, if so many were.
-#[tactic(auto, using(shell_book::proofs::Adding::prints_none, shell_book::proofs::Adding::prints_text))]
+#[tactic(auto, using(shell_language::proofs::Adding::prints_none, shell_language::proofs::Adding::prints_text))]
 fn print_full(is_full: bool, printed: &mut Printed) -> Result<(), AllocError>
     ensures { IfOk result (λ _. Prints (full_row is_full) printed.old printed.new) }
 {
@@ -291,7 +289,7 @@ fn is_full(count: usize) -> bool
 }
 
 // Says that keys may get lost, if they come too early.
-#[tactic(auto, using(shell_book::proofs::Adding::adds_none, shell_book::proofs::Adding::prints_none, shell_book::proofs::Adding::prints_text))]
+#[tactic(auto, using(shell_language::proofs::Adding::adds_none, shell_language::proofs::Adding::prints_none, shell_language::proofs::Adding::prints_text))]
 fn print_early(is_early: bool, port: u8, printed: &mut Printed) -> Result<(), AllocError>
     ensures some { IfOk result (λ _. AddsSome printed.old printed.new) }
     ensures told { IfOk result (λ _. Prints (early_row is_early port) printed.old printed.new) }

@@ -6,8 +6,8 @@ ghost use Rattle.ft_world.specs.Standing.{Course};
 ghost use Rattle.shared_disk.specs.Failing.{records_in};
 ghost use Rattle.pair_shell.specs.Books.{IsNoted, brings_in, brought_by, sent_in};
 ghost use Rattle.pair_shell.specs.Playing.{Lengthens, Plays, pauses};
-ghost use Rattle.shell_book.specs.Tapes.{played};
-ghost use Rattle.shell_day.specs.Rounds.{left_waiting, rested};
+ghost use Rattle.shell_language.specs.Tapes.{played};
+ghost use Rattle.shell_picture.specs.Rounds.{left_waiting, rested};
 
 use crate::polling::MayPoll;
 use altair_pair::moment_of;
@@ -17,8 +17,8 @@ use i8080_words::R;
 use pair_events::{Event, Reply};
 use sequence_diagram::Moment;
 use shared_disk::Disk;
-use shell_book::{Book, Brings, Played};
-use shell_day::Plan;
+use shell_language::{Book, Brings, Played};
+use shell_picture::Plan;
 use std::alloc::{AllocError, Global};
 
 /// How many events of a session are kept for pictures, from its first one on. With each of them a session that prints would

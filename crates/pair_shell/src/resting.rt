@@ -3,27 +3,27 @@ ghost use Rattle.std.specs.Prelude.{◌≡◌, ◌≤◌, ◌∷◌, [], true, I
 ghost use Rattle.pair_shell.specs.Playing.{Plays};
 ghost use Rattle.pair_shell.specs.Resting.{HasLed, SaysWhere, rest_row};
 ghost use Rattle.clone_state.specs.Parts.{part_count};
-ghost use Rattle.pair_plan.specs.Ending.{Rests};
+ghost use Rattle.pair_shell.specs.Ending.{Rests};
 ghost use Rattle.pair_protocol.specs.Settled.{highest};
 ghost use Rattle.ft_world.specs.Applies.{Shows};
 ghost use Rattle.ft_world.specs.Standing.{Course};
 ghost use Rattle.shared_disk.specs.Failing.{records_in};
-ghost use Rattle.shell_book.specs.Tapes.{Begins, trace_text};
-ghost use Rattle.shell_book.specs.Texts.{AddsSome, Prints};
+ghost use Rattle.shell_language.specs.Tapes.{Begins, trace_text};
+ghost use Rattle.shell_language.specs.Texts.{AddsSome, Prints};
 
 use crate::asked::parts_of;
 use crate::notes::Notes;
 use crate::play::play_next;
+use crate::{Plan, most_events};
+use board_image::OutstandingWrites;
 use clone_state::Copies;
 use ft_world::World;
 use guest_lockstep::ReplayEnd;
 use i8080_words::{Fault, R};
-use key_room::OutstandingWrites;
 use pair_events::Reply;
-use pair_plan::{Plan, most_events};
 use sequence_diagram::Moment;
 use shared_disk::Disk;
-use shell_book::{Book, Opening, Played, Printed};
+use shell_language::{Book, Opening, Played, Printed};
 use std::alloc::{AllocError, Global};
 
 /// Where the events of a plan have led.
@@ -139,7 +139,7 @@ fn failure(answer: R<Reply>) -> Option<Fault> {
 }
 
 // Says how many events there were, and how many there may be, and where they have led.
-#[tactic(auto, using(shell_book::proofs::Adding::prints_one, shell_book::proofs::Adding::prints_text))]
+#[tactic(auto, using(shell_language::proofs::Adding::prints_one, shell_language::proofs::Adding::prints_text))]
 fn print_rest(rested: Rested, made: u64, most: u64, printed: &mut Printed) -> Result<(), AllocError>
     ensures some { IfOk result (λ _. AddsSome printed.old printed.new) }
     ensures told { IfOk result (λ _. Prints (rest_row rested made most ∷ []) printed.old printed.new) }

@@ -7,8 +7,8 @@ ghost use Rattle.pair_shell.specs.Backups.{FindsBackup, HasDay, IsFirstBackup};
 ghost use Rattle.pair_shell.specs.Books.{HasBook};
 ghost use Rattle.pair_shell.specs.Days.{is_held, lack_row, lack_rows, lacks_backup, ran_rows};
 ghost use Rattle.pair_shell.specs.Playing.{Plays};
-ghost use Rattle.shell_book.specs.Texts.{AddsSome, Prints};
-ghost use Rattle.shell_book.specs.Tapes.{Begins, trace_text};
+ghost use Rattle.shell_language.specs.Texts.{AddsSome, Prints};
+ghost use Rattle.shell_language.specs.Tapes.{Begins, trace_text};
 ghost use Rattle.shell_picture.specs.HeldUp.{held_rows};
 
 use crate::notes::Notes;
@@ -18,10 +18,8 @@ use ft_world::{NodeStatus, World};
 use i8080_words::{Fault, R};
 use pair_events::Role;
 use shared_disk::Disk;
-use shell_book::{Book, Opening, Played, Printed, holds_up, meeting_of};
-use shell_day::{Day, Plan};
-use shell_language::Turns;
-use shell_picture::{print_held_up, print_refusal};
+use shell_language::{Book, Opening, Played, Printed, Turns, holds_up, meeting_of};
+use shell_picture::{Day, Plan, print_held_up, print_refusal};
 use std::alloc::{AllocError, Global};
 
 /// A day that has paused: what it is to play, the node that runs the guest, and its backup if it has one.
@@ -149,7 +147,7 @@ fn count_of<B: Copies<H> + Drop, H: Drop>(world: &World<B, Disk, H>, node: u64) 
 }
 
 // How a day has gone, and what is held up after it.
-#[tactic(auto, using(shell_book::proofs::Adding::adds_more, shell_book::proofs::Adding::prints_then))]
+#[tactic(auto, using(shell_language::proofs::Adding::adds_more, shell_language::proofs::Adding::prints_then))]
 fn print_day(
     plan: &Plan,
     count: u64,
@@ -167,7 +165,7 @@ fn print_day(
 }
 
 // What is held up after a day.
-#[tactic(auto, using(shell_book::proofs::Adding::adds_more, shell_book::proofs::Adding::prints_then))]
+#[tactic(auto, using(shell_language::proofs::Adding::adds_more, shell_language::proofs::Adding::prints_then))]
 fn print_stuck(
     backup: Option<u64>,
     tape: &[Played],
@@ -182,7 +180,7 @@ fn print_stuck(
 }
 
 // Says that there is no backup, if that holds something up.
-#[tactic(auto, using(shell_book::proofs::Adding::adds_none, shell_book::proofs::Adding::prints_none, shell_book::proofs::Adding::prints_text))]
+#[tactic(auto, using(shell_language::proofs::Adding::adds_none, shell_language::proofs::Adding::prints_none, shell_language::proofs::Adding::prints_text))]
 fn print_lack(lacks: bool, printed: &mut Printed) -> Result<(), AllocError>
     ensures some { IfOk result (λ _. AddsSome printed.old printed.new) }
     ensures told { IfOk result (λ _. Prints (lack_row lacks) printed.old printed.new) }
@@ -211,7 +209,7 @@ fn is_held(fault: Fault, tape: &[Played], book: &Book) -> bool
 }
 
 // How many steps a day has made, and why it ended.
-#[tactic(auto, using(shell_book::proofs::Adding::adds_none, crate::proofs::Days::tells_ran, crate::proofs::Days::tells_no_day))]
+#[tactic(auto, using(shell_language::proofs::Adding::adds_none, crate::proofs::Days::tells_ran, crate::proofs::Days::tells_no_day))]
 fn print_ran(plan: &Plan, count: u64, printed: &mut Printed) -> Result<(), AllocError>
     ensures some { IfOk result (λ _. AddsSome printed.old printed.new) }
     ensures told { IfOk result (λ _. Prints (ran_rows plan.now.day count) printed.old printed.new) }

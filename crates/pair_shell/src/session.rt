@@ -8,8 +8,7 @@ use crate::machine::take_line;
 use crate::notes::Notes;
 use altair_pair::Altairs;
 use event_callbacks::Completes;
-use shell_book::{Opening, Outcome, Printed, refuse};
-use shell_language::{Mistake, ShellLine, read_line};
+use shell_language::{Mistake, Opening, Outcome, Printed, ShellLine, read_line, refuse};
 use std::alloc::{AllocError, Global};
 
 /// The shell with its pair.
@@ -28,12 +27,12 @@ impl<T: Completes + Drop + Copy, S: Completes + Drop + Copy, W: Completes + Drop
 > {
     ghost use Rattle.std.specs.Prelude.{◌≡◌, [], true, false, IfOk, None, Some, string_bytes};
     ghost use Rattle.shell_language.specs.Saying.{said};
-    ghost use Rattle.shell_book.specs.Openings.{IsDefault, IsSame, SetsUp, SetsUpSaid};
+    ghost use Rattle.shell_language.specs.Openings.{IsDefault, IsSame, SetsUp, SetsUpSaid};
     ghost use Rattle.pair_shell.specs.Sessions.{AltairsPlay, HeedsSaid, IsAsBefore, IsHeeded, MayRefuse, is_quit, trace_after};
     ghost use Rattle.pair_shell.specs.Looking.{IsLooked, IsSeenSaid};
-    ghost use Rattle.shell_book.specs.Outcomes.{is_ended};
-    ghost use Rattle.shell_book.specs.Tapes.{Begins, trace_text};
-    ghost use Rattle.shell_book.specs.declared.outcome.Outcome.TheVariants as outcome;
+    ghost use Rattle.shell_language.specs.Outcomes.{is_ended};
+    ghost use Rattle.shell_language.specs.Tapes.{Begins, trace_text};
+    ghost use Rattle.shell_language.specs.declared.outcome.Outcome.TheVariants as outcome;
     ghost use Rattle.std.specs.Prelude.{is_some};
     ghost use Rattle.pair_shell.specs.Sessions.{BootsBy, is_setup};
 

@@ -6,14 +6,13 @@ ghost use Rattle.event_callbacks.specs.Keeping.{Keeps};
 ghost use Rattle.pair_shell.specs.Lines.{after_byte, byte_ends, ends_in, heard_at, heard_in, is_quit_line, is_run_line, kept_in, kept_with, last_line, without_cr};
 ghost use Rattle.pair_shell.specs.Running.{AnswersEach, AnswersFurther, HearsFrom, desk};
 ghost use Rattle.pair_shell.specs.Hearing.{Answers, Hears};
-ghost use Rattle.shell_book.specs.Outcomes.{is_ended};
+ghost use Rattle.shell_language.specs.Outcomes.{is_ended};
 ghost use Rattle.command_io.specs.declared.failure.Failure.TheVariants as failure;
 
 use crate::session::Session;
 use command_io::Failure;
 use event_callbacks::Completes;
-use shell_book::Outcome;
-use shell_language::{LINE_BYTES, ShellLine, read_line};
+use shell_language::{LINE_BYTES, Outcome, ShellLine, read_line};
 use std::alloc::Global;
 use std::io::{ErrorKind, Read, Write};
 

@@ -10,7 +10,7 @@ use ft_world::World;
 use guest_lockstep::Timed;
 use script_language::Query;
 use shared_disk::Disk;
-use shell_book::{Opening, Printed};
+use shell_language::{Opening, Printed};
 use shell_picture::{print_refusal, print_sector};
 use std::alloc::{AllocError, Global};
 

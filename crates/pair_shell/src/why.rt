@@ -2,19 +2,18 @@
 ghost use Rattle.std.specs.Prelude.{◌≡◌, ◌∷◌, ◌++◌, [], IfOk, Some};
 ghost use Rattle.std.specs.Fmt.{WritesOnOk};
 ghost use Rattle.pair_shell.specs.Waits.{held_for, name_text, next_rows, serving_text, standing_rows, waiting_text, words_of};
-ghost use Rattle.shell_book.specs.Texts.{AddsSome, Prints, Text};
+ghost use Rattle.shell_language.specs.Texts.{AddsSome, Prints, Text};
 
 use crate::asked::parts_of;
+use crate::{Plan, Serving, Stage, outstanding, stage_of, who_serves};
+use board_image::OutstandingWrites;
 use clone_state::Copies;
 use event_callbacks::OpId;
 use ft_node::Standing;
 use ft_world::{Message, World};
-use key_room::OutstandingWrites;
 use pair_events::Event;
-use pair_plan::{Plan, Serving, Stage, outstanding, stage_of, who_serves};
 use shared_disk::Disk;
-use shell_book::{Book, Brings, Opening, Printed};
-use shell_language::Spelled;
+use shell_language::{Book, Brings, Opening, Printed, Spelled};
 use std::alloc::{AllocError, Global};
 use std::fmt;
 
@@ -102,7 +101,7 @@ pub(crate) fn print_why<B: Copies<H> + OutstandingWrites + Drop, H: Drop>(
 }
 
 // Which nodes may serve.
-#[tactic(auto, using(shell_book::proofs::Adding::prints_text))]
+#[tactic(auto, using(shell_language::proofs::Adding::prints_text))]
 fn print_serving(serving: Serving, printed: &mut Printed) -> Result<(), AllocError>
     ensures { IfOk result (λ _. Prints (Text (serving_text serving) ∷ []) printed.old printed.new) }
 {
@@ -129,7 +128,7 @@ fn print_serving(serving: Serving, printed: &mut Printed) -> Result<(), AllocErr
 }
 
 // How far a node is with its log, if it has one.
-#[tactic(auto, using(shell_book::proofs::Adding::prints_none, shell_book::proofs::Adding::prints_text))]
+#[tactic(auto, using(shell_language::proofs::Adding::prints_none, shell_language::proofs::Adding::prints_text))]
 fn print_standing(standing: Option<Standing>, printed: &mut Printed) -> Result<(), AllocError>
     ensures { IfOk result (λ _. Prints (standing_rows standing) printed.old printed.new) }
 {
@@ -140,7 +139,7 @@ fn print_standing(standing: Option<Standing>, printed: &mut Printed) -> Result<(
 }
 
 // The event that comes next, if there is one.
-#[tactic(auto, using(shell_book::proofs::Adding::prints_text))]
+#[tactic(auto, using(shell_language::proofs::Adding::prints_text))]
 fn print_next(event: Option<Event>, printed: &mut Printed) -> Result<(), AllocError>
     ensures { IfOk result (λ _. Prints (next_rows event) printed.old printed.new) }
 {

@@ -8,3 +8,10 @@ pub mod Refusals
 pub mod Saying
 pub mod Shown
 pub mod Spelling
+pub mod HeldUp
+pub mod Notes
+pub mod Noting
+pub mod Outcomes
+pub mod Tapes
+pub mod Texts
+pub mod Openings

@@ -7,9 +7,9 @@ use Rattle.i8080_words.specs.declared.refusal.Fault.{Fault}
 use Rattle.shell_language.specs.Forms.{Shape, shape_of, shapes}
 use Rattle.shell_language.specs.Refusals.{refusals}
 use Rattle.shell_language.specs.declared.form.Form.{Form}
-use Rattle.shell_book.specs.Texts.{AddsLine, Prints, Row}
-use Rattle.shell_book.specs.declared.printing.Printed.{Printed}
-use Rattle.shell_book.proofs.Adding.{prints_text}
+use Rattle.shell_language.specs.Texts.{AddsLine, Prints, Row}
+use Rattle.shell_language.specs.declared.printing.Printed.{Printed}
+use Rattle.shell_language.proofs.Adding.{prints_text}
 use Rattle.shell_picture.proofs.Telling.{tells_some_more}
 use Rattle.shell_picture.specs.Answers.{help_row, help_rows, help_text, listed_text, refusal_row, refusal_rows}
 

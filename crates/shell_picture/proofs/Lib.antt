@@ -7,3 +7,5 @@ pub mod Sectors
 pub mod Telling
 pub mod Looking
 pub mod Numbers
+pub mod Counting
+pub mod Filling

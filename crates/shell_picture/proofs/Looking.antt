@@ -3,9 +3,9 @@ use Rattle.std.proofs.Common.{◌≡◌, ◌∙◌, ℕ, suc, ◌+◌, ◌-◌, 
 use Rattle.std.proofs.lemmas.List.{length-drop}
 use Rattle.i8080_words.specs.Arithmetic.{wrapped}
 use Rattle.i8080_words.specs.Opcodes.{instruction_length}
-use Rattle.shell_book.specs.Texts.{AddsLine, Prints, Row, Text}
-use Rattle.shell_book.specs.declared.printing.Printed.{Printed}
-use Rattle.shell_book.proofs.Adding.{adds_text, prints_none}
+use Rattle.shell_language.specs.Texts.{AddsLine, Prints, Row, Text}
+use Rattle.shell_language.specs.declared.printing.Printed.{Printed}
+use Rattle.shell_language.proofs.Adding.{adds_text, prints_none}
 use Rattle.shell_picture.specs.Listings.{byte_in, listing_rows, listing_text}
 use Rattle.shell_picture.specs.Machines.{line_count, lines_from, memory_rows, memory_text}
 

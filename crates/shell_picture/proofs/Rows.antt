@@ -8,9 +8,9 @@ use Rattle.sequence_diagram.specs.declared.moment.Moment.{Moment}
 use Rattle.sequence_diagram.specs.declared.place.Lifeline.{Lifeline}
 use Rattle.sequence_diagram.specs.declared.waits.OutputWait.{OutputWait}
 use Rattle.shell_language.specs.declared.line.Stretch.{Stretch}
-use Rattle.shell_book.specs.Texts.{AddsLine, Prints, Text}
-use Rattle.shell_book.specs.declared.printing.Printed.{Printed}
-use Rattle.shell_book.proofs.Adding.{adds_text, prints_none, prints_text, prints_then}
+use Rattle.shell_language.specs.Texts.{AddsLine, Prints, Text}
+use Rattle.shell_language.specs.declared.printing.Printed.{Printed}
+use Rattle.shell_language.proofs.Adding.{adds_text, prints_none, prints_text, prints_then}
 use Rattle.shell_picture.specs.Pictures.{AreEvents, DrawsPicture, IsDrawn, IsEvent, PrintsEvent, PrintsEvents, end_shown, event_text, first_shown, head_text, node_role, told_at, told_or}
 use Rattle.shell_picture.specs.Words.{IsSaid}
 use Rattle.shell_picture.specs.declared.lanes.LaneMark.{LaneMark}

@@ -4,9 +4,9 @@ use Rattle.std.specs.Prelude.{if◌then◌else◌, is_some, map, unwrap_or}
 use Rattle.std.proofs.lemmas.Bool.{le-ltb, lt-ltb}
 use Rattle.i8080_words.specs.declared.refusal.Fault.TheVariants.{Unknown}
 use Rattle.script_language.specs.Text.{lines_of}
-use Rattle.shell_book.specs.Texts.{AddsLine, Prints, Row, Text}
-use Rattle.shell_book.specs.declared.printing.Printed.{Printed}
-use Rattle.shell_book.proofs.Adding.{prints_none, prints_text, prints_then}
+use Rattle.shell_language.specs.Texts.{AddsLine, Prints, Row, Text}
+use Rattle.shell_language.specs.declared.printing.Printed.{Printed}
+use Rattle.shell_language.proofs.Adding.{prints_none, prints_text, prints_then}
 use Rattle.shell_picture.specs.Answers.{refused}
 use Rattle.shell_picture.specs.Screens.{head_text, line_row, line_rows, screen_rows, screen_text}
 

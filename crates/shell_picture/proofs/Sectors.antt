@@ -4,9 +4,9 @@ use Rattle.std.specs.List.{flat_map}
 use Rattle.std.proofs.lemmas.List.{take_all}
 use Rattle.disk_dcdd.specs.declared.address.SectorAddress.{SectorAddress}
 use Rattle.shared_disk.specs.declared.disk.SectorRead.{SectorRead}
-use Rattle.shell_book.specs.Texts.{AddsLine, Prints}
-use Rattle.shell_book.specs.declared.printing.Printed.{Printed}
-use Rattle.shell_book.proofs.Adding.{adds_text, prints_text}
+use Rattle.shell_language.specs.Texts.{AddsLine, Prints}
+use Rattle.shell_language.specs.declared.printing.Printed.{Printed}
+use Rattle.shell_language.proofs.Adding.{adds_text, prints_text}
 use Rattle.shell_picture.proofs.Telling.{tells_some_more}
 use Rattle.shell_picture.specs.Sectors.{dump_row, dump_text, sector_text, read_rows, sector_places}
 

@@ -9,17 +9,17 @@ use Rattle.i8080_words.specs.declared.refusal.Fault.{Fault}
 use Rattle.pair_events.specs.Printed.{reply_text}
 use Rattle.pair_events.specs.declared.reply.Reply.{Reply}
 use Rattle.pair_events.specs.declared.reply.Reply.TheVariants.{Message}
-use Rattle.shell_book.specs.Texts.{AddsLine, AddsRow, Prints, Row, Text, Words}
-use Rattle.shell_book.specs.declared.printing.Printed.{Printed}
-use Rattle.shell_book.specs.declared.tape.Played.{Played}
-use Rattle.shell_book.proofs.Adding.{adds_text, prints_one, prints_text, prints_then}
+use Rattle.shell_language.specs.Texts.{AddsLine, AddsRow, Prints, Row, Text, Words}
+use Rattle.shell_language.specs.declared.printing.Printed.{Printed}
+use Rattle.shell_language.specs.declared.tape.Played.{Played}
+use Rattle.shell_language.proofs.Adding.{adds_text, prints_one, prints_text, prints_then}
 use Rattle.i8080_words.specs.declared.refusal.Fault.TheVariants as refusal
 use Rattle.shell_language.specs.Refusals.{refusals}
-use Rattle.shell_book.specs.HeldUp.{holds_up, meeting_of}
-use Rattle.shell_book.specs.Notes.{waiting_in}
-use Rattle.shell_book.specs.declared.book.Book.{Book}
-use Rattle.shell_book.specs.declared.book.Waiting.{Waiting}
-use Rattle.shell_book.specs.declared.held_up.Meeting.{Meeting}
+use Rattle.shell_language.specs.HeldUp.{holds_up, meeting_of}
+use Rattle.shell_language.specs.Notes.{waiting_in}
+use Rattle.shell_language.specs.declared.book.Book.{Book}
+use Rattle.shell_language.specs.declared.book.Waiting.{Waiting}
+use Rattle.shell_language.specs.declared.held_up.Meeting.{Meeting}
 use Rattle.shell_picture.specs.HeldUp.{covered_text, held_if, held_of, held_row, named_last, output_text}
 use Rattle.shell_picture.specs.Answers.{done_text, message_text, others_text, refused, refused_text, sum_by, sum_of, sum_row}
 use Rattle.shell_picture.specs.declared.answers.Sum.{Sum}

@@ -9,9 +9,9 @@ use Rattle.pair_events.specs.declared.reply.Reply.{Reply}
 use Rattle.pair_events.specs.declared.reply.Reply.TheVariants.{Message}
 use Rattle.shell_language.specs.Forms.{Shape, shapes}
 use Rattle.shell_language.specs.Refusals.{refusal_words, refusals}
-use Rattle.shell_book.specs.Notes.{next}
-use Rattle.shell_book.specs.Texts.{Row, Text, Words}
-use Rattle.shell_book.specs.declared.tape.Played.{Played}
+use Rattle.shell_language.specs.Notes.{next}
+use Rattle.shell_language.specs.Texts.{Row, Text, Words}
+use Rattle.shell_language.specs.declared.tape.Played.{Played}
 use Rattle.shell_picture.specs.declared.answers.Sum.{Sum}
 
 -- a refusal that only the shell tells: its number, before its words

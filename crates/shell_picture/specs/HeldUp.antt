@@ -7,13 +7,13 @@ use Rattle.i8080_words.specs.declared.refusal.Fault.TheVariants.{NotCovered}
 use Rattle.pair_events.specs.declared.event.Event.{Event}
 use Rattle.shell_language.specs.Refusals.{refusals}
 use Rattle.shell_language.specs.Spelling.{event_text}
-use Rattle.shell_book.specs.HeldUp.{holds_up, meeting_of}
-use Rattle.shell_book.specs.Notes.{waiting_in}
-use Rattle.shell_book.specs.Texts.{Row, Words}
-use Rattle.shell_book.specs.declared.book.Book.{Book}
-use Rattle.shell_book.specs.declared.book.Waiting.{Waiting}
-use Rattle.shell_book.specs.declared.held_up.Meeting.{Meeting}
-use Rattle.shell_book.specs.declared.tape.Played.{Played}
+use Rattle.shell_language.specs.HeldUp.{holds_up, meeting_of}
+use Rattle.shell_language.specs.Notes.{waiting_in}
+use Rattle.shell_language.specs.Texts.{Row, Words}
+use Rattle.shell_language.specs.declared.book.Book.{Book}
+use Rattle.shell_language.specs.declared.book.Waiting.{Waiting}
+use Rattle.shell_language.specs.declared.held_up.Meeting.{Meeting}
+use Rattle.shell_language.specs.declared.tape.Played.{Played}
 use Rattle.shell_picture.specs.Answers.{refused_text}
 
 -- the output that waits

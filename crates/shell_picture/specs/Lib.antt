@@ -7,3 +7,11 @@ pub mod Pictures
 pub mod Screens
 pub mod Sectors
 pub mod Words
+pub mod Endings
+pub mod Links
+pub mod Series
+pub mod Routes
+pub mod Rounds
+pub mod Parts
+pub mod Hearing
+pub mod Plans

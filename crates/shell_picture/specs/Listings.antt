@@ -3,7 +3,7 @@ use Rattle.std.specs.Prelude.{ℕ, zero, suc, ◌+◌, ◌==◌, if◌then◌els
 use Rattle.i8080_words.specs.Arithmetic.{wrapped}
 use Rattle.i8080_words.specs.Opcodes.{instruction, instruction_length}
 use Rattle.pair_events.specs.Printed.{bytes_text}
-use Rattle.shell_book.specs.Texts.{Row, Text}
+use Rattle.shell_language.specs.Texts.{Row, Text}
 use Rattle.shell_picture.specs.Assembly.{instruction_text}
 use Rattle.shell_language.specs.Shown.{address_text}
 

@@ -8,7 +8,7 @@ use Rattle.i8080_words.specs.declared.registers.Interrupts.TheVariants.{Off, Soo
 use Rattle.i8080_words.specs.declared.registers.Processor.{Processor}
 use Rattle.i8080_words.specs.declared.registers.Regs.{Regs}
 use Rattle.pair_events.specs.Printed.{byte_text, bytes_text}
-use Rattle.shell_book.specs.Texts.{Row, Text}
+use Rattle.shell_language.specs.Texts.{Row, Text}
 use Rattle.shell_language.specs.Shown.{address_text, shown_bytes}
 
 -- `A HH F HH B HH C HH D HH E HH H HH L HH SP AAAA PC AAAA`; F is the flags as PUSH PSW has them

@@ -16,8 +16,8 @@ use Rattle.sequence_diagram.specs.declared.moment.Moment.{Moment}
 use Rattle.sequence_diagram.specs.declared.place.Lifeline.{Lifeline}
 use Rattle.sequence_diagram.specs.declared.place.Lifeline.TheVariants.{Terminal, Node, Arbiter, Disk}
 use Rattle.sequence_diagram.specs.declared.waits.OutputWait.{OutputWait}
-use Rattle.shell_book.specs.Texts.{Prints, Row, Text}
-use Rattle.shell_book.specs.declared.printing.Printed.{Printed}
+use Rattle.shell_language.specs.Texts.{Prints, Row, Text}
+use Rattle.shell_language.specs.declared.printing.Printed.{Printed}
 use Rattle.shell_language.specs.declared.line.Stretch.{Stretch}
 use Rattle.shell_picture.specs.Words.{IsSaid, said_text}
 use Rattle.shell_picture.specs.declared.lanes.LaneMark.{LaneMark}

@@ -5,7 +5,7 @@ use Rattle.std.specs.List.{flat_map}
 use Rattle.i8080_words.specs.declared.refusal.Fault.TheVariants.{Unknown}
 use Rattle.pair_events.specs.Printed.{byte_text}
 use Rattle.script_language.specs.Text.{end_of, lines_of}
-use Rattle.shell_book.specs.Texts.{Row, Text}
+use Rattle.shell_language.specs.Texts.{Row, Text}
 use Rattle.shell_language.specs.Shown.{is_printable}
 use Rattle.shell_picture.specs.Answers.{refused}
 

@@ -6,7 +6,7 @@ use Rattle.disk_dcdd.specs.declared.address.SectorAddress.{SectorAddress}
 use Rattle.i8080_words.specs.declared.refusal.Fault.{Fault}
 use Rattle.pair_events.specs.Printed.{byte_text, bytes_text}
 use Rattle.shared_disk.specs.declared.disk.SectorRead.{SectorRead}
-use Rattle.shell_book.specs.Texts.{Row, Text}
+use Rattle.shell_language.specs.Texts.{Row, Text}
 use Rattle.shell_picture.specs.Answers.{refused}
 use Rattle.shell_language.specs.Shown.{shown_bytes}
 

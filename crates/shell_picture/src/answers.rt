@@ -1,6 +1,6 @@
 //! What lines that are not events answer.
 ghost use Rattle.std.specs.Prelude.{◌≡◌, ◌∷◌, [], IfOk, Some, drop, length};
-ghost use Rattle.shell_book.specs.Texts.{AddsSome, Prints, Text};
+ghost use Rattle.shell_language.specs.Texts.{AddsSome, Prints, Text};
 ghost use Rattle.shell_picture.specs.Screens.{line_rows, screen_rows};
 ghost use Rattle.shell_picture.specs.Answers.{counted, help_rows, message_text, others_text, refusal_rows, refused, sum_of, sum_row};
 
@@ -10,12 +10,11 @@ use event_callbacks::PORTS;
 use i8080_words::{Fault, R};
 use pair_events::Reply;
 use script_language::first_line;
-use shell_book::{Book, Played, Printed};
-use shell_language::{forms, refusals};
+use shell_language::{Book, Played, Printed, forms, refusals};
 use std::alloc::AllocError;
 
 /// A refusal of a line that only the shell has, in words.
-#[tactic(auto, using(shell_book::proofs::Adding::prints_one))]
+#[tactic(auto, using(shell_language::proofs::Adding::prints_one))]
 pub fn print_refusal(fault: Fault, printed: &mut Printed) -> Result<(), AllocError>
     ensures some { IfOk result (λ _. AddsSome printed.old printed.new) }
     ensures told { IfOk result (λ _. Prints (refused fault ∷ []) printed.old printed.new) }
@@ -72,7 +71,7 @@ pub(crate) fn after(bytes: &[u8], seen: usize) -> &[u8]
 }
 
 /// The number of the last message.
-#[tactic(auto, using(shell_book::proofs::Adding::prints_text))]
+#[tactic(auto, using(shell_language::proofs::Adding::prints_text))]
 pub fn print_last(book: &Book, printed: &mut Printed) -> Result<(), AllocError>
     ensures { IfOk result (λ _. Prints (Text (message_text (length book.now.letters.items)) ∷ []) printed.old printed.new) }
 {
@@ -87,7 +86,7 @@ pub fn print_last(book: &Book, printed: &mut Printed) -> Result<(), AllocError>
 }
 
 /// All forms of lines.
-#[tactic(auto, using(shell_book::proofs::Adding::prints_none))]
+#[tactic(auto, using(shell_language::proofs::Adding::prints_none))]
 pub fn print_help(printed: &mut Printed) -> Result<(), AllocError>
     ensures { IfOk result (λ _. Prints help_rows printed.old printed.new) }
 {
@@ -98,7 +97,7 @@ pub fn print_help(printed: &mut Printed) -> Result<(), AllocError>
 }
 
 /// All refusals of events.
-#[tactic(auto, using(shell_book::proofs::Adding::prints_none))]
+#[tactic(auto, using(shell_language::proofs::Adding::prints_none))]
 pub fn print_refusals(printed: &mut Printed) -> Result<(), AllocError>
     ensures { IfOk result (λ _. Prints refusal_rows printed.old printed.new) }
 {
@@ -109,7 +108,7 @@ pub fn print_refusals(printed: &mut Printed) -> Result<(), AllocError>
 }
 
 /// How many events of a tape happened, what was answered to the last one, and how many were refused.
-#[tactic(auto, using(shell_book::proofs::Adding::prints_one, shell_book::proofs::Adding::prints_text))]
+#[tactic(auto, using(shell_language::proofs::Adding::prints_one, shell_language::proofs::Adding::prints_text))]
 pub fn print_sum(tape: &[Played], printed: &mut Printed) -> Result<(), AllocError>
     ensures some { IfOk result (λ _. AddsSome printed.old printed.new) }
     ensures told { IfOk result (λ _. Prints (sum_row tape.now ∷ []) printed.old printed.new) }

@@ -1,19 +1,20 @@
 //! What is told after a day of the refusals that hold something up.
 ghost use Rattle.std.specs.Prelude.{◌++◌, IfOk, Some};
 ghost use Rattle.std.specs.Fmt.{WritesOnOk, decimal};
-ghost use Rattle.shell_book.specs.HeldUp.{meeting_of};
-ghost use Rattle.shell_book.specs.Texts.{AddsSome, Prints};
+ghost use Rattle.shell_language.specs.HeldUp.{meeting_of};
+ghost use Rattle.shell_language.specs.Texts.{AddsSome, Prints};
 ghost use Rattle.shell_picture.specs.HeldUp.{held_if, held_rows, named_last, output_text};
 
 use i8080_words::Fault;
 use pair_events::Event;
-use shell_book::{Book, Meeting, Played, Printed, Waiting, holds_up, meeting_of};
-use shell_language::{Spelled, refusals};
+use shell_language::{
+    Book, Meeting, Played, Printed, Spelled, Waiting, holds_up, meeting_of, refusals,
+};
 use std::alloc::AllocError;
 use std::fmt;
 
 /// A line for each refusal that the events of a tape met and that holds something up after them.
-#[tactic(auto, using(shell_book::proofs::Adding::prints_some))]
+#[tactic(auto, using(shell_language::proofs::Adding::prints_some))]
 pub fn print_held_up(tape: &[Played], book: &Book, printed: &mut Printed) -> Result<(), AllocError>
     ensures some { IfOk result (λ _. AddsSome printed.old printed.new) }
     ensures told { IfOk result (λ _. Prints (held_rows tape.now book.now) printed.old printed.new) }
@@ -25,7 +26,7 @@ pub fn print_held_up(tape: &[Played], book: &Book, printed: &mut Printed) -> Res
 }
 
 // The line of a refusal of which so much was met, if it holds something up.
-#[tactic(auto, using(shell_book::proofs::Adding::prints_none, shell_book::proofs::Adding::prints_one))]
+#[tactic(auto, using(shell_language::proofs::Adding::prints_none, shell_language::proofs::Adding::prints_one))]
 fn print_if(
     fault: Fault,
     met: Meeting,

@@ -1,14 +1,13 @@
 //! Bytes of memory, as instructions.
 ghost use Rattle.std.specs.Prelude.{◌≡◌, ◌∷◌, [], IfOk, Some};
-ghost use Rattle.shell_book.specs.Texts.{Prints};
+ghost use Rattle.shell_language.specs.Texts.{Prints};
 ghost use Rattle.shell_picture.specs.Listings.{byte_in, gap_text, listing_rows, listing_text, instruction_bytes};
 
 use crate::answers::after;
 use crate::assembly::InstructionText;
 use i8080_words::{decode, length};
 use pair_events::Spaced;
-use shell_book::Printed;
-use shell_language::Address;
+use shell_language::{Address, Printed};
 use std::alloc::AllocError;
 use std::fmt;
 

@@ -3,15 +3,14 @@ ghost use Rattle.std.specs.Prelude.{◌≡◌, ◌++◌, IfOk, Some, codes, take
 ghost use Rattle.std.specs.Fmt.{WritesOnOk};
 ghost use Rattle.i8080_words.specs.Arithmetic.{flag_byte};
 ghost use Rattle.pair_events.specs.Printed.{byte_text};
-ghost use Rattle.shell_book.specs.Texts.{Prints};
+ghost use Rattle.shell_language.specs.Texts.{Prints};
 ghost use Rattle.shell_language.specs.Shown.{address_text};
 ghost use Rattle.shell_picture.specs.Machines.{flags_text, halt_text, interrupts_text, letter_text, memory_rows, memory_text, register_rows, registers_text, state_text};
 
 use crate::answers::after;
 use i8080_words::{Flags, Interrupts, Processor, Regs, psw};
 use pair_events::{Hexadecimal, Spaced};
-use shell_book::Printed;
-use shell_language::{Address, Printable};
+use shell_language::{Address, Printable, Printed};
 use std::alloc::AllocError;
 use std::fmt;
 

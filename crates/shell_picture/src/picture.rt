@@ -7,8 +7,7 @@ use crate::head::PictureHead;
 use crate::lanes::{Lanes, stroke_of};
 use crate::words::{Said, said_of};
 use sequence_diagram::{Columns, Moment, OutputWait, waits_of};
-use shell_book::Printed;
-use shell_language::Stretch;
+use shell_language::{Printed, Stretch};
 use std::alloc::{AllocError, Global};
 use std::fmt;
 

@@ -1,7 +1,7 @@
 //! What a sector of the disk has.
 ghost use Rattle.std.specs.Prelude.{◌≡◌, IfOk, Some};
 ghost use Rattle.std.specs.List.{flat_map};
-ghost use Rattle.shell_book.specs.Texts.{Prints};
+ghost use Rattle.shell_language.specs.Texts.{Prints};
 ghost use Rattle.shell_picture.specs.Sectors.{dump_row, dump_text, sector_text, read_rows, sector_places, sector_rows};
 
 use crate::answers::{after, print_refusal};
@@ -10,8 +10,7 @@ use disk_dcdd::SectorAddress;
 use i8080_words::R;
 use pair_events::{Hexadecimal, Spaced};
 use shared_disk::SectorRead;
-use shell_book::Printed;
-use shell_language::Printable;
+use shell_language::{Printable, Printed};
 use std::alloc::AllocError;
 use std::fmt;
 
@@ -46,7 +45,7 @@ fn print_read(
 }
 
 // The bytes of a sector, line by line.
-#[tactic(auto, using(shell_book::proofs::Adding::prints_none))]
+#[tactic(auto, using(shell_language::proofs::Adding::prints_none))]
 fn print_bytes(bytes: &[u8], printed: &mut Printed) -> Result<(), AllocError>
     ensures { IfOk result (λ _. Prints (flat_map (dump_row bytes.now) sector_places) printed.old printed.new) }
 {

@@ -1,6 +1,6 @@
 -- Each ring is new, with one end at the session.
 use Rattle.std.proofs.Common.{◌∙◌, ap, arith}
-use Rattle.command_hosts.specs.declared.port.PortEnd.{PortEnd}
+use Rattle.outside_switch.specs.declared.port.PortEnd.{PortEnd}
 use Rattle.console_terminal.specs.declared.keyboard.Keyboard.{Keyboard}
 use Rattle.console_terminal.specs.declared.screen.Screen.{Screen}
 use Rattle.command_console.proofs.console.prepare.Goals as goal

@@ -1,8 +1,8 @@
 -- The line is that of the port.
 use Rattle.std.proofs.Common.{◌++◌, codes, sym, subst}
 use Rattle.std.specs.Fmt.{decimal}
-use Rattle.shell_book.specs.Texts.{Prints}
-use Rattle.shell_book.proofs.Adding.{prints_text}
+use Rattle.shell_language.specs.Texts.{Prints}
+use Rattle.shell_language.proofs.Adding.{prints_text}
 use Rattle.pair_shell.specs.Hints.{early_row}
 use Rattle.pair_shell.proofs.notes.print_early.Goals as goal
 

@@ -1,5 +1,5 @@
 -- What the tape said before the next event, it says after it, with that event.
-use Rattle.shell_book.specs.Tapes.{played}
+use Rattle.shell_language.specs.Tapes.{played}
 use Rattle.pair_shell.proofs.Playing.{plays_more}
 use Rattle.pair_shell.proofs.play.play.Goals as goal
 

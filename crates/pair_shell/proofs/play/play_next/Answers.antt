@@ -1,6 +1,6 @@
 -- The event comes after the others on the tape, in which there was room for it.
 use Rattle.std.proofs.Common.{◌∷◌, ◌++◌, ◌∙◌, [], ap}
-use Rattle.shell_book.specs.Tapes.{played}
+use Rattle.shell_language.specs.Tapes.{played}
 use Rattle.pair_shell.proofs.Playing.{lengthens}
 use Rattle.pair_shell.proofs.play.play_next.Goals as goal
 

@@ -1,7 +1,7 @@
 -- What the tape said before the next event, it says after it, with that event.
 use Rattle.std.proofs.Common.{◌∙◌, ap}
-use Rattle.pair_plan.specs.declared.plan.Plan.{Plan}
-use Rattle.shell_book.specs.Tapes.{played}
+use Rattle.pair_shell.specs.declared.plan.Plan.{Plan}
+use Rattle.shell_language.specs.Tapes.{played}
 use Rattle.pair_shell.proofs.Playing.{plays_more}
 use Rattle.pair_shell.proofs.resting.lead.Goals as goal
 

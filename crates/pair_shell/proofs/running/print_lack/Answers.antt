@@ -1,6 +1,6 @@
 use Rattle.std.proofs.Common.{codes, sym, subst}
-use Rattle.shell_book.specs.Texts.{Prints}
-use Rattle.shell_book.proofs.Adding.{prints_text}
+use Rattle.shell_language.specs.Texts.{Prints}
+use Rattle.shell_language.proofs.Adding.{prints_text}
 use Rattle.pair_shell.specs.Days.{lack_row}
 use Rattle.pair_shell.proofs.running.print_lack.Goals as goal
 

@@ -1,7 +1,7 @@
 -- The line says which nodes may serve.
 use Rattle.std.proofs.Common.{[], ◌∷◌, ap}
-use Rattle.pair_plan.specs.declared.serving.Serving.TheVariants as serving
-use Rattle.shell_book.specs.Texts.{Text}
+use Rattle.pair_shell.specs.declared.serving.Serving.TheVariants as serving
+use Rattle.shell_language.specs.Texts.{Text}
 use Rattle.pair_shell.proofs.RestLines.{tells_text}
 use Rattle.pair_shell.specs.Waits.{serving_text}
 use Rattle.pair_shell.proofs.why.print_serving.Goals as goal

@@ -2,7 +2,7 @@
 use Rattle.std.proofs.Common.{take}
 use Rattle.std.specs.List.{flat_map}
 use Rattle.shell_language.specs.Forms.{shapes}
-use Rattle.shell_book.specs.Texts.{Prints}
+use Rattle.shell_language.specs.Texts.{Prints}
 use Rattle.shell_picture.specs.Answers.{help_row}
 use Rattle.shell_picture.proofs.answers.print_help.Given as goal
 

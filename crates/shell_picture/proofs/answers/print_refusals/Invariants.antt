@@ -2,7 +2,7 @@
 use Rattle.std.proofs.Common.{take}
 use Rattle.std.specs.List.{flat_map}
 use Rattle.shell_language.specs.Refusals.{refusals}
-use Rattle.shell_book.specs.Texts.{Prints}
+use Rattle.shell_language.specs.Texts.{Prints}
 use Rattle.shell_picture.specs.Answers.{refusal_row}
 use Rattle.shell_picture.proofs.answers.print_refusals.Given as goal
 

@@ -1,7 +1,7 @@
 -- Whatever the instructions that are left print after those so far, it is what all of them print.
 use Rattle.std.proofs.Common.{◌-◌}
-use Rattle.shell_book.specs.Texts.{Prints}
-use Rattle.shell_book.specs.declared.printing.Printed.{Printed}
+use Rattle.shell_language.specs.Texts.{Prints}
+use Rattle.shell_language.specs.declared.printing.Printed.{Printed}
 use Rattle.shell_picture.specs.Listings.{listing_rows}
 use Rattle.shell_picture.proofs.listing.print_listing.Given as goal
 

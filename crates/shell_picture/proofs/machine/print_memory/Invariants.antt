@@ -1,7 +1,7 @@
 -- Whatever the lines of the rest print after those so far, it is what all of them print.
 use Rattle.std.proofs.Common.{length}
-use Rattle.shell_book.specs.Texts.{Prints}
-use Rattle.shell_book.specs.declared.printing.Printed.{Printed}
+use Rattle.shell_language.specs.Texts.{Prints}
+use Rattle.shell_language.specs.declared.printing.Printed.{Printed}
 use Rattle.shell_picture.specs.Machines.{memory_rows}
 use Rattle.shell_picture.proofs.machine.print_memory.Given as goal
 

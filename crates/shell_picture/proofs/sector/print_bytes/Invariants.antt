@@ -1,7 +1,7 @@
 -- The lines so far are printed.
 use Rattle.std.proofs.Common.{take}
 use Rattle.std.specs.List.{flat_map}
-use Rattle.shell_book.specs.Texts.{Prints}
+use Rattle.shell_language.specs.Texts.{Prints}
 use Rattle.shell_picture.specs.Sectors.{dump_row, sector_places}
 use Rattle.shell_picture.proofs.sector.print_bytes.Given as goal
 

@@ -1,6 +1,6 @@
 -- The events of the day come first in what is printed.
 use Rattle.std.specs.Prelude.{string_bytes}
-use Rattle.shell_book.specs.Tapes.{trace_text}
+use Rattle.shell_language.specs.Tapes.{trace_text}
 use Rattle.pair_shell.proofs.Tracing.{begins_on, begins_trace}
 use Rattle.pair_shell.proofs.notes.Notes.play_day.Goals as goal
 

@@ -1,6 +1,6 @@
 -- The line says where the events have led.
 use Rattle.std.proofs.Common.{◌∙◌, ap}
-use Rattle.pair_plan.specs.declared.plan.Plan.{Plan}
+use Rattle.pair_shell.specs.declared.plan.Plan.{Plan}
 use Rattle.pair_protocol.specs.Settled.{highest}
 use Rattle.pair_shell.proofs.RestLines.{led_among, says_where}
 use Rattle.pair_shell.proofs.notes.Notes.rest.Goals as goal

@@ -1,7 +1,7 @@
 -- The line about what is kept comes after the picture.
 use Rattle.std.proofs.Common.{◌≡◌, length, rules, subst}
 use Rattle.std.proofs.lemmas.Result.{IfOk-weaker}
-use Rattle.shell_book.specs.Texts.{Prints}
+use Rattle.shell_language.specs.Texts.{Prints}
 use Rattle.shell_picture.specs.Pictures.{DrawsPicture}
 use Rattle.pair_shell.specs.Hints.{full_row, is_full}
 use Rattle.pair_shell.proofs.notes.Notes.show_picture.Goals as goal

@@ -1,6 +1,0 @@
--- Only places were added so far.
-use Rattle.command_host.specs.Places.{AddsPlaces}
-use Rattle.command_host.proofs.places.add_places.Given as goal
-
-abbrev pub invariant-loop-place : goal.invariant-loop-place
-invariant-loop-place g l = AddsPlaces l.fn.session l.session

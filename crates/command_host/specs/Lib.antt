@@ -1,3 +1,0 @@
-pub mod Serving
-pub mod Places
-pub mod Endings

@@ -1,7 +1,0 @@
--- Whoever was found is live.
-use Rattle.std.proofs.Common.{IfSome}
-use Rattle.command_hosts.specs.Runs.{IsLive}
-use Rattle.command_hosts.proofs.live.live_of.Given as goal
-
-abbrev pub invariant-loop-place : goal.invariant-loop-place
-invariant-loop-place l = IfSome l.found (IsLive l.fn.lines)

@@ -1,7 +1,0 @@
--- The keys of both ports were typed.
-use Rattle.command_hosts.proofs.Going.{and_then}
-use Rattle.command_hosts.proofs.session.Session.take_keys.Goals as goal
-
-pub returns : goal.returns
-returns g c =
-    and_then _ _ _ (and_then _ _ _ c.type_first-has_first.ensures c.type_second-has_second.ensures) c.see_move.ensures

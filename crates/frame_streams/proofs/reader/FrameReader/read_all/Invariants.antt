@@ -1,7 +1,0 @@
--- What was taken so far is handed on or pending.
-use Rattle.std.proofs.Common.{None}
-use Rattle.frame_streams.specs.Reading.{Reads}
-use Rattle.frame_streams.proofs.reader.FrameReader.read_all.Given as goal
-
-abbrev pub invariant-loop : goal.invariant-loop
-invariant-loop g l = Reads g.S.Read.remaining None l.fn.self l.self

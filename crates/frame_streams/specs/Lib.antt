@@ -1,9 +1,0 @@
-pub mod Blocks
-pub mod Slots
-pub mod Crossing
-pub mod Laws
-pub mod Reading
-pub mod Writing
-pub mod Rings
-pub mod Threads
-pub mod Resting

@@ -1,9 +1,0 @@
-pub mod First
-pub mod Serves
-pub mod Hearing
-pub mod Allowed
-pub mod Arriving
-pub mod Ending
-pub mod Shown
-pub mod Outstanding
-pub mod Bound

@@ -1,7 +1,0 @@
--- Each process by itself.
-use Rattle.process_runs.proofs.Running.{hosts_went, outside_went}
-use Rattle.process_runs.proofs.laws.processes_go.Goals as goal
-
-pub returns : goal.returns
-returns g c state M copied first last way =
-    (hosts_went state M copied first last way, outside_went state M copied first last way)

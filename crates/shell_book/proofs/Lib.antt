@@ -1,3 +1,0 @@
-pub mod Adding
-pub mod Settling
-pub mod Sectors

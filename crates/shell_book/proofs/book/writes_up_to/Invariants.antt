@@ -1,7 +1,0 @@
--- The numbers so far.
-use Rattle.std.proofs.Common.{◌≡◌}
-use Rattle.shell_book.specs.Notes.{writes_up_to}
-use Rattle.shell_book.proofs.book.writes_up_to.Given as goal
-
-abbrev pub invariant-loop-number : goal.invariant-loop-number
-invariant-loop-number l = l.numbers.items ≡ writes_up_to l.number
