@@ -2,8 +2,8 @@
 ghost use Rattle.std.specs.Prelude.{◌≡◌};
 ghost use Rattle.command_console.specs.Endings.{console_status, host_status};
 
-use outside_switch::HostsEnd;
 use host_node::End;
+use outside_switch::HostsEnd;
 
 /// How a host ends, by the reason for which its loop does.
 pub fn ending_of_host(end: End) -> (u8, &'static str)

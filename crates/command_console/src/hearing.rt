@@ -4,9 +4,9 @@ ghost use Rattle.command_io.specs.Typed.{typed_by};
 ghost use Rattle.command_console.specs.Hearing.{HasHeard, HasPressed, LinesType};
 ghost use Rattle.rtrb.specs.Ring.{ProducerLooked, known_free};
 
-use outside_switch::Quit;
 use command_io::Failure;
 use console_terminal::{Ending, Interpreter, KeySource, Listener, Signs, Stroke, listen};
+use outside_switch::Quit;
 use pair_events::Event;
 use rtrb::Producer;
 use script_language::Line;

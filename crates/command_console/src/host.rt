@@ -16,10 +16,10 @@ use clone_state::Copies;
 use command_io::{Failure, Language, read_input};
 use command_line::{HostOrder, HostRole};
 use event_callbacks::{Callbacks, Completes, plain_completions};
+use guest_board::Setup;
 use host_frames::{
     ReadStream, Reading, WrittenStream, end_reading, end_writing, start_reading, start_writing,
 };
-use guest_board::Setup;
 use host_node::{End, Mail, Settings, serve};
 use i8080_words::{Fault, R};
 use rtrb::Consumer;

@@ -1,6 +1,6 @@
-//! The command `console`: a pair whose hosts are processes, at which one types, sees what appears, and fails hosts while they run.
-//! What the processes of a pair do together: the loops of the hosts and of the outside are a fleet of the law of processes. No code.
-//! The command `host`, one host of a pair in a process; and the named pipes by which an outside reaches its hosts.
+//! The command `console`: a pair whose hosts are processes, at which one types, sees what appears, and fails hosts while they run; the
+//! command `host`, one host of a pair in a process, with the named pipes by which an outside reaches its hosts; and the law that the
+//! loops of the hosts and of the outside obey together.
 #![tactic(auto)]
 
 mod booting;

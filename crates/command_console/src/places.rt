@@ -2,9 +2,11 @@
 ghost use Rattle.command_console.specs.Places.{AddsPlaces};
 
 use crate::host::buffered;
-use outside_switch::{Session, Steward};
-use host_frames::{CarriedBlocks, FrameBuffer, FrameReader, FrameWriter, read_frames, write_frames};
+use host_frames::{
+    CarriedBlocks, FrameBuffer, FrameReader, FrameWriter, read_frames, write_frames,
+};
 use i8080_words::{Fault, R};
+use outside_switch::{Session, Steward};
 use rtrb::{Consumer, Producer, RingBuffer};
 use shared_disk::SectorStore;
 use std::alloc::Global;

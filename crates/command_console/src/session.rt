@@ -15,12 +15,12 @@ use crate::showing::{Showing, finish, is_all, start_showing};
 use crate::supervisor::Supervisor;
 use crate::teller::Teller;
 use crate::waking::WakingKeys;
-use outside_switch::{HostsEnd, Quit, Session, SessionParts, run_hosts};
 use command_io::Failure;
 use console_terminal::{
     Desk, Display, Ending, Interpreter, KeySource, Keyboard, Listener, Note, Port, Shown, Signs,
     Stroke, TerminalKeys,
 };
+use outside_switch::{HostsEnd, Quit, Session, SessionParts, run_hosts};
 use rtrb::{Consumer, Producer};
 use script_language::Line;
 use shared_disk::SharedDisk;

@@ -5,8 +5,8 @@ ghost use Rattle.command_console.specs.Telling.{handed_text, shown_text, told_as
 use crate::line::Line;
 use crate::seats::Seats;
 use crate::story::Story;
-use outside_switch::{Fate, HostEvent, HostLine, Steward};
 use console_terminal::Signs;
+use outside_switch::{Fate, HostEvent, HostLine, Steward};
 use rtrb::Producer;
 use std::alloc::{AllocError, Global};
 use std::sync::Arc;

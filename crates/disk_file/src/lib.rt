@@ -1,5 +1,4 @@
-//! Disks in files of the operating system, each file an image of one drive.
-//! The sectors of a disk in a file, each write on the disk before it is answered.
+//! Disks in files of the operating system, each file an image of one drive, and each write on the disk before it is answered.
 #![tactic(auto)]
 
 mod attaching;

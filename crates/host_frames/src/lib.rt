@@ -1,5 +1,5 @@
-//! What the processes of a pair say to each other: frames, their one spelling, and streams of them in any pieces.
-//! The threads at the two ends of a stream of frames: one reads frames and hands them on, one writes those that it is given.
+//! What the processes of a pair say to each other: frames, their one spelling, and streams of them in any pieces; and the threads at the
+//! two ends of a stream, one that reads frames and hands them on, one that writes those that it is given.
 #![tactic(auto)]
 
 mod buffer;

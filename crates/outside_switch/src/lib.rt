@@ -1,6 +1,5 @@
-//! The outside of a pair of processes: the terminals, the arbiter, the disk and the number of hosts; and between them and the hosts
-//! the lines and the switch.
-//! The outside of a pair whose hosts are processes: a loop of turns, none of which waits for a stream.
+//! The outside of a pair of processes: the terminals, the arbiter, the disk and the number of hosts; between them and the hosts the
+//! lines and the switch; and its loop of turns, none of which waits for a stream.
 #![tactic(auto)]
 
 mod at_terminals;

@@ -1,6 +1,5 @@
-//! The shell with its pair: what was sent in it and typed at it, and an answer to each line.
-//! A plan that brings a pair to rest: the next event, from what the pair's world shows, and how many events there will be
-//! at most. Nothing here makes an event happen.
+//! The shell with its pair: what was sent in it and typed at it, an answer to each line, and a plan that brings the pair to rest: the next
+//! event, from what the world shows, and how many there will be at most.
 #![tactic(auto)]
 
 mod asked;

@@ -1,6 +1,5 @@
-//! The lines of the shell: those of the script language, and those that a person needs besides.
-//! What the shell keeps of a pair: the setup before it boots, the messages that were sent, how far each port has come, the tape of a
-//! line, and what is printed of it.
+//! The lines of the shell: those of the script language, and those that a person needs besides; and what the shell keeps of a pair: the
+//! setup before it boots, the messages that were sent, how far each port has come, the tape of a line, and what is printed of it.
 #![tactic(auto)]
 
 mod book;

@@ -1,5 +1,5 @@
-//! What the shell shows of a pair: events as a diagram, what a terminal, a sector and a machine have, and how a tape has gone.
-//! The events that a line of the shell makes: those of an ordinary day, a list of them, or those that have not gone yet.
+//! The events that a line of the shell makes: those of an ordinary day, a list of them, or those that have not gone yet; and what the
+//! shell shows of a pair: events as a diagram, what a terminal, a sector and a machine have, and how a tape has gone.
 #![tactic(auto)]
 
 mod answers;
