@@ -1,9 +1,7 @@
 //! The terminal of a console: what no contract says of its keys, its commands, its display and its threads.
 mod desk;
-mod greetings;
 mod keys;
 mod listening;
 mod orders;
 mod paper;
 mod showing;
-mod waiting;

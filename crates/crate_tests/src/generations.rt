@@ -2,4 +2,3 @@
 mod gates;
 mod pairs;
 mod rows;
-mod turns;

@@ -9,8 +9,6 @@ mod boards;
 #[cfg(test)]
 mod channels;
 #[cfg(test)]
-mod completions;
-#[cfg(test)]
 mod console;
 #[cfg(test)]
 mod contests;
@@ -37,8 +35,6 @@ mod lines;
 #[cfg(test)]
 mod logs;
 #[cfg(test)]
-mod memory;
-#[cfg(test)]
 mod readers;
 #[cfg(test)]
 mod records;
@@ -48,8 +44,6 @@ mod replays;
 mod screens;
 #[cfg(test)]
 mod scripts;
-#[cfg(test)]
-mod seats;
 #[cfg(test)]
 mod serial;
 #[cfg(test)]
