@@ -11,10 +11,13 @@ import re
 import sys
 
 from option_tables import INNER, PAGE, Option, commands, help_of, rows
+from options import BEFORE, READERS
 
 # Options whose value is a file, or ends with one after `=`; and words of options whose help does not list them.
 FILES = {"--load", "--setup", "--disk", "--attach", "--save-disk"}
 WORDS = {"--lines": "row here", "--host": "here"}
+# The file that a command reads in place of standard input, as _arguments of zsh has it.
+FILE = ("'1:file:_files'",)
 # What a list of possible values looks like, and not a default alone.
 LISTED = re.compile(r"[a-z]+(?:, [a-z]+)+")
 
@@ -60,11 +63,14 @@ def man(date: str = "", version: str = "") -> str:
     """The man page."""
     listed = commands()
     found = [f'.TH PAIR 1 "{date}" "{version}" "User Commands"', ".SH NAME", f"pair \\- {roff('two hosts that run one Altair 8800 in lockstep')}"]
-    found += [".SH SYNOPSIS", ".B pair", ".I COMMAND", "[\\fIOPTION\\fR ..]", ".br", ".B pair help", "[\\fICOMMAND\\fR]", ".br", ".B pair \\-\\-version"]
+    found += [".SH SYNOPSIS", ".B pair", f"[{roff('|'.join(BEFORE))}]", ".I COMMAND", "[\\fIOPTION\\fR ..]", "[\\fIFILE\\fR]"]
+    found += [".br", ".B pair help", "[\\fICOMMAND\\fR]", ".br", ".B pair \\-\\-version"]
     found += [".SH COMMANDS"]
     for it in listed:
         found += [".TP", f".B {it}", roff(about(it)) + "."]
-    found += [".SH OPTIONS"]
+    found += [".PP", roff(f"A FILE after {', '.join(READERS)} is read in place of standard input."), ".SH OPTIONS"]
+    for word, what in BEFORE.items():
+        found += [".TP", f".B {roff(word)}", roff(f"before the command: {what}.")]
     for option, takers in outer():
         values = f" ({option.values})" if option.values else ""
         found += [".TP", f".B {roff(option.given)}", roff(f"{', '.join(takers)}: {plain(option.text)}{values}.")]
@@ -115,15 +121,25 @@ _pair() {{
     {"|".join(sorted(FILES))}) local IFS=$'\\n'; COMPREPLY=($(compgen -f -- "$word")); compopt -o filenames 2>/dev/null; return ;;
 {bash_values()}
   esac
-  if [ "$COMP_CWORD" = 1 ]; then
-    COMPREPLY=($(compgen -W "{" ".join(commands())} help --version" -- "$word"))
+  local first=1
+  while [[ ${{COMP_WORDS[first]}} =~ ^({"|".join(BEFORE)})$ && $first -lt $COMP_CWORD ]]; do
+    first=$((first + 1))
+  done
+  if [ "$COMP_CWORD" = "$first" ]; then
+    COMPREPLY=($(compgen -W "{" ".join(commands())} help --version {" ".join(BEFORE)}" -- "$word"))
     return
   fi
-  case ${{COMP_WORDS[1]}} in
+  case ${{COMP_WORDS[first]}} in
     help) words="{" ".join(commands())}" ;;
 {cases}
   esac
   COMPREPLY=($(compgen -W "$words" -- "$word"))
+  case ${{COMP_WORDS[first]}} in
+    {"|".join(READERS)})
+      local IFS=$'\\n'
+      COMPREPLY+=($(compgen -f -- "$word"))
+      compopt -o filenames 2>/dev/null ;;
+  esac
 }}
 complete -F _pair pair
 """
@@ -146,7 +162,8 @@ def zsh_option(option: Option) -> str:
 def zsh() -> str:
     """Completions for zsh."""
     listed = "\n".join(f"    '{it}:{zsh_text(about(it), ':')}'" for it in commands())
-    cases = "\n".join(f"    {it}) _arguments {' '.join(map(zsh_option, taken_by(it)))} ;;" for it in commands() if taken_by(it))
+    cases = "\n".join(f"    {it}) _arguments {' '.join([*map(zsh_option, taken_by(it)), *FILE * (it in READERS)])} ;;" for it in commands() if taken_by(it))
+    before = "\n".join(f"    '{word}:{zsh_text(what[0].upper() + what[1:], ':')}'" for word, what in BEFORE.items())
     return f"""\
 #compdef pair
 # Completions of pair for zsh.
@@ -155,7 +172,12 @@ commands=(
 {listed}
     'help:Prints help, also of a command'
     '--version:Prints the commit, and whether the program was proved'
+{before}
 )
+while (( CURRENT > 2 )) && [[ $words[2] == ({"|".join(BEFORE)}) ]]; do
+  shift words
+  (( CURRENT-- ))
+done
 if (( CURRENT == 2 )); then
   _describe command commands
 else

@@ -27,6 +27,13 @@ import re
 import signal
 import sys
 
+# Words of ./pair that are before the command, and what each does; the commands whose last word may be a file in place of standard input.
+BEFORE = {
+    "-q": "nothing is said of a program that is not proved",
+    "--proved": "a program that is not proved is refused",
+}
+READERS = ("script", "check", "picture", "lint", "live")
+
 # The commands that each option is for.
 OPTIONS = {
     "--load": ("script", "check", "picture", "lint", "live", "shell", "console"),
@@ -55,6 +62,11 @@ ESCAPES = {"r": b"\r", "n": b"\n", "t": b"\t", "\\": b"\\"}
 def tell_options(command=None):
     """Prints which of these options a command takes; without one, all of them."""
     signal.signal(signal.SIGPIPE, signal.SIG_DFL)
+    if command is None:
+        print("\nBefore the command:")
+        print("\n".join(f"  {word:<10}  {what}" for word, what in BEFORE.items()))
+    if command is None or command in READERS:
+        print(f"\nA FILE after {', '.join(READERS) if command is None else 'the options'} is read in place of standard input.")
     told = [said for option, said in SAID.items() if command in (None, *OPTIONS[option])]
     if told:
         print("\nOptions of ./pair, which reads and writes the files:")
