@@ -94,7 +94,7 @@ class Asked:
 
     def __init__(self, words):
         self.own, self.images, self.saves, self.attached = [], {}, {}, {}
-        self.escape = ESCAPE
+        self.escape, self.speed = ESCAPE, None
         self.setup, self.memory, self.keys, self.lines = b"", None, [], None
         # How many hosts begin, how many may later, by which command those elsewhere are run, what each is given, and where the pipes are.
         self.hosts, self.later, self.remote, self.of_hosts, self.folder = None, None, {}, [], None
@@ -125,6 +125,8 @@ class Asked:
             self.attach(*numbered(option, value, 3))
         elif option == "--sync":
             self.own += ["--unsynced"] * (word_in(option, value, ("on", "off")) == "off")
+        elif option == "--speed":
+            self.speed = count_in(option, value, 10_000)
         elif option == "--lines":
             self.lines = word_in(option, value, ("row", "here"))
         elif option in OF_HOSTS:
@@ -181,6 +183,10 @@ class Asked:
         else:
             drive, path = numbered(option, value, 3)
             self.images[drive] = image_in(path)
+
+    def first_keys(self):
+        """What is typed before all else: the command that bounds the machine's speed, if it is bounded."""
+        return b"" if self.speed is None else bytes([self.escape]) + b"speed %d\r" % self.speed
 
     def opening(self):
         """What comes before the first key: images, and then a script."""
@@ -303,7 +309,7 @@ class Run:
         how = {"stdout": subprocess.PIPE, "stderr": subprocess.STDOUT if is_one_place() else subprocess.PIPE}
         self.program = subprocess.Popen([path, *asked.words(mark)], stdin=subprocess.PIPE, preexec_fn=self.prepare, **how)
         try:
-            self.keys = Keys(self.program, asked.opening(), asked.escape)
+            self.keys = Keys(self.program, asked.opening() + asked.first_keys(), asked.escape)
             if self.is_killed:
                 self.program.kill()
             yield self.program

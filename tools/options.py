@@ -12,6 +12,7 @@ usage: tools/options.py [COMMAND]     prints those of a command; without one, al
   --setup FILE          for `console`: lines of a setup, as a script has them, before those of --load
   --memory AAAA=HH..    for `console`: bytes from this address on, in hexadecimal digits, in memory at boot
   --sense HH            for `console`: the sense switches, in two hexadecimal digits
+  --speed N             for `console`: the machine makes at most N instructions a second, 10000 to 999999999
   --escape KEY          for `console`: the key that opens a command line, as ^E, or as two hexadecimal digits
   --hosts N             for `console`: how many processes begin, from 2 on: the primary, its backup, and spares
   --host PLACE          for `console`: a host here (`here`), or where ssh leads, as `alpha`; once for each host, in place of --hosts
@@ -45,6 +46,7 @@ OPTIONS = {
     "--setup": ("console",),
     "--memory": ("console",),
     "--sense": ("console",),
+    "--speed": ("console",),
     "--escape": ("console",),
     "--lines": ("console",),
     "--hosts": ("console",),

@@ -130,10 +130,28 @@ impl Supervisor {
         }
     }
 
-    // From now on this becomes of packets.
+    // From now on this becomes of packets. If no host is a backup there are none, which is said.
     fn set_fate(&self, command: Command) -> Option<String> {
         self.seats.set_fate(fate_of(command)?);
-        self.link().ok()
+        let mut text = self.link().ok()?;
+        if !self.has_backup() {
+            text.push_str("; no host is a backup, so there is no link yet")
+                .ok()?;
+        }
+        Some(text)
+    }
+
+    // Whether a host is a backup, or is given a copy to be one.
+    fn has_backup(&self) -> bool {
+        for place in 0..=u8::MAX {
+            let Some(seat) = self.seats.seat(place) else {
+                return false;
+            };
+            if is_backup(&seat) {
+                return true;
+            }
+        }
+        false
     }
 
     // What is answered if this program is run by no command that starts processes and writes files.
@@ -226,6 +244,12 @@ fn fate_of(command: Command) -> Option<Fate>
         Command::Part => Some(Fate::Parts),
         _ => None,
     }
+}
+
+// Whether a host is a backup, or is given a copy to be one.
+fn is_backup(seat: &Seat) -> bool {
+    let role = seat.report.and_then(|report| report.role);
+    !seat.is_cut && matches!(role, Some(Role::Backup | Role::Joining))
 }
 
 // What a role is called.
