@@ -130,24 +130,24 @@ impl Supervisor {
         }
     }
 
-    // From now on this becomes of packets. If no host is a backup there are none, which is said.
+    // From now on this becomes of packets. While a host is alone there are none, which is said.
     fn set_fate(&self, command: Command) -> Option<String> {
         self.seats.set_fate(fate_of(command)?);
         let mut text = self.link().ok()?;
-        if !self.has_backup() {
+        if !self.has_link() {
             text.push_str("; no host is a backup, so there is no link yet")
                 .ok()?;
         }
         Some(text)
     }
 
-    // Whether a host is a backup, or is given a copy to be one.
-    fn has_backup(&self) -> bool {
+    // Whether packets pass between hosts.
+    fn has_link(&self) -> bool {
         for place in 0..=u8::MAX {
             let Some(seat) = self.seats.seat(place) else {
                 return false;
             };
-            if is_backup(&seat) {
+            if has_peer(&seat) {
                 return true;
             }
         }
@@ -246,10 +246,10 @@ fn fate_of(command: Command) -> Option<Fate>
     }
 }
 
-// Whether a host is a backup, or is given a copy to be one.
-fn is_backup(seat: &Seat) -> bool {
+// Whether a host has sent the log to a backup, or is given a copy, by what it last said.
+fn has_peer(seat: &Seat) -> bool {
     let role = seat.report.and_then(|report| report.role);
-    !seat.is_cut && matches!(role, Some(Role::Backup | Role::Joining))
+    !seat.is_cut && matches!(role, Some(Role::Primary | Role::Joining))
 }
 
 // What a role is called.
