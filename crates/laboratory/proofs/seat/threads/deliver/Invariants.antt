@@ -1,8 +1,0 @@
-use Rattle.std.proofs.Common.{◌≡◌}
-use mathlib.Core.Option.{some}
-use lib.ListN.{get_elem?}
-use Rattle.log_entry.specs.declared.entry.Entry.TheVariants.{Mark}
-use Rattle.laboratory.proofs.seat.threads.deliver.Given as goal
-
-abbrev pub invariant-loop : goal.invariant-loop
-invariant-loop l = (l.seat.table ≡ l.fn.fabric) × (l.seat.core.known.primary.winner ≡ 0) × (get_elem? l.seat.core.known.primary.list l.fn.index ≡ some (Mark 6))

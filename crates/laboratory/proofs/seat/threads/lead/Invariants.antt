@@ -1,5 +1,0 @@
-use Rattle.std.proofs.Common.{◌≡◌}
-use Rattle.laboratory.proofs.seat.threads.lead.Given as goal
-
-abbrev pub invariant-loop : goal.invariant-loop
-invariant-loop l = (l.seat.table ≡ l.fn.fabric) × (l.seat.core.known.primary.winner ≡ 0)
