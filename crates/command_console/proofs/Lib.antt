@@ -17,4 +17,4 @@ pub mod FleetRunning
 pub mod FleetEnding
 pub mod FleetStreams
 pub mod Starting
-pub mod Streams
+pub mod HostStreams

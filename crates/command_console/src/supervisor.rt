@@ -134,24 +134,27 @@ impl Supervisor {
     fn set_fate(&self, command: Command) -> Option<String> {
         self.seats.set_fate(fate_of(command)?);
         let mut text = self.link().ok()?;
-        if !self.has_link() {
+        if self.is_alone() {
             text.push_str("; no host is a backup, so there is no link yet")
                 .ok()?;
         }
         Some(text)
     }
 
-    // Whether packets pass between hosts.
-    fn has_link(&self) -> bool {
+    // Whether a host says that it is alone, and none is given a copy.
+    fn is_alone(&self) -> bool {
+        let mut is_alone = false;
         for place in 0..=u8::MAX {
             let Some(seat) = self.seats.seat(place) else {
-                return false;
+                break;
             };
-            if has_peer(&seat) {
-                return true;
+            match role_of(&seat) {
+                Some(Role::Alone) => is_alone = true,
+                Some(Role::Joining) => return false,
+                _ => {}
             }
         }
-        false
+        is_alone
     }
 
     // What is answered if this program is run by no command that starts processes and writes files.
@@ -246,10 +249,12 @@ fn fate_of(command: Command) -> Option<Fate>
     }
 }
 
-// Whether a host has sent the log to a backup, or is given a copy, by what it last said.
-fn has_peer(seat: &Seat) -> bool {
-    let role = seat.report.and_then(|report| report.role);
-    !seat.is_cut && matches!(role, Some(Role::Primary | Role::Joining))
+// The role that a host last said, unless it is cut off.
+fn role_of(seat: &Seat) -> Option<Role> {
+    match seat.report {
+        Some(report) if !seat.is_cut => report.role,
+        _ => None,
+    }
 }
 
 // What a role is called.

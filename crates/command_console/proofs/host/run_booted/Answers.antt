@@ -1,6 +1,6 @@
 -- The host boots with empty rings, its loop leaves it at them, and then the threads at their other ends are joined.
 use Rattle.std.proofs.Common.{ap, ◌∙◌}
-use Rattle.command_console.proofs.Streams.{heard_so, reads_still, said_so, writes_still}
+use Rattle.command_console.proofs.HostStreams.{heard_so, reads_still, said_so, writes_still}
 use Rattle.command_console.proofs.host.run_booted.Goals as goal
 use Rattle.host_frames.specs.StreamReading.{contents_of}
 
