@@ -43,6 +43,7 @@ import tty
 sys.path.insert(0, os.path.dirname(os.path.realpath(__file__)))
 import disks
 import last_row
+from doing import Seen, Watched, do_all, steps_in
 from files import drawn_as, hex_lines, image_in, path_in, place_for, read, save_all, saved_as
 from hosts import ROLES, SIGNALS, Hosts
 from keys import Keys, begin
@@ -94,7 +95,7 @@ class Asked:
 
     def __init__(self, words):
         self.own, self.images, self.saves, self.attached = [], {}, {}, {}
-        self.escape, self.speed = ESCAPE, None
+        self.escape, self.steps = ESCAPE, []
         self.setup, self.memory, self.keys, self.lines = b"", None, [], None
         # How many hosts begin, how many may later, by which command those elsewhere are run, what each is given, and where the pipes are.
         self.hosts, self.later, self.remote, self.of_hosts, self.folder = None, None, {}, [], None
@@ -126,7 +127,9 @@ class Asked:
         elif option == "--sync":
             self.own += ["--unsynced"] * (word_in(option, value, ("on", "off")) == "off")
         elif option == "--speed":
-            self.speed = count_in(option, value, 10_000)
+            self.steps.insert(0, (None, b"speed %d" % count_in(option, value, 10_000)))
+        elif option == "--do":
+            self.steps += steps_in(value)
         elif option == "--lines":
             self.lines = word_in(option, value, ("row", "here"))
         elif option in OF_HOSTS:
@@ -183,10 +186,6 @@ class Asked:
         else:
             drive, path = numbered(option, value, 3)
             self.images[drive] = image_in(path)
-
-    def first_keys(self):
-        """What is typed before all else: the command that bounds the machine's speed, if it is bounded."""
-        return b"" if self.speed is None else bytes([self.escape]) + b"speed %d\r" % self.speed
 
     def opening(self):
         """What comes before the first key: images, and then a script."""
@@ -247,8 +246,8 @@ class Run:
         self.lock = threading.Lock()
         # The last row of the terminal, if lines about the pair are shown there; and what they have told.
         self.row, self.story = None, Story()
-        # The program's output, and what it says beside it if that goes elsewhere.
-        self.screens = []
+        # The program's output, and what it says beside it if that goes elsewhere; and what has been seen of both.
+        self.screens, self.seen = [], Seen()
 
     def heed(self):
         """From now on no signal ends this command before it has set the terminal back."""
@@ -309,7 +308,7 @@ class Run:
         how = {"stdout": subprocess.PIPE, "stderr": subprocess.STDOUT if is_one_place() else subprocess.PIPE}
         self.program = subprocess.Popen([path, *asked.words(mark)], stdin=subprocess.PIPE, preexec_fn=self.prepare, **how)
         try:
-            self.keys = Keys(self.program, asked.opening() + asked.first_keys(), asked.escape)
+            self.keys = Keys(self.program, asked.opening(), asked.escape, lambda keys: do_all(asked.steps, keys, self.seen))
             if self.is_killed:
                 self.program.kill()
             yield self.program
@@ -336,15 +335,16 @@ class Run:
     def say(self, line):
         """Says a line about the pair."""
         with self.lock, contextlib.suppress(OSError):
-            Output(2).write(self.told(line.encode()))
+            Watched(Output(2), self.seen).write(self.told(line.encode()))
 
     def pass_on(self, mark):
         """Passes on what the program writes, until it ends."""
         ends = [(self.program.stdout, self.row or Output(1)), (self.program.stderr, Output(2))]
-        self.screens = [Screen(self.program, pipe, output, mark, self.heard) for pipe, output in ends if pipe]
+        self.screens = [Screen(self.program, pipe, Watched(output, self.seen), mark, self.heard) for pipe, output in ends if pipe]
         showing = [begin(threading.Thread(target=screen.pass_on)) for screen in self.screens]
         self.await_program()
         await_all(showing, lambda: self.is_killed)
+        self.seen.end()
 
     def await_program(self):
         """Waits until the program has ended. A signal that comes just before a wait is heard only after it, so no wait is long."""
@@ -375,6 +375,7 @@ class Run:
         if self.row is None:
             return b"\r\n" + LINE + line + b"\r\n"
         self.row.say(line)
+        self.seen.hear(LINE + line + b"\r\n")
         return b""
 
     def signalled(self, word, place):

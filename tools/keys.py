@@ -22,8 +22,9 @@ def begin(thread):
 class Keys:
     """The keys of standard input, on their way to a program."""
 
-    def __init__(self, program, opening, escape):
+    def __init__(self, program, opening, escape, do_first):
         self.program, self.opening, self.to = program, opening, program.stdin.fileno()
+        self.do_first = do_first
         self.escape = bytes([escape])
         self.is_terminal = os.isatty(0)
 
@@ -31,9 +32,21 @@ class Keys:
         """Passes on what comes before the keys, and then keys as they come, as long as there is a terminal and a program."""
         with contextlib.suppress(OSError):
             self.write(self.opening)
+            self.begin_first()
             while some := self.next():
                 self.write(some)
         self.end(self.is_terminal)
+
+    def begin_first(self):
+        """Does what is done before the first key of a file or a pipe, and beside the keys of a terminal."""
+        if self.is_terminal:
+            begin(threading.Thread(target=self.do_all_first))
+        else:
+            self.do_all_first()
+
+    def do_all_first(self):
+        with contextlib.suppress(OSError):
+            self.do_first(self)
 
     def next(self):
         """The keys that come next. Whoever shares the input may have set it not to wait."""
@@ -44,10 +57,15 @@ class Keys:
         while some:
             some = some[os.write(self.to, some) :]
 
+    def command(self, line):
+        """Types a command."""
+        self.write(self.escape + line + b"\r")
+
     def quit(self):
         """Types `quit`, after what closes a line of commands that may be open, and opens one."""
         with contextlib.suppress(OSError):
-            self.write(self.escape + CLOSES + self.escape + b"quit\r")
+            self.write(self.escape + CLOSES)
+            self.command(b"quit")
 
     def end(self, has_hung_up):
         """No more keys come, and what is written from now on goes nowhere. A program whose terminal has hung up is to quit, and may not go on

@@ -13,6 +13,7 @@ usage: tools/options.py [COMMAND]     prints those of a command; without one, al
   --memory AAAA=HH..    for `console`: bytes from this address on, in hexadecimal digits, in memory at boot
   --sense HH            for `console`: the sense switches, in two hexadecimal digits
   --speed N             for `console`: the machine makes at most N instructions a second, 10000 to 999999999
+  --do FILE             for `console`: what is done before the first key: commands, `type TEXT`, `wait TEXT` and `sleep MS`, one a line
   --escape KEY          for `console`: the key that opens a command line, as ^E, or as two hexadecimal digits
   --hosts N             for `console`: how many processes begin, from 2 on: the primary, its backup, and spares
   --host PLACE          for `console`: a host here (`here`), or where ssh leads, as `alpha`; once for each host, in place of --hosts
@@ -47,6 +48,7 @@ OPTIONS = {
     "--memory": ("console",),
     "--sense": ("console",),
     "--speed": ("console",),
+    "--do": ("console",),
     "--escape": ("console",),
     "--lines": ("console",),
     "--hosts": ("console",),
@@ -139,15 +141,20 @@ def sense_line(word):
 
 def key_lines(port, text):
     """The lines of a script for `live` that type a text."""
+    return [f"type {port} {key:02X}" for key in keys_in(f"--type {port}={text}", text)]
+
+
+def keys_in(named, text):
+    """The keys of a text, which is refused by this name if it is none."""
     keys, rest = b"", text
     while rest:
         found = re.match(r"\\([rnt\\])|\\x([0-9A-Fa-f]{2})|([^\\])", rest, re.DOTALL)
         if not found:
-            complain(f"--type {port}={text}: after a backslash comes r, n, t, x with two hexadecimal digits, or a backslash")
+            complain(f"{named}: after a backslash comes r, n, t, x with two hexadecimal digits, or a backslash")
         named, code, plain = found.groups()
         keys += ESCAPES[named] if named else bytes.fromhex(code) if code else plain.encode()
         rest = rest[found.end() :]
-    return [f"type {port} {key:02X}" for key in keys]
+    return keys
 
 
 def drives_in(disks):

@@ -1,0 +1,80 @@
+"""What is done at a console by a file, as `--do` names it: texts that are waited for, keys, pauses, and commands of the console."""
+
+import re
+import threading
+import time
+
+from files import read
+from options import complain, keys_in
+
+# How many bytes are kept of what nobody has waited for yet.
+MOST_SEEN = 1 << 20
+# The words that stand for something else than a command of the console.
+WAIT, TYPE, SLEEP = "wait", "type", "sleep"
+
+
+class Seen:
+    """What has been seen at a console since the last text that was waited for."""
+
+    def __init__(self):
+        self.text, self.is_over, self.changed = b"", False, threading.Condition()
+
+    def hear(self, some):
+        """This was written."""
+        with self.changed:
+            self.text = (self.text + some)[-MOST_SEEN:]
+            self.changed.notify_all()
+
+    def end(self):
+        """Nothing more comes."""
+        with self.changed:
+            self.is_over = True
+            self.changed.notify_all()
+
+    def has_come(self, wanted):
+        """Waits for a text; false if nothing more can come before it does."""
+        with self.changed:
+            self.changed.wait_for(lambda: self.is_over or wanted in self.text)
+            _, found, after = self.text.partition(wanted)
+            self.text = after if found else self.text
+            return bool(found)
+
+
+class Watched:
+    """An output of which it is seen what is written to it."""
+
+    def __init__(self, output, seen):
+        self.output, self.seen = output, seen
+
+    def write(self, some):
+        self.output.write(some)
+        self.seen.hear(some)
+
+
+def step_in(place, line):
+    """The step of a line: its word and what it is done with; a command of the console has no word."""
+    word, _, rest = line.partition(" ")
+    if word in (WAIT, TYPE):
+        return word, keys_in(f"{place}: {line}", rest) or complain(f"{place}: `{word}` is followed by a text")
+    if word == SLEEP:
+        return word, int(rest) / 1000 if re.fullmatch("[0-9]{1,9}", rest) else complain(f"{place}: `{word}` is followed by milliseconds")
+    return None, line.encode()
+
+
+def steps_in(path):
+    """The steps of a file, one a line; empty lines are left out, and those that begin with `#`. One that is none is refused."""
+    lines = enumerate(read(path).decode("latin-1").splitlines(), 1)
+    return [step_in(f"{path}, line {number}", line) for number, line in lines if line.strip() and not line.startswith("#")]
+
+
+def do_all(steps, keys, seen):
+    """Does these steps one after another, unless the console ends before."""
+    for word, what in steps:
+        if word == SLEEP:
+            time.sleep(what)
+        elif word == TYPE:
+            keys.write(what)
+        elif word is None:
+            keys.command(what)
+        elif not seen.has_come(what):
+            return
