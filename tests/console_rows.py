@@ -119,6 +119,21 @@ def a_line_is_on_the_last_row_and_the_guest_above_it(command):
 
 
 @case
+def the_row_says_how_a_command_is_given(command):
+    with looked_at(command("--hosts", "2", "--later", "0", "--escape", "^A")) as console:
+        console.await_row("^Ctrl-A opens a line of commands$")
+        console.await_row("^generation 1: ")
+        console.type(b"\x03\x03a\x03")
+        console.say("mend", b"\x01")
+        console.await_shown(b"the link loses 0 of 100 packets")
+        expect(console.has_had_row("`quit` there"), False, "that two Ctrl-C in a row are taken for three")
+        console.type(b"\x03\x03\x03")
+        console.await_row("^Ctrl-A opens a line of commands, and `quit` there ends the console$")
+        console.say("quit", b"\x01")
+        expect(console.status(), 0, "the status")
+
+
+@case
 def a_line_waits_for_the_end_of_a_sequence(command):
     steps = [
         (b"\x1b[5;<first><second>", b"9HX", "second"),

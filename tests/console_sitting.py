@@ -123,9 +123,9 @@ class Console:
             self.type(bytes([key]))
             self.await_that(lambda: len(self.shown) > before, f"the echo of {chr(key)}")
 
-    def say(self, line):
+    def say(self, line, escape=ESCAPE):
         """Types a command."""
-        self.type(ESCAPE + line.encode() + ENTER)
+        self.type(escape + line.encode() + ENTER)
 
     def program(self):
         """The number of the process of the program."""

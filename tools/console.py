@@ -47,7 +47,7 @@ from doing import Seen, Watched, do_all, steps_in
 from files import drawn_as, hex_lines, image_in, path_in, place_for, read, save_all, saved_as
 from hosts import ROLES, SIGNALS, Hosts
 from keys import Keys, begin
-from options import complain, count_in, drives_in, key_in, key_lines, memory_line, numbered, sense_line, spelled, taken
+from options import complain, count_in, drives_in, key_in, key_lines, key_name, memory_line, numbered, sense_line, spelled, taken
 from output import Output
 from places import PlacedHosts, is_place
 from screen import Screen
@@ -187,6 +187,14 @@ class Asked:
             drive, path = numbered(option, value, 3)
             self.images[drive] = image_in(path)
 
+    def hint(self):
+        """How a command is given."""
+        return f"{key_name(self.escape)} opens a line of commands"
+
+    def way_out(self):
+        """How the console is ended."""
+        return f"{self.hint()}, and `quit` there ends the console"
+
     def opening(self):
         """What comes before the first key: images, and then a script."""
         return b"".join(self.images.values()) + self.setup + spelled(self.memory + self.keys)
@@ -308,12 +316,22 @@ class Run:
         how = {"stdout": subprocess.PIPE, "stderr": subprocess.STDOUT if is_one_place() else subprocess.PIPE}
         self.program = subprocess.Popen([path, *asked.words(mark)], stdin=subprocess.PIPE, preexec_fn=self.prepare, **how)
         try:
-            self.keys = Keys(self.program, asked.opening(), asked.escape, lambda keys: do_all(asked.steps, keys, self.seen))
+            self.keys = self.keys_for(asked)
             if self.is_killed:
                 self.program.kill()
             yield self.program
         finally:
             self.program.kill()
+
+    def keys_for(self, asked):
+        """The keys that are passed on to the outside, once what is to be done first is done."""
+        return Keys(
+            self.program,
+            asked.opening(),
+            asked.escape,
+            do_first=lambda keys: do_all(asked.steps, keys, self.seen),
+            remind=lambda: self.say(asked.way_out()),
+        )
 
     @staticmethod
     def has_opened(outside):
@@ -419,15 +437,16 @@ def await_all(threads, is_over):
 
 
 @contextlib.contextmanager
-def row_for(lines):
-    """The last row of standard output, if lines about the pair are to be shown there."""
+def row_for(lines, hint):
+    """The last row of standard output, if lines about the pair are to be shown there; the hint is there while none is."""
     if lines == "here" or not last_row.can_have(1) or not (lines or is_one_place()):
         yield None
         return
-    row = last_row.LastRow(1)
+    row = last_row.LastRow(1, hint.encode())
     signal.signal(signal.SIGWINCH, lambda *_: begin(threading.Thread(target=row.resize)))
     try:
         row.write(b"")
+        begin(threading.Thread(target=row.rest))
         yield row
     finally:
         row.end()
@@ -472,7 +491,7 @@ def sit(path, asked, run):
     mark = new_mark()
     run.heed()
     run.gather(path, asked)
-    with raw_terminal(), row_for(asked.lines) as run.row, run.hosts_of(path, asked, mark):
+    with raw_terminal(), row_for(asked.lines, asked.hint()) as run.row, run.hosts_of(path, asked, mark):
         run.pass_on(mark.encode())
     status = run.status()
     if status and os.isatty(0) and os.isatty(2):

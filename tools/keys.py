@@ -8,8 +8,8 @@ import threading
 # How many keys are read at once, and for how many seconds a program may go on after its terminal has hung up.
 MOST_KEYS = 4096
 PATIENCE = 30
-# What closes a line of commands that may be open.
-CLOSES = b"\x1b"
+# What closes a line of commands that may be open; and what ends most programs, of which so many in a row ask for a way out.
+CLOSES, CTRL_C, ASKS = b"\x1b", 0x03, 3
 
 
 def begin(thread):
@@ -22,9 +22,9 @@ def begin(thread):
 class Keys:
     """The keys of standard input, on their way to a program."""
 
-    def __init__(self, program, opening, escape, do_first):
+    def __init__(self, program, opening, escape, do_first, remind):
         self.program, self.opening, self.to = program, opening, program.stdin.fileno()
-        self.do_first = do_first
+        self.do_first, self.remind, self.in_a_row = do_first, remind, 0
         self.escape = bytes([escape])
         self.is_terminal = os.isatty(0)
 
@@ -35,6 +35,7 @@ class Keys:
             self.begin_first()
             while some := self.next():
                 self.write(some)
+                self.heed(some)
         self.end(self.is_terminal)
 
     def begin_first(self):
@@ -52,6 +53,13 @@ class Keys:
         """The keys that come next. Whoever shares the input may have set it not to wait."""
         select.select([0], [], [])
         return os.read(0, MOST_KEYS)
+
+    def heed(self, some):
+        """Reminds of how one gets out once a terminal has typed Ctrl-C three times in a row."""
+        for key in some if self.is_terminal else b"":
+            self.in_a_row = self.in_a_row + 1 if key == CTRL_C else 0
+            if self.in_a_row == ASKS:
+                self.remind()
 
     def write(self, some):
         while some:

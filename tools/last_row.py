@@ -5,6 +5,7 @@ import os
 import re
 import select
 import threading
+import time
 
 from output import Output
 
@@ -23,6 +24,8 @@ ALL_SCROLL, OFF_THE_ROW = b"\x1b7\x1b[r\x1b8", b"\x1bD\x1b[A"
 AS_AT_FIRST = b"\x1b(B\x0f\x1b[0m"
 # For how many seconds a terminal that takes nothing is waited for at the end.
 PATIENCE = 1
+# For how many seconds a line stays until the hint is there again.
+STAYS = 30
 
 
 class Stream:
@@ -103,13 +106,14 @@ class Stream:
 
 class LastRow(Output):
     """A terminal that is written to, and the line on its last row. The line waits while a sequence is not ended, or a place of the cursor is
-    kept; if another one comes meanwhile, that one is shown."""
+    kept; if another one comes meanwhile, that one is shown. While nothing else is to be said a hint is there."""
 
-    def __init__(self, to):
+    def __init__(self, to, hint):
         super().__init__(to)
         self.columns, rows = os.get_terminal_size(to)
         self.stream, self.lock = Stream(rows), threading.RLock()
-        self.line, self.is_due, self.has_ended = b"", True, False
+        self.line, self.is_due, self.has_ended = hint, True, False
+        self.hint, self.said = hint, 0.0
 
     def write(self, some):
         with self.lock:
@@ -121,8 +125,16 @@ class LastRow(Output):
     def say(self, line):
         """Has a line on the row as soon as it may be there."""
         with self.lock:
-            self.line, self.is_due = line, True
+            self.line, self.is_due, self.said = line, True, time.monotonic()
             self.write(b"")
+
+    def rest(self):
+        """Has the hint on the row whenever nothing was said for a while, to the end."""
+        while not self.has_ended:
+            time.sleep(1)
+            if self.line != self.hint and time.monotonic() > self.said + STAYS:
+                with contextlib.suppress(OSError):
+                    self.say(self.hint)
 
     def resize(self):
         """The terminal has another size now."""

@@ -124,6 +124,11 @@ def key_in(option, word):
     return str(ord(named[1].upper()) ^ 0x40 if named else int(word, 16))
 
 
+def key_name(byte):
+    """What a person calls a key, by the byte that it sends; the program's greeting names it so too."""
+    return f"Ctrl-{chr(byte | 0x40)}" if 0 < byte < 0x1B else "ESC" if byte == 0x1B else f"the byte {byte:02X}"
+
+
 def memory_line(word):
     """The line of a setup that puts bytes into memory."""
     if not re.fullmatch(r"[0-9A-Fa-f]{4}=([0-9A-Fa-f]{2})+", word):
