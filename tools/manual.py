@@ -14,7 +14,7 @@ from option_tables import INNER, PAGE, Option, commands, help_of, rows
 from options import BEFORE, READERS
 
 # Options whose value is a file, or ends with one after `=`; and words of options whose help does not list them.
-FILES = {"--load", "--setup", "--disk", "--attach", "--save-disk"}
+FILES = {"--load", "--setup", "--disk", "--attach", "--save-disk", "--do"}
 WORDS = {"--lines": "row here", "--host": "here"}
 # The file that a command reads in place of standard input, as _arguments of zsh has it.
 FILE = ("'1:file:_files'",)
