@@ -490,6 +490,8 @@ def sit(path, asked, run):
     """Lets one sit at a pair until it ends; gives its status."""
     mark = new_mark()
     run.heed()
+    if asked.steps:
+        run.seen.begin()
     run.gather(path, asked)
     with raw_terminal(), row_for(asked.lines, asked.hint()) as run.row, run.hosts_of(path, asked, mark):
         run.pass_on(mark.encode())

@@ -14,30 +14,39 @@ WAIT, TYPE, SLEEP = "wait", "type", "sleep"
 
 
 class Seen:
-    """What has been seen at a console since the last text that was waited for."""
+    """What has been seen at a console since the last text that was waited for; nothing is kept once no more texts are."""
 
     def __init__(self):
-        self.text, self.is_over, self.changed = b"", False, threading.Condition()
+        self.text, self.is_over, self.changed = bytearray(), True, threading.Condition()
 
     def hear(self, some):
         """This was written."""
+        if self.is_over:
+            return
         with self.changed:
-            self.text = (self.text + some)[-MOST_SEEN:]
+            self.text += some
+            if len(self.text) > 2 * MOST_SEEN:
+                del self.text[:-MOST_SEEN]
             self.changed.notify_all()
 
+    def begin(self):
+        """From now on it is kept."""
+        self.is_over = False
+
     def end(self):
-        """Nothing more comes."""
+        """No text is waited for any more."""
         with self.changed:
             self.is_over = True
+            self.text.clear()
             self.changed.notify_all()
 
     def has_come(self, wanted):
         """Waits for a text; false if nothing more can come before it does."""
         with self.changed:
             self.changed.wait_for(lambda: self.is_over or wanted in self.text)
-            _, found, after = self.text.partition(wanted)
-            self.text = after if found else self.text
-            return bool(found)
+            place = self.text.find(wanted)
+            del self.text[: place + len(wanted) if place >= 0 else 0]
+            return place >= 0
 
 
 class Watched:
@@ -77,4 +86,5 @@ def do_all(steps, keys, seen):
         elif word is None:
             keys.command(what)
         elif not seen.has_come(what):
-            return
+            break
+    seen.end()
