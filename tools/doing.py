@@ -1,8 +1,12 @@
 """What is done at a console by a file, as `--do` names it: texts that are waited for, keys, pauses, and commands of the console."""
 
+from __future__ import annotations
+
+import os
 import re
 import threading
 import time
+from typing import Protocol
 
 from files import read
 from options import complain, keys_in
@@ -12,14 +16,31 @@ MOST_SEEN = 1 << 20
 # The words that stand for something else than a command of the console.
 WAIT, TYPE, SLEEP = "wait", "type", "sleep"
 
+# A step: its word and what it is done with; a command of the console has no word.
+Step = tuple[str | None, bytes | float]
+
+
+class Writes(Protocol):
+    """An output."""
+
+    def write(self, some: bytes) -> None: ...
+
+
+class Types(Protocol):
+    """Keys and commands on their way to a console."""
+
+    def write(self, some: bytes) -> None: ...
+
+    def command(self, line: bytes) -> None: ...
+
 
 class Seen:
     """What has been seen at a console since the last text that was waited for; nothing is kept once no more texts are."""
 
-    def __init__(self):
+    def __init__(self) -> None:
         self.text, self.is_over, self.changed = bytearray(), True, threading.Condition()
 
-    def hear(self, some):
+    def hear(self, some: bytes) -> None:
         """This was written."""
         if self.is_over:
             return
@@ -29,18 +50,18 @@ class Seen:
                 del self.text[:-MOST_SEEN]
             self.changed.notify_all()
 
-    def begin(self):
+    def begin(self) -> None:
         """From now on it is kept."""
         self.is_over = False
 
-    def end(self):
+    def end(self) -> None:
         """No text is waited for any more."""
         with self.changed:
             self.is_over = True
             self.text.clear()
             self.changed.notify_all()
 
-    def has_come(self, wanted):
+    def has_come(self, wanted: bytes) -> bool:
         """Waits for a text; false if nothing more can come before it does."""
         with self.changed:
             self.changed.wait_for(lambda: self.is_over or wanted in self.text)
@@ -52,31 +73,31 @@ class Seen:
 class Watched:
     """An output of which it is seen what is written to it."""
 
-    def __init__(self, output, seen):
+    def __init__(self, output: Writes, seen: Seen) -> None:
         self.output, self.seen = output, seen
 
-    def write(self, some):
+    def write(self, some: bytes) -> None:
         self.output.write(some)
         self.seen.hear(some)
 
 
-def step_in(place, line):
-    """The step of a line: its word and what it is done with; a command of the console has no word."""
+def step_in(place: str, line: str) -> Step:
+    """The step of a line."""
     word, _, rest = line.partition(" ")
     if word in (WAIT, TYPE):
         return word, keys_in(f"{place}: {line}", rest) or complain(f"{place}: `{word}` is followed by a text")
     if word == SLEEP:
         return word, int(rest) / 1000 if re.fullmatch("[0-9]{1,9}", rest) else complain(f"{place}: `{word}` is followed by milliseconds")
-    return None, line.encode()
+    return None, os.fsencode(line)
 
 
-def steps_in(path):
+def steps_in(path: str) -> list[Step]:
     """The steps of a file, one a line; empty lines are left out, and those that begin with `#`. One that is none is refused."""
-    lines = enumerate(read(path).decode("latin-1").splitlines(), 1)
+    lines = enumerate(os.fsdecode(read(path)).splitlines(), 1)
     return [step_in(f"{path}, line {number}", line) for number, line in lines if line.strip() and not line.startswith("#")]
 
 
-def do_all(steps, keys, seen):
+def do_all(steps: list[Step], keys: Types, seen: Seen) -> None:
     """Does these steps one after another, unless the console ends before."""
     for word, what in steps:
         if word == SLEEP:

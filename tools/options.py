@@ -25,6 +25,7 @@ usage: tools/options.py [COMMAND]     prints those of a command; without one, al
 """
 
 import contextlib
+import os
 import re
 import signal
 import sys
@@ -149,15 +150,15 @@ def key_lines(port, text):
     return [f"type {port} {key:02X}" for key in keys_in(f"--type {port}={text}", text)]
 
 
-def keys_in(named, text):
-    """The keys of a text, which is refused by this name if it is none."""
+def keys_in(where, text):
+    """The keys of a text; where it stands is said if it is refused."""
     keys, rest = b"", text
     while rest:
         found = re.match(r"\\([rnt\\])|\\x([0-9A-Fa-f]{2})|([^\\])", rest, re.DOTALL)
         if not found:
-            complain(f"{named}: after a backslash comes r, n, t, x with two hexadecimal digits, or a backslash")
+            complain(f"{where}: after a backslash comes r, n, t, x with two hexadecimal digits, or a backslash")
         named, code, plain = found.groups()
-        keys += ESCAPES[named] if named else bytes.fromhex(code) if code else plain.encode()
+        keys += ESCAPES[named] if named else bytes.fromhex(code) if code else os.fsencode(plain)
         rest = rest[found.end() :]
     return keys
 
