@@ -5,7 +5,7 @@ import shlex
 
 import disks
 from doing import steps_in
-from files import hex_lines, image_in, place_for, read, save_all
+from files import hex_lines, image_in, place_for, read, refuse_missing, save_all
 from hosts import ROLES
 from options import complain, count_in, drives_in, key_in, key_lines, key_name, memory_line, numbered, sense_line, spelled, taken
 from places import is_place
@@ -53,6 +53,7 @@ class Asked:
             self.memory = hex_lines(MONITOR)
         for drive in self.attached.keys() & self.images.keys():
             complain(f"--attach {drive}={self.attached[drive]}: drive {drive} has --disk too, so give one of them")
+        refuse_missing(self.saves, self.setup, self.images.keys() | self.attached.keys())
         self.count_hosts()
 
     def take(self, option, value):

@@ -9,6 +9,14 @@ import tempfile
 TRACKS, SECTORS, SECTOR_BYTES = 77, 32, 137
 IMAGE_BYTES = TRACKS * SECTORS * SECTOR_BYTES
 PLACES = [(track, sector) for track in range(TRACKS) for sector in range(SECTORS)]
+# The line of a setup that says how many drives there are.
+DRIVES = re.compile(rb"^drives[ \t]+([1-4])[ \t\r]*$", re.MULTILINE)
+
+
+def drives_of(setup, given):
+    """How many drives a machine of this setup has that is given disks for these."""
+    found = DRIVES.findall(setup)
+    return max([int(found[-1]) if found else 1, *(drive + 1 for drive in given)])
 
 
 def setup_lines(drive, image):

@@ -77,6 +77,14 @@ def place_for(saves, drive, path):
     return path
 
 
+def refuse_missing(saves, setup, given):
+    """Refuses to save a drive that the machine of a setup, which is given disks for some, does not have."""
+    count = disks.drives_of(setup, given)
+    for drive, path in saves.items():
+        if drive >= count:
+            complain(f"--save-disk {drive}={path}: the machine has no drive {drive}; the line `drives {drive + 1}` of a setup attaches more")
+
+
 def save_all(saves, images, reason):
     """Writes the disk of each drive to its file, if its image has come, whatever becomes of the others. If one is not written, it is said
     why, which of an image that has not come is what the reason says of a drive, and the command ends."""

@@ -20,7 +20,7 @@ import threading
 
 sys.path.insert(0, os.path.dirname(os.path.realpath(__file__)))
 import disks
-from files import hex_lines, image_in, place_for, save_all
+from files import hex_lines, image_in, place_for, refuse_missing, save_all
 from options import drives_in, key_lines, numbered, spelled, taken
 from sitting import Ended, Sitting
 
@@ -35,6 +35,8 @@ class Given:
     def __init__(self, command, words):
         self.command, self.own = command, [command]
         self.images, self.before, self.after, self.saves = {}, [], [], {}
+        # The whole input, if it was read before the program starts.
+        self.held = None
         for option, value in taken(command, words):
             if value is None:
                 self.own.append(option)
@@ -59,8 +61,16 @@ class Given:
             drive, path = numbered(option, value, 3)
             self.saves[drive] = place_for(self.saves, drive, path)
 
+    def hold(self):
+        """Reads the whole input of a run that saves disks, so that a drive that its machine lacks is refused before it runs."""
+        self.held = b"" if os.isatty(0) else sys.stdin.buffer.read()
+        refuse_missing(self.saves, spelled(self.before) + self.held, self.images)
+
     def input(self):
         """The standard input, as it comes. A script of files alone needs nobody who ends it; if a disk is to be saved, `quit` ends it."""
+        if self.held is not None:
+            yield self.held
+            return
         if os.isatty(0) and self.command != "shell":
             return
         if not self.asks():
@@ -86,7 +96,7 @@ class Given:
         last = b"\n"
         try:
             program.stdin.write(self.opening())
-            for some in self.input():
+            for some in filter(None, self.input()):
                 program.stdin.write(some)
                 program.stdin.flush()
                 last = some
@@ -162,6 +172,8 @@ def sit(given, program):
 
 def main(path, command, *words):
     given = Given(command, words)
+    if given.saves and command == "live":
+        given.hold()
     is_sitting = command == "shell" and os.isatty(0) and os.isatty(1)
     # A program hears no signals: at a terminal it is this command that Ctrl-C is for.
     signal.signal(signal.SIGINT, signal.default_int_handler if is_sitting else signal.SIG_IGN)
