@@ -6,12 +6,12 @@ ghost use Rattle.std.specs.Prelude.{◌≡◌, false};
 
 use crate::pace::{AGAIN, PARTS};
 use crate::serving::Serving;
+use board_image::{KeyRoom, OutstandingWrites, Snapshots};
 use clone_state::Copies;
 use disk_dcdd::{OUTSTANDING, SECTORS};
 use event_callbacks::OpId;
 use guest_lockstep::{ReplayEnd, StopReason};
 use i8080_words::{Fault, R};
-use board_image::{KeyRoom, OutstandingWrites, Snapshots};
 use pair_events::Role;
 
 // How many steps a guest makes before it is offered its next key, unless it idles.

@@ -4,9 +4,9 @@ ghost use Rattle.host_node.specs.Goes.{Goes};
 use crate::heard::Heard;
 use crate::pace::AGAIN;
 use crate::serving::Serving;
+use board_image::{KeyRoom, OutstandingWrites, Snapshots};
 use clone_state::Copies;
 use i8080_words::R;
-use board_image::{KeyRoom, OutstandingWrites, Snapshots};
 
 // How many parts are sent early in one turn at most.
 const FEW_PARTS: u64 = 32;

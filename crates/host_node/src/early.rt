@@ -6,10 +6,10 @@ ghost use Rattle.i8080_words.specs.declared.refusal.Fault.TheVariants.{OutOfMemo
 
 use crate::heard::Heard;
 use crate::host::{HostNode, Hosted};
+use board_image::Snapshots;
 use clone_state::{Copies, Image};
 use host_frames::Frame;
 use i8080_words::{Fault, R};
-use board_image::Snapshots;
 use std::alloc::Global;
 
 /// The first byte of a packet with a part that goes early. The bytes of the part's message follow.

@@ -5,10 +5,10 @@ ghost use Rattle.host_node.specs.Lagging.{HoldsBack};
 
 use crate::lag::{lag_of, waits_for};
 use crate::serving::Serving;
+use board_image::{KeyRoom, OutstandingWrites, Snapshots};
 use clone_state::Copies;
 use guest_lockstep::StopReason;
 use i8080_words::{Fault, R};
-use board_image::{KeyRoom, OutstandingWrites, Snapshots};
 
 impl<B: Copies<H> + KeyRoom + OutstandingWrites + Snapshots + Drop, H: Drop> Serving<B, H> {
     // Whether a primary's guest waits for the backup.

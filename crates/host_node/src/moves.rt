@@ -4,12 +4,12 @@ ghost use Rattle.host_node.specs.Guests.{HasWriteFrom, HasWrites, KeepsKey, keep
 ghost use Rattle.std.specs.Prelude.{◌≡◌};
 
 use crate::host::{HostNode, Hosted};
+use board_image::{KeyRoom, OutstandingWrites};
 use clone_state::Copies;
 use disk_dcdd::Place;
 use ft_node::{Drained, Lead, Ran};
 use guest_lockstep::Stopped;
 use i8080_words::{Fault, R};
-use board_image::{KeyRoom, OutstandingWrites};
 use replayer::Replayed;
 
 impl<B: Copies<H> + Drop, H: Drop> HostNode<B, H> {
