@@ -8,7 +8,7 @@ use Rattle.command_console.specs.Places.{AddsPlaces}
 use Rattle.outside_switch.specs.declared.port.PortEnd.{PortEnd}
 use Rattle.outside_switch.specs.declared.session.HostsEnd.{HostsEnd}
 use Rattle.outside_switch.specs.declared.session.Session.{Session}
-use Rattle.command_io.specs.declared.input.Input.{Input}
+use Rattle.command_io.specs.declared.input.ScriptInput.{ScriptInput}
 use Rattle.command_line.specs.declared.console_order.ConsoleOrder.{ConsoleOrder}
 use Rattle.command_io.specs.Saving.{images_of}
 use Rattle.command_console.specs.Console.{HasRun, OpensFor}
@@ -21,7 +21,7 @@ use Rattle.shared_disk.specs.declared.store.Record.{Record}
 
 -- ---- places are added
 
-pub opens_later : {D S : Type 0} (input : Input) (a b : Session D S) → OpensFor input a → AddsPlaces a b → OpensFor input b
+pub opens_later : {D S : Type 0} (input : ScriptInput) (a b : Session D S) → OpensFor input a → AddsPlaces a b → OpensFor input b
 opens_later input a b o p = record {
   records = o.records;
   may_fail = o.may_fail;
@@ -46,7 +46,7 @@ open_later ends a b o p = record {
 -- ---- and disks are saved
 
 pub has_run : {R W N : Type 0} (remaining : R → Option (List ℕ)) (contents : W → Option (List ℕ)) (notes : N → Option (List ℕ))
-    (order : ConsoleOrder) (input : Input) (streams : Streams R W N) (first : Session Mirrored Teller) (records : List Record)
+    (order : ConsoleOrder) (input : ScriptInput) (streams : Streams R W N) (first : Session Mirrored Teller) (records : List Record)
     (end : HostsEnd) (writer : W) (beside : N) → OpensFor input first →
     HasSat remaining contents notes order.escape input.script.lines.items first streams records end writer beside →
     (mark drives : List ℕ) → mark ≡ string_bytes order.mark → drives ≡ order.saved.items → (new : W) →

@@ -8,7 +8,7 @@ use Rattle.outside_switch.specs.LoopRuns.{Ended}
 use Rattle.outside_switch.specs.declared.session.HostsEnd.{HostsEnd}
 use Rattle.outside_switch.specs.declared.session.Session.{Session}
 use Rattle.command_io.specs.Inputs.{IsInput}
-use Rattle.command_io.specs.declared.input.Input.{Input}
+use Rattle.command_io.specs.declared.input.ScriptInput.{ScriptInput}
 use Rattle.command_line.specs.declared.console_order.ConsoleOrder.{ConsoleOrder}
 use Rattle.command_io.specs.Saving.{images_of}
 use Rattle.command_console.specs.Attached.{HasAttached}
@@ -23,7 +23,7 @@ use Rattle.shared_disk.specs.Records.{IsAtBoot}
 use Rattle.shared_disk.specs.declared.store.Record.{Record}
 
 -- an outside at whose devices nothing has happened yet, and that has heard no host, over the disk of an input
-pub record OpensFor {D S : Type 0} (input : Input) (first : Session D S) : Type 0 where
+pub record OpensFor {D S : Type 0} (input : ScriptInput) (first : Session D S) : Type 0 where
   pub records : List Record
   pub may_fail : Option ℕ
   pub boots : IsAtBoot records input.script.setup.guest.drives input.sectors.items
@@ -34,7 +34,7 @@ pub record OpensFor {D S : Type 0} (input : Input) (first : Session D S) : Type 
 -- An outside has opened for an input, and gone on to its end. What was typed and seen meanwhile is what passed between its devices and
 -- the user; and the disks that are saved are as they were at the end.
 pub record HasRun {R W N : Type 0} (remaining : R → Option (List ℕ)) (contents : W → Option (List ℕ))
-    (notes : N → Option (List ℕ)) (order : ConsoleOrder) (input : Input) (streams : Streams R W N) (end : HostsEnd) : Type 0 where
+    (notes : N → Option (List ℕ)) (order : ConsoleOrder) (input : ScriptInput) (streams : Streams R W N) (end : HostsEnd) : Type 0 where
   pub first : Session Mirrored Teller
   pub opens : OpensFor input first
   pub last : Session Mirrored Teller
@@ -58,8 +58,8 @@ pub record HasServed {R W N : Type 0} (remaining : R → Option (List ℕ)) (con
   pub read : Consumes (remaining streams.reader) (remaining after.reader) opening
   pub writer_is : after.writer ≡ streams.writer
   pub greeted : Appends (notes streams.notes) (notes after.notes) (greeting_of order.escape)
-  pub input : Input
+  pub input : ScriptInput
   pub says : IsInput live_script_of order.images.items (Some opening) input
-  pub attached : Input
+  pub attached : ScriptInput
   pub files : HasAttached order.attached.items input attached
   pub run : HasRun remaining contents notes order attached after end

@@ -1,7 +1,7 @@
 -- The lines that tell of a pair.
 use Rattle.std.specs.Prelude.{ℕ, nat_lt, if◌then◌else◌, List, [], ◌++◌, codes}
 use Rattle.std.specs.Fmt.{decimal}
-use Rattle.command_console.specs.declared.line.Line.{Line}
+use Rattle.command_console.specs.declared.line.PairLine.{PairLine}
 
 -- this host has failed, and that one asks the arbiter
 abbrev pub asks_text : ℕ → ℕ → List ℕ
@@ -23,15 +23,15 @@ begins_text generation primary backup =
     ++ (decimal backup ++ (codes " its backup" ++ whole_text generation))))))
 
 -- each line
-abbrev pub line_text : Line → List ℕ
-line_text (Line.Asks failed host) = asks_text failed host
-line_text (Line.Won host) = codes "host " ++ (decimal host ++ codes " has won, and goes on alone")
-line_text (Line.Copies host) = copies_text host
-line_text (Line.Lost host) = codes "host " ++ (decimal host ++ codes " has failed before it had the machine")
-line_text (Line.CutOff host) = codes "host " ++ (decimal host ++ codes " is cut off: it has sent what no host sends")
-line_text (Line.Flooded host) = codes "host " ++ (decimal host ++ codes " is cut off: it has sent too much")
-line_text (Line.Begins generation primary backup) = begins_text generation primary backup
-line_text (Line.Alone host) = codes "no spare host is left; host "
+abbrev pub line_text : PairLine → List ℕ
+line_text (PairLine.Asks failed host) = asks_text failed host
+line_text (PairLine.Won host) = codes "host " ++ (decimal host ++ codes " has won, and goes on alone")
+line_text (PairLine.Copies host) = copies_text host
+line_text (PairLine.Lost host) = codes "host " ++ (decimal host ++ codes " has failed before it had the machine")
+line_text (PairLine.CutOff host) = codes "host " ++ (decimal host ++ codes " is cut off: it has sent what no host sends")
+line_text (PairLine.Flooded host) = codes "host " ++ (decimal host ++ codes " is cut off: it has sent too much")
+line_text (PairLine.Begins generation primary backup) = begins_text generation primary backup
+line_text (PairLine.Alone host) = codes "no spare host is left; host "
     ++ (decimal host ++ codes " goes on without a backup until `spare` brings one")
-line_text (Line.Unwritten host) = codes "a write of host "
+line_text (PairLine.Unwritten host) = codes "a write of host "
     ++ (decimal host ++ codes " is not on its disk, whose file has failed; it is tried again")

@@ -2,7 +2,7 @@
 use Rattle.std.specs.Prelude.{ℕ, ◌==◌, Bool, true, false, not, if◌then◌else◌, Option, Some, None}
 use Rattle.outside_switch.specs.declared.steward.HostEvent.{HostEvent}
 use Rattle.outside_switch.specs.declared.steward.HostEvent.TheVariants.{Alone, Became, Failed, Flooded, Gone, Joins, Unwritten, Won}
-use Rattle.command_console.specs.declared.line.Line.{Line}
+use Rattle.command_console.specs.declared.line.PairLine.{PairLine}
 use Rattle.command_console.specs.declared.story.Story.{Story}
 use Rattle.pair_events.specs.declared.reply.Role.TheVariants.{Backup, Primary}
 
@@ -26,32 +26,32 @@ story_after place Gone s = if is_at place s.joining then record s { joining = No
 story_after place Unwritten s = record s { is_unwritten = true }
 story_after place event s = s
 
-abbrev begins_with : ℕ → Option ℕ → Option ℕ → Option Line
-begins_with generation (Some primary) (Some backup) = Some (Line.Begins generation primary backup)
+abbrev begins_with : ℕ → Option ℕ → Option ℕ → Option PairLine
+begins_with generation (Some primary) (Some backup) = Some (PairLine.Begins generation primary backup)
 begins_with generation _ _ = None
 
 -- two hosts have the machine
-abbrev pub begins : Story → Option Line
+abbrev pub begins : Story → Option PairLine
 begins s = begins_with s.generation s.primary s.backup
 
 -- the line that tells of it
-abbrev pub line_of : ℕ → HostEvent → Story → Option Line
+abbrev pub line_of : ℕ → HostEvent → Story → Option PairLine
 line_of place (Became generation (Some Primary)) s = begins (story_after place (Became generation (Some Primary)) s)
 line_of place (Became generation (Some Backup)) s = begins (story_after place (Became generation (Some Backup)) s)
-line_of place (Won generation) s = Some (Line.Won place)
-line_of place (Joins generation) s = if is_at place s.joining then None else Some (Line.Copies place)
-line_of place Failed s = Some (Line.CutOff place)
-line_of place Flooded s = Some (Line.Flooded place)
-line_of place Gone s = if is_at place s.joining then Some (Line.Lost place) else None
-line_of place Alone s = if s.is_alone then None else Some (Line.Alone place)
-line_of place Unwritten s = if s.is_unwritten then None else Some (Line.Unwritten place)
+line_of place (Won generation) s = Some (PairLine.Won place)
+line_of place (Joins generation) s = if is_at place s.joining then None else Some (PairLine.Copies place)
+line_of place Failed s = Some (PairLine.CutOff place)
+line_of place Flooded s = Some (PairLine.Flooded place)
+line_of place Gone s = if is_at place s.joining then Some (PairLine.Lost place) else None
+line_of place Alone s = if s.is_alone then None else Some (PairLine.Alone place)
+line_of place Unwritten s = if s.is_unwritten then None else Some (PairLine.Unwritten place)
 line_of place event s = None
 
-abbrev pub asks : Option ℕ → ℕ → Option Line
+abbrev pub asks : Option ℕ → ℕ → Option PairLine
 asks None place = None
-asks (Some failed) place = Some (Line.Asks failed place)
+asks (Some failed) place = Some (PairLine.Asks failed place)
 
 -- and the one before it: who has failed if a host has won
-abbrev pub first_line : ℕ → HostEvent → Story → Option Line
+abbrev pub first_line : ℕ → HostEvent → Story → Option PairLine
 first_line place (Won generation) s = if is_at place s.primary then asks s.backup place else asks s.primary place
 first_line place event s = None

@@ -16,7 +16,7 @@ use crate::store::mirrored_store;
 use crate::supervisor::Supervisor;
 use crate::teller::Teller;
 use crate::{Pipes, add_places, read_opening};
-use command_io::{Failure, Input, Language, read_input, save_disks};
+use command_io::{Failure, Language, ScriptInput, read_input, save_disks};
 use command_line::ConsoleOrder;
 use console_terminal::{Keyboard, Screen, Signs, greeting};
 use disk_file::{DriveFiles, FileDevice};
@@ -117,7 +117,7 @@ fn run_input<
     files: HostRuntime,
     alloc: Global,
     order: &ConsoleOrder,
-    opening: (Input, Arc<Vec<u8>>),
+    opening: (ScriptInput, Arc<Vec<u8>>),
     attached: Files,
     streams: Streams<R, W, N>,
 ) -> Result<HostsEnd, Failure>
@@ -132,7 +132,7 @@ fn run_input<
         supervisor,
         signs,
     } = prepared;
-    let Input { script, .. } = input;
+    let ScriptInput { script, .. } = input;
     let Script { lines, .. } = script;
     let wake = Arc::new(alloc, Parker::new())?;
     let pipes = Pipes {
@@ -211,7 +211,7 @@ struct Prepared {
 fn prepare(
     alloc: Global,
     order: &ConsoleOrder,
-    input: &Input,
+    input: &ScriptInput,
     drives: DriveFiles<FileDevice>,
 ) -> R<Prepared>
     ensures opens { IfOk result (λ p. OpensFor input.now p.session) }

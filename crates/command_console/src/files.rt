@@ -3,7 +3,7 @@ ghost use Rattle.std.specs.Prelude.{◌≡◌, IfOk};
 ghost use Rattle.command_console.specs.Attached.{HasAttached};
 ghost use Rattle.disk_file.specs.Names.{AreInFiles};
 
-use command_io::{Failure, Input};
+use command_io::{Failure, ScriptInput};
 use command_line::ConsoleOrder;
 use disk_dcdd::SectorWrite;
 use disk_file::{
@@ -26,8 +26,8 @@ pub(crate) fn attach(
     alloc: Global,
     files: &HostRuntime,
     order: &ConsoleOrder,
-    input: Input,
-) -> Result<(Input, Files), Failure>
+    input: ScriptInput,
+) -> Result<(ScriptInput, Files), Failure>
     ensures sectors { IfOk result (λ r. HasAttached order.now.attached.items input r.0) }
     ensures files { IfOk result (λ r. AreInFiles order.now.attached.items r.1.drives) }
 {
@@ -45,7 +45,7 @@ fn open_files(
     alloc: Global,
     files: &HostRuntime,
     order: &ConsoleOrder,
-    input: &Input,
+    input: &ScriptInput,
 ) -> Result<Attached, Failure>
     ensures { IfOk result (λ attached. AreInFiles order.now.attached.items attached.drives) }
 {
@@ -83,9 +83,9 @@ fn refusal(alloc: Global, name: &str, why: &OpenError) -> Failure {
 // An input with these sectors after its own, if each of them is of a drive that has a file.
 fn with_sectors(
     order: &ConsoleOrder,
-    input: Input,
+    input: ScriptInput,
     sectors: &[SectorWrite],
-) -> Result<Input, Failure>
+) -> Result<ScriptInput, Failure>
     ensures { IfOk result (HasAttached order.now.attached.items input) }
 {
     if !are_named(&order.attached, sectors) {

@@ -7,7 +7,7 @@ use std::fmt;
 
 /// A line about a pair.
 #[derive(Clone, Copy, PartialEq, Eq)]
-pub(crate) enum Line {
+pub(crate) enum PairLine {
     /// This host has failed, and that one asks the arbiter.
     Asks {
         failed: u32,
@@ -49,18 +49,18 @@ pub(crate) enum Line {
     },
 }
 
-impl fmt::Display for Line {
+impl fmt::Display for PairLine {
     ghost output = { λ line. Some (line_text line) };
 
     fn fmt<W: fmt::Write>(&self, f: &mut fmt::Formatter<W>) -> fmt::Result {
         match *self {
-            Line::Asks { failed, host } => write_asks(f, failed, host),
-            Line::Won { host } => write_host(f, "host ", host, " has won, and goes on alone"),
-            Line::Copies { host } => write_copies(f, host),
-            Line::Lost { host } => {
+            PairLine::Asks { failed, host } => write_asks(f, failed, host),
+            PairLine::Won { host } => write_host(f, "host ", host, " has won, and goes on alone"),
+            PairLine::Copies { host } => write_copies(f, host),
+            PairLine::Lost { host } => {
                 write_host(f, "host ", host, " has failed before it had the machine")
             }
-            Line::CutOff { host } => {
+            PairLine::CutOff { host } => {
                 write_host(
                     f,
                     "host ",
@@ -68,21 +68,21 @@ impl fmt::Display for Line {
                     " is cut off: it has sent what no host sends",
                 )
             }
-            Line::Flooded { host } => {
+            PairLine::Flooded { host } => {
                 write_host(f, "host ", host, " is cut off: it has sent too much")
             }
-            Line::Begins {
+            PairLine::Begins {
                 generation,
                 primary,
                 backup,
             } => write_begins(f, generation, primary, backup),
-            Line::Alone { host } => write_host(
+            PairLine::Alone { host } => write_host(
                 f,
                 "no spare host is left; host ",
                 host,
                 " goes on without a backup until `spare` brings one",
             ),
-            Line::Unwritten { host } => write_host(
+            PairLine::Unwritten { host } => write_host(
                 f,
                 "a write of host ",
                 host,

@@ -3,7 +3,7 @@ ghost use Rattle.std.specs.Prelude.{◌≡◌};
 ghost use Rattle.command_console.specs.Seats.{seat_at};
 
 use host_frames::Report;
-use outside_switch::{Fate, HostLine};
+use outside_switch::{HostLine, LinkState};
 use std::alloc::Global;
 use std::sync::Mutex;
 use std::sync::atomic::{AtomicBool, AtomicU64, Ordering};
@@ -68,13 +68,14 @@ impl Seats {
     }
 
     /// From now on this becomes of packets.
-    pub(crate) fn set_fate(&self, fate: Fate) {
+    pub(crate) fn set_fate(&self, fate: LinkState) {
         let percent = match fate {
-            Fate::Loses(percent) => u64::from(percent),
-            Fate::Passes | Fate::Parts => 0,
+            LinkState::Loses(percent) => u64::from(percent),
+            LinkState::Passes | LinkState::Parts => 0,
         };
         self.percent.store(percent, Ordering::SeqCst);
-        self.is_parted.store(fate == Fate::Parts, Ordering::SeqCst);
+        self.is_parted
+            .store(fate == LinkState::Parts, Ordering::SeqCst);
     }
 
     /// From now on the guest makes at most so many steps a second; with 0 as many as it can.
@@ -88,13 +89,13 @@ impl Seats {
     }
 
     /// What becomes of packets.
-    pub(crate) fn fate(&self) -> Fate {
+    pub(crate) fn fate(&self) -> LinkState {
         if self.is_parted.load(Ordering::SeqCst) {
-            return Fate::Parts;
+            return LinkState::Parts;
         }
         match u8::try_from(self.percent.load(Ordering::SeqCst)) {
-            Ok(0) | Err(_) => Fate::Passes,
-            Ok(percent) => Fate::Loses(percent),
+            Ok(0) | Err(_) => LinkState::Passes,
+            Ok(percent) => LinkState::Loses(percent),
         }
     }
 }

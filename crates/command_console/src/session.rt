@@ -17,8 +17,8 @@ use crate::teller::Teller;
 use crate::waking::WakingKeys;
 use command_io::Failure;
 use console_terminal::{
-    Desk, Display, Ending, Interpreter, KeySource, Keyboard, Listener, Note, Port, Shown, Signs,
-    Stroke, TerminalKeys,
+    Desk, Display, DisplayNote, Ending, Interpreter, KeySource, Keyboard, Listener, Port, Shown,
+    Signs, Stroke, TerminalKeys,
 };
 use outside_switch::{HostsEnd, Quit, Session, SessionParts, run_hosts};
 use rtrb::{Consumer, Producer};
@@ -41,7 +41,7 @@ pub(crate) struct Ends {
     /// Where the bytes come from that the terminals have accepted.
     pub(crate) shown: Consumer<Shown>,
     /// Where notes on commands go, and where they come from.
-    pub(crate) notes: (Producer<Note>, Consumer<Note>),
+    pub(crate) notes: (Producer<DisplayNote>, Consumer<DisplayNote>),
     /// Where lines about the hosts come from.
     pub(crate) lines: Consumer<String>,
 }

@@ -4,7 +4,7 @@ ghost use Rattle.disk_file.specs.Drives.{all_records};
 ghost use Rattle.shared_disk.specs.Records.{HasWholeSectors, IsAtBoot, IsUnwritten};
 
 use crate::mirror::{Mirror, Mirrored, Shelf};
-use command_io::Input;
+use command_io::ScriptInput;
 use disk_file::{DriveFiles, FileDevice};
 use i8080_words::{Fault, R};
 use rtrb::RingBuffer;
@@ -18,7 +18,7 @@ const WRITES: usize = 1_024;
 /// The records of an input at boot, which are those of these drives, and where their copy is. `Unknown` if the drives have others.
 pub(crate) fn mirrored_store(
     alloc: Global,
-    input: &Input,
+    input: &ScriptInput,
     drives: DriveFiles<FileDevice>,
 ) -> R<(Mirrored, Arc<Shelf>)>
     ensures at_boot { IfOk result (λ r. IsAtBoot (all_records r.0.store) input.now.script.setup.guest.drives input.now.sectors.items) }
@@ -39,7 +39,7 @@ pub(crate) fn mirrored_store(
 
 // These drives, if they have just the records of an input at boot, as these are.
 fn checked(
-    input: &Input,
+    input: &ScriptInput,
     drives: DriveFiles<FileDevice>,
     boot: &mut MemoryStore,
 ) -> R<DriveFiles<FileDevice>>
@@ -58,7 +58,7 @@ fn checked(
 }
 
 // The records of an input at boot.
-fn store_of(alloc: Global, input: &Input) -> R<MemoryStore>
+fn store_of(alloc: Global, input: &ScriptInput) -> R<MemoryStore>
     ensures at_boot { IfOk result (λ store. IsAtBoot store input.now.script.setup.guest.drives input.now.sectors.items) }
     ensures unwritten { IfOk result (λ store. IsUnwritten store) }
     ensures whole { IfOk result (λ store. HasWholeSectors store) }

@@ -2,7 +2,7 @@
 ghost use Rattle.std.specs.Prelude.{◌≡◌};
 ghost use Rattle.command_console.specs.Stories.{asks, begins, began, first_line, line_of, story_after};
 
-use crate::line::Line;
+use crate::line::PairLine;
 use outside_switch::HostEvent;
 use pair_events::Role;
 
@@ -90,29 +90,29 @@ impl Story {
     }
 
     /// The line that tells of it, if there is one.
-    pub(crate) fn line_of(self, place: u8, event: HostEvent) -> Option<Line>
+    pub(crate) fn line_of(self, place: u8, event: HostEvent) -> Option<PairLine>
         ensures { result ≡ line_of place event self }
     {
         let host = u32::from(place);
         match event {
             HostEvent::Became(_, Some(Role::Primary)) => self.after(place, event).begins(),
             HostEvent::Became(_, Some(Role::Backup)) => self.after(place, event).begins(),
-            HostEvent::Won(_) => Some(Line::Won { host }),
-            HostEvent::Joins(_) if self.joining != Some(place) => Some(Line::Copies { host }),
-            HostEvent::Failed => Some(Line::CutOff { host }),
-            HostEvent::Flooded => Some(Line::Flooded { host }),
-            HostEvent::Gone if self.joining == Some(place) => Some(Line::Lost { host }),
-            HostEvent::Alone if !self.is_alone => Some(Line::Alone { host }),
-            HostEvent::Unwritten if !self.is_unwritten => Some(Line::Unwritten { host }),
+            HostEvent::Won(_) => Some(PairLine::Won { host }),
+            HostEvent::Joins(_) if self.joining != Some(place) => Some(PairLine::Copies { host }),
+            HostEvent::Failed => Some(PairLine::CutOff { host }),
+            HostEvent::Flooded => Some(PairLine::Flooded { host }),
+            HostEvent::Gone if self.joining == Some(place) => Some(PairLine::Lost { host }),
+            HostEvent::Alone if !self.is_alone => Some(PairLine::Alone { host }),
+            HostEvent::Unwritten if !self.is_unwritten => Some(PairLine::Unwritten { host }),
             _ => None,
         }
     }
 
     // That two hosts have the machine, if they do.
-    fn begins(self) -> Option<Line>
+    fn begins(self) -> Option<PairLine>
         ensures { result ≡ begins self }
     {
-        Some(Line::Begins {
+        Some(PairLine::Begins {
             generation: self.generation,
             primary: u32::from(self.primary?),
             backup: u32::from(self.backup?),
@@ -120,7 +120,7 @@ impl Story {
     }
 
     /// The line that comes before that one, if there is one: who has failed, if the host at a place has won.
-    pub(crate) fn first_line(self, place: u8, event: HostEvent) -> Option<Line>
+    pub(crate) fn first_line(self, place: u8, event: HostEvent) -> Option<PairLine>
         ensures { result ≡ first_line place event self }
     {
         match event {
@@ -132,10 +132,10 @@ impl Story {
 }
 
 // That a host asks since another one has failed, if it is known which.
-fn asks(failed: Option<u8>, place: u8) -> Option<Line>
+fn asks(failed: Option<u8>, place: u8) -> Option<PairLine>
     ensures { result ≡ asks failed place }
 {
-    Some(Line::Asks {
+    Some(PairLine::Asks {
         failed: u32::from(failed?),
         host: u32::from(place),
     })

@@ -8,7 +8,7 @@ use crate::mirror::Shelf;
 use crate::seats::{Seat, Seats};
 use console_terminal::{Command, HELP, Interpreter, path_in, rest_in};
 use host_frames::Report;
-use outside_switch::Fate;
+use outside_switch::LinkState;
 use pair_events::Role;
 use std::alloc::{AllocError, Global};
 use std::sync::Arc;
@@ -118,11 +118,11 @@ impl Supervisor {
     // What becomes of packets between hosts.
     fn link(&self) -> Result<String, AllocError> {
         match self.seats.fate() {
-            Fate::Passes => format!(in self.alloc; "the link loses 0 of 100 packets"),
-            Fate::Loses(percent) => {
+            LinkState::Passes => format!(in self.alloc; "the link loses 0 of 100 packets"),
+            LinkState::Loses(percent) => {
                 format!(in self.alloc; "the link loses {percent} of 100 packets")
             }
-            Fate::Parts => {
+            LinkState::Parts => {
                 format!(in self.alloc;
                     "the link loses every packet, and the hosts do not see each other"
                 )
@@ -237,14 +237,14 @@ impl Interpreter for Supervisor {
 }
 
 // What becomes of packets after a command about it.
-fn fate_of(command: Command) -> Option<Fate>
+fn fate_of(command: Command) -> Option<LinkState>
     ensures { result ≡ fate_of command }
 {
     match command {
-        Command::Cut => Some(Fate::Loses(100)),
-        Command::Mend => Some(Fate::Passes),
-        Command::Drop(percent) => Some(Fate::Loses(percent)),
-        Command::Part => Some(Fate::Parts),
+        Command::Cut => Some(LinkState::Loses(100)),
+        Command::Mend => Some(LinkState::Passes),
+        Command::Drop(percent) => Some(LinkState::Loses(percent)),
+        Command::Part => Some(LinkState::Parts),
         _ => None,
     }
 }

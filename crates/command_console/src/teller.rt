@@ -2,11 +2,11 @@
 ghost use Rattle.std.specs.Prelude.{◌≡◌, IfOk, string_bytes};
 ghost use Rattle.command_console.specs.Telling.{handed_text, shown_text, told_as};
 
-use crate::line::Line;
+use crate::line::PairLine;
 use crate::seats::Seats;
 use crate::story::Story;
 use console_terminal::Signs;
-use outside_switch::{Fate, HostEvent, HostLine, Steward};
+use outside_switch::{HostEvent, HostLine, LinkState, Steward};
 use rtrb::Producer;
 use std::alloc::{AllocError, Global};
 use std::sync::Arc;
@@ -47,7 +47,7 @@ impl Teller {
     }
 
     // Sends a line, if there is one. It is lost if memory is refused for it, or if the ring is full.
-    fn send(&mut self, line: Option<Line>) -> bool {
+    fn send(&mut self, line: Option<PairLine>) -> bool {
         let Some(line) = line else {
             return true;
         };
@@ -80,13 +80,13 @@ impl Steward for Teller {
         self.seats.speed()
     }
 
-    fn fate(&mut self) -> Fate {
+    fn fate(&mut self) -> LinkState {
         self.seats.fate()
     }
 }
 
 // How a line is told, by the mark between which lines are handed over; an empty one if they are written as they are read.
-fn text_of_line(alloc: Global, mark: &str, line: Line) -> Result<String, AllocError>
+fn text_of_line(alloc: Global, mark: &str, line: PairLine) -> Result<String, AllocError>
     ensures { IfOk result (λ text. string_bytes text ≡ told_as mark.now line) }
 {
     if mark.is_empty() {
@@ -97,14 +97,14 @@ fn text_of_line(alloc: Global, mark: &str, line: Line) -> Result<String, AllocEr
 }
 
 // How a line is written at a terminal that takes each byte as it is.
-fn shown(alloc: Global, line: Line) -> Result<String, AllocError>
+fn shown(alloc: Global, line: PairLine) -> Result<String, AllocError>
     ensures { IfOk result (λ text. string_bytes text ≡ shown_text line) }
 {
     format!(in alloc; "\r\npair: {line}\r\n")
 }
 
 // How it is handed over to the command that shows it.
-fn handed_over(alloc: Global, mark: &str, line: Line) -> Result<String, AllocError>
+fn handed_over(alloc: Global, mark: &str, line: PairLine) -> Result<String, AllocError>
     ensures { IfOk result (λ text. string_bytes text ≡ handed_text mark.now line) }
 {
     format!(in alloc; "{mark}{mark}pair: {line}{mark}")

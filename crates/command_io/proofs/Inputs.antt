@@ -6,7 +6,7 @@ use Rattle.command_io.specs.declared.failure.Failure.{Failure}
 use Rattle.command_io.specs.declared.failure.Failure.TheVariants as failure
 use Rattle.command_io.specs.Images.{ComeFirst}
 use Rattle.command_io.specs.Inputs.{ReadsInput, RefusesInput, with_drives}
-use Rattle.command_io.specs.declared.input.Input.{Input}
+use Rattle.command_io.specs.declared.input.ScriptInput.{ScriptInput}
 use Rattle.disk_dcdd.specs.declared.sector.SectorWrite.{SectorWrite}
 use Rattle.script_language.specs.Booting.{boot_of}
 use Rattle.script_language.specs.Scripts.{boot_write}
@@ -30,7 +30,7 @@ module _ (meaning : Meaning) (drives : List ℕ) (remaining : Option (List ℕ))
   refuses first rest failure.Differs come read = read
 
   -- a script that is read
-  pub reads : (first : List SectorWrite) (rest : Option (List ℕ)) (script : Script) (input : Input)
+  pub reads : (first : List SectorWrite) (rest : Option (List ℕ)) (script : Script) (input : ScriptInput)
       → ComeFirst drives first remaining rest → Reads meaning rest (Ok script)
       → input.script.lines.items ≡ script.lines.items → boot_of input.script.setup ≡ with_drives drives (boot_of script.setup)
       → input.sectors.items ≡ first ++ map boot_write input.script.setup.sectors.items

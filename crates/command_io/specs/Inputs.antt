@@ -5,7 +5,7 @@ use Rattle.command_io.specs.Scripts.{BytesSay, Meaning}
 use Rattle.command_io.specs.declared.failure.Failure.{Failure}
 use Rattle.command_io.specs.declared.failure.Failure.TheVariants.{BadScript, OutOfMemory, InputOrOutput}
 use Rattle.command_io.specs.Images.{ComeFirst}
-use Rattle.command_io.specs.declared.input.Input.{Input}
+use Rattle.command_io.specs.declared.input.ScriptInput.{ScriptInput}
 use Rattle.command_io.specs.declared.input.Language.{Language}
 use Rattle.command_io.specs.declared.input.Language.TheVariants.{Any, Threads}
 use Rattle.disk_dcdd.specs.declared.sector.SectorWrite.{SectorWrite}
@@ -32,7 +32,7 @@ with_drives drives boot = record boot { drives = drives_with drives boot.drives 
 
 -- The images of these drives come first, and a script after them. Its drives and these are attached; at boot the disks have
 -- the sectors of the images, and then those that the script says.
-pub record IsInput (meaning : Meaning) (drives : List ℕ) (remaining : Option (List ℕ)) (input : Input) : Type 0 where
+pub record IsInput (meaning : Meaning) (drives : List ℕ) (remaining : Option (List ℕ)) (input : ScriptInput) : Type 0 where
   pub first : List SectorWrite
   pub rest : Option (List ℕ)
   pub images : ComeFirst drives first remaining rest
@@ -56,6 +56,6 @@ RefusesInput meaning drives remaining InputOrOutput = Unit {0}
 RefusesInput meaning drives remaining failure = ⊥
 
 -- an input is read, or none
-abbrev pub ReadsInput : Meaning → List ℕ → Option (List ℕ) → Result Input Failure → Type 0
+abbrev pub ReadsInput : Meaning → List ℕ → Option (List ℕ) → Result ScriptInput Failure → Type 0
 ReadsInput meaning drives remaining (Ok input) = IsInput meaning drives remaining input
 ReadsInput meaning drives remaining (Err failure) = RefusesInput meaning drives remaining failure

@@ -2,10 +2,10 @@
 use Rattle.std.specs.Prelude.{◌≡◌, ℕ, Option, List, IfSome, string_bytes}
 use Rattle.std.specs.Fmt.{with_newline}
 use Rattle.std.specs.Io.KnownBytes.{Appends, append_known}
-use Rattle.command_io.specs.declared.report.Report.{Report}
+use Rattle.command_io.specs.declared.report.LineReport.{LineReport}
 
 -- all that was handed in: what the writer holds, if that is known, and then what is gathered for it
-abbrev pub handed : Option (List ℕ) → Report → Option (List ℕ)
+abbrev pub handed : Option (List ℕ) → LineReport → Option (List ℕ)
 handed contents report = append_known contents (string_bytes report.lines)
 
 -- one more line was handed in, with the text of what is shown

@@ -15,7 +15,7 @@ use std::io::Read;
 
 /// A script, and the sectors of its disks at boot. Of two for one place the later counts.
 #[derive(Drop)]
-pub struct Input {
+pub struct ScriptInput {
     pub script: Script,
     pub sectors: Vec<SectorWrite>,
 }
@@ -37,7 +37,7 @@ pub fn read_input<R: Read + Drop>(
     language: Language,
     drives: &[u8],
     reader: &mut R,
-) -> Result<Input, Failure>
+) -> Result<ScriptInput, Failure>
     ensures { ReadsInput (meaning_of language) drives.now (R.remaining reader.old) result }
 {
     let sectors = read_images(alloc, drives, reader)?;
@@ -75,7 +75,7 @@ fn booting(
     drives: &[u8],
     images: Vec<SectorWrite>,
     script: Script,
-) -> Result<Input, AllocError>
+) -> Result<ScriptInput, AllocError>
     ensures lines { IfOk result (λ input. input.script.lines.items ≡ script.lines.items) }
     ensures boot { IfOk result (λ input.
         boot_of input.script.setup ≡ with_drives drives.now (boot_of script.setup)) }
@@ -86,7 +86,7 @@ fn booting(
     let mut sectors = images;
     put_each(&mut sectors, &script.setup.sectors)?;
     script.setup.guest.drives = drives_with(drives, script.setup.guest.drives);
-    Ok(Input { script, sectors })
+    Ok(ScriptInput { script, sectors })
 }
 
 // Adds the sectors that lines of a script say.

@@ -10,6 +10,6 @@ mod saving;
 
 pub use failure::Failure;
 pub use images::{IMAGE_BYTES, read_images};
-pub use input::{Input, Language, read_input};
-pub use report::Report;
+pub use input::{Language, ScriptInput, read_input};
+pub use report::LineReport;
 pub use saving::{are_attached, images_of, save_disks};

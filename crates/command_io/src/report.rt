@@ -20,19 +20,19 @@ const TURNS: u64 = 10_000;
 
 /// Lines for a writer: one by one at first, and many at a time once there are many; never a part of a line.
 #[derive(Drop)]
-pub struct Report {
+pub struct LineReport {
     lines: String,
     line: String,
     written: usize,
     turns: u64,
 }
 
-impl Report {
+impl LineReport {
     /// No lines yet.
-    pub fn new(alloc: Global) -> Report
+    pub fn new(alloc: Global) -> LineReport
         ensures { string_bytes result.lines ≡ [] }
     {
-        Report {
+        LineReport {
             lines: String::new(alloc),
             line: String::new(alloc),
             written: 0,

@@ -136,14 +136,17 @@ const HOST: (&str, &str) = (
 /// How clap takes the list of an option. Its contract says what it finds in words only if it leaves lists whole; what it tells of a
 /// refused list is of the piece that is wrong only if it has cut them.
 #[derive(Clone, Copy)]
-pub(crate) enum Lists {
+pub(crate) enum ListHandling {
     Whole,
     Cut,
 }
 
 /// The program with all its commands.
-pub(crate) fn pair_command<'a>(alloc: Global, lists: Lists) -> Result<Command<'a>, AllocError>
-    ensures { IfOk result (λ c. lists ≡ Lists.Whole → IsCommand pair_app c) }
+pub(crate) fn pair_command<'a>(
+    alloc: Global,
+    lists: ListHandling,
+) -> Result<Command<'a>, AllocError>
+    ensures { IfOk result (λ c. lists ≡ ListHandling.Whole → IsCommand pair_app c) }
 {
     let pair = with_script_commands(alloc, lists, program(alloc)?)?;
     let pair = pair.subcommand(plain_command(alloc, "lint", LINT))?;
@@ -170,10 +173,10 @@ fn program<'a>(alloc: Global) -> Result<Command<'a>, AllocError>
 // The program with its commands that run a script.
 fn with_script_commands<'a>(
     alloc: Global,
-    lists: Lists,
+    lists: ListHandling,
     program: Command<'a>,
 ) -> Result<Command<'a>, AllocError>
-    ensures { IfOk result (λ c. lists ≡ Lists.Whole → AddsScriptCommands program.entry c) }
+    ensures { IfOk result (λ c. lists ≡ ListHandling.Whole → AddsScriptCommands program.entry c) }
 {
     let pair = program.subcommand(script_command(alloc, lists, "script", SCRIPT)?)?;
     let pair = pair.subcommand(script_command(alloc, lists, "check", CHECK)?)?;
@@ -192,26 +195,26 @@ fn plain_command<'a>(alloc: Global, name: &'a str, told: (&'a str, &'a str)) -> 
 // A command that runs a script.
 fn script_command<'a>(
     alloc: Global,
-    lists: Lists,
+    lists: ListHandling,
     name: &'a str,
     told: (&'a str, &'a str),
 ) -> Result<Command<'a>, AllocError>
-    ensures { IfOk result (λ c. lists ≡ Lists.Whole → IsCommand (alone (command name.now script_options)) c) }
+    ensures { IfOk result (λ c. lists ≡ ListHandling.Whole → IsCommand (alone (command name.now script_options)) c) }
 {
     plain_command(alloc, name, told).arg(images(alloc, lists))
 }
 
 // The command that runs a pair on threads.
-fn live_command<'a>(alloc: Global, lists: Lists) -> Result<Command<'a>, AllocError>
-    ensures { IfOk result (λ c. lists ≡ Lists.Whole → IsCommand (alone (command (codes "live") live_options)) c) }
+fn live_command<'a>(alloc: Global, lists: ListHandling) -> Result<Command<'a>, AllocError>
+    ensures { IfOk result (λ c. lists ≡ ListHandling.Whole → IsCommand (alone (command (codes "live") live_options)) c) }
 {
     let live = with_turns(alloc, plain_command(alloc, "live", LIVE))?;
     with_link_and_disks(alloc, lists, live)
 }
 
 // The command that runs one host.
-fn host_command<'a>(alloc: Global, lists: Lists) -> Result<Command<'a>, AllocError>
-    ensures { IfOk result (λ c. lists ≡ Lists.Whole → IsCommand (alone (command (codes "host") host_options)) c) }
+fn host_command<'a>(alloc: Global, lists: ListHandling) -> Result<Command<'a>, AllocError>
+    ensures { IfOk result (λ c. lists ≡ ListHandling.Whole → IsCommand (alone (command (codes "host") host_options)) c) }
 {
     let host = plain_command(alloc, "host", HOST).arg(role(alloc, lists))?;
     host.arg(patience(alloc))?
@@ -227,8 +230,8 @@ fn disk_command<'a>(alloc: Global) -> Result<Command<'a>, AllocError>
 }
 
 // The command that runs a pair that one sits at.
-fn console_command<'a>(alloc: Global, lists: Lists) -> Result<Command<'a>, AllocError>
-    ensures { IfOk result (λ c. lists ≡ Lists.Whole → IsCommand (alone (command (codes "console") console_options)) c) }
+fn console_command<'a>(alloc: Global, lists: ListHandling) -> Result<Command<'a>, AllocError>
+    ensures { IfOk result (λ c. lists ≡ ListHandling.Whole → IsCommand (alone (command (codes "console") console_options)) c) }
 {
     let console = with_sitting(alloc, plain_command(alloc, "console", CONSOLE))?;
     let console = with_attached(alloc, console)?;
@@ -281,10 +284,10 @@ fn with_turns<'a>(alloc: Global, live: Command<'a>) -> Result<Command<'a>, Alloc
 // The command with its options for the link and the disks.
 fn with_link_and_disks<'a>(
     alloc: Global,
-    lists: Lists,
+    lists: ListHandling,
     command: Command<'a>,
 ) -> Result<Command<'a>, AllocError>
-    ensures { IfOk result (λ c. lists ≡ Lists.Whole → Adds link_and_disks command.entry c) }
+    ensures { IfOk result (λ c. lists ≡ ListHandling.Whole → Adds link_and_disks command.entry c) }
 {
     command
         .arg(link(alloc, lists))?
@@ -292,15 +295,15 @@ fn with_link_and_disks<'a>(
         .arg(saved(alloc, lists))
 }
 
-fn role<'a>(alloc: Global, lists: Lists) -> Arg<'a>
-    ensures { lists ≡ Lists.Whole → IsOption (by_default (codes "spare") (text_option (codes "role"))) result }
+fn role<'a>(alloc: Global, lists: ListHandling) -> Arg<'a>
+    ensures { lists ≡ ListHandling.Whole → IsOption (by_default (codes "spare") (text_option (codes "role"))) result }
 {
     let role = text(alloc, "role", "ROLE")
         .default_value("spare")
         .help(ROLE_HELP);
     match lists {
-        Lists::Whole => role,
-        Lists::Cut => role.value_parser(ValueParser::Names(ROLES)),
+        ListHandling::Whole => role,
+        ListHandling::Cut => role.value_parser(ValueParser::Names(ROLES)),
     }
 }
 
@@ -374,22 +377,22 @@ fn recover<'a>(alloc: Global) -> Arg<'a>
     text(alloc, "recover", "FILE").help(RECOVER_HELP)
 }
 
-fn link<'a>(alloc: Global, lists: Lists) -> Arg<'a>
-    ensures { lists ≡ Lists.Whole → IsOption (text_option (codes "link")) result }
+fn link<'a>(alloc: Global, lists: ListHandling) -> Arg<'a>
+    ensures { lists ≡ ListHandling.Whole → IsOption (text_option (codes "link")) result }
 {
     list(alloc, lists, "link", "FATES", FATES).help(
         "The fates of the packets, in order; the last is that of all others",
     )
 }
 
-fn images<'a>(alloc: Global, lists: Lists) -> Arg<'a>
-    ensures { lists ≡ Lists.Whole → IsOption (text_option (codes "images")) result }
+fn images<'a>(alloc: Global, lists: ListHandling) -> Arg<'a>
+    ensures { lists ≡ ListHandling.Whole → IsOption (text_option (codes "images")) result }
 {
     list(alloc, lists, "images", "DRIVES", DRIVES).help(IMAGES)
 }
 
-fn saved<'a>(alloc: Global, lists: Lists) -> Arg<'a>
-    ensures { lists ≡ Lists.Whole → IsOption (text_option (codes "saved")) result }
+fn saved<'a>(alloc: Global, lists: ListHandling) -> Arg<'a>
+    ensures { lists ≡ ListHandling.Whole → IsOption (text_option (codes "saved")) result }
 {
     list(alloc, lists, "saved", "DRIVES", DRIVES).help(SAVED)
 }
@@ -397,17 +400,17 @@ fn saved<'a>(alloc: Global, lists: Lists) -> Arg<'a>
 // An option whose value is a list of these names, with commas between them.
 fn list<'a>(
     alloc: Global,
-    lists: Lists,
+    lists: ListHandling,
     name: &'a str,
     value: &'a str,
     names: &'static [&'static str],
 ) -> Arg<'a>
-    ensures { lists ≡ Lists.Whole → IsOption (text_option name.now) result }
+    ensures { lists ≡ ListHandling.Whole → IsOption (text_option name.now) result }
 {
     let list = text(alloc, name, value);
     match lists {
-        Lists::Whole => list,
-        Lists::Cut => list
+        ListHandling::Whole => list,
+        ListHandling::Cut => list
             .value_delimiter(',')
             .value_parser(ValueParser::Names(names)),
     }

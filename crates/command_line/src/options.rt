@@ -6,7 +6,7 @@ ghost use Rattle.command_line.specs.Commands.{pair_app};
 ghost use Rattle.command_line.specs.Lists.{pieces_in};
 ghost use Rattle.command_line.specs.Orders.{Asks, AsksHelp, HasFound, IsAsked, IsConsoleOrdered, IsFlag, IsGiven, IsHostOrdered, IsOrdered, IsRefused, attached_in, command_word, drive_of, drives_in, fate_of, role_of, text_given};
 
-use crate::commands::{Lists, pair_command};
+use crate::commands::{ListHandling, pair_command};
 use crate::console_order::ConsoleOrder;
 use crate::host_order::{HostOrder, HostRole};
 use crate::lists::{given_in, lists_hold, pieces_in};
@@ -63,7 +63,7 @@ pub fn request_of(alloc: Global, arguments: &[String]) -> Result<Request, Failur
     ensures asked { IfOk result (IsAsked (map (λ word. string_bytes word) arguments.now)) }
     ensures refused { IfErr result (IsRefused (map (λ word. string_bytes word) arguments.now)) }
 {
-    match pair_command(alloc, Lists::Whole)?.try_get_matches_from(arguments) {
+    match pair_command(alloc, ListHandling::Whole)?.try_get_matches_from(arguments) {
         Ok(matches) => request_in(alloc, arguments, &matches),
         Err(error) => help_in(alloc, arguments, &error),
     }
@@ -391,7 +391,7 @@ fn refusal(alloc: Global, arguments: &[String]) -> Failure
 fn told_of(alloc: Global, arguments: &[String]) -> Result<String, Failure>
     ensures { IfErr result (λ e. e ≡ Failure.OutOfMemory) }
 {
-    match pair_command(alloc, Lists::Cut)?.try_get_matches_from(arguments) {
+    match pair_command(alloc, ListHandling::Cut)?.try_get_matches_from(arguments) {
         Ok(_) => Ok(String::from_str(alloc, UNTOLD)?),
         Err(error) => text_of(alloc, &error),
     }

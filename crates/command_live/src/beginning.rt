@@ -7,7 +7,7 @@ ghost use Rattle.command_io.specs.Typed.{typed_by, typed_in};
 ghost use Rattle.command_live.specs.Living.{AreTyped, BeginsAs};
 ghost use Rattle.shared_disk.specs.Records.{HasWholeSectors, IsAtBoot, IsUnwritten};
 
-use command_io::Input;
+use command_io::ScriptInput;
 use event_callbacks::{Callbacks, Completes};
 use guest_board::{Board, Setup};
 use i8080_words::R;
@@ -40,7 +40,7 @@ pub(crate) fn workers_of<
     alloc: Global,
     asked: Asked,
     link: Vec<Fate>,
-    input: &Input,
+    input: &ScriptInput,
     sent: T,
     sector: S,
     written: W,
@@ -73,7 +73,7 @@ pub(crate) fn workers_of<
 }
 
 // The disk of both nodes at boot.
-fn disk_of(alloc: Global, input: &Input) -> R<SharedDisk<MemoryStore>>
+fn disk_of(alloc: Global, input: &ScriptInput) -> R<SharedDisk<MemoryStore>>
     ensures at_boot { IfOk result (λ disk. IsAtBoot disk input.now.script.setup.guest.drives input.now.sectors.items) }
     ensures unwritten { IfOk result (λ disk. IsUnwritten disk) }
     ensures whole { IfOk result (λ disk. HasWholeSectors disk) }

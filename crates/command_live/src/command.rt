@@ -7,7 +7,7 @@ ghost use Rattle.command_live.specs.Living.{PrintsLive};
 ghost use Rattle.command_io.specs.Saving.{are_attached};
 
 use crate::live;
-use command_io::{Failure, Input, Report, are_attached};
+use command_io::{Failure, LineReport, ScriptInput, are_attached};
 use command_line::LiveOrder;
 use event_callbacks::plain_completions;
 use std::alloc::Global;
@@ -21,7 +21,7 @@ pub fn run_live<H: Threads + Clock + Sync, W: Write + Drop>(
     rt: &H,
     alloc: Global,
     order: LiveOrder,
-    input: &Input,
+    input: &ScriptInput,
     writer: &mut W,
 ) -> Result<(), Failure>
     ensures printed { PrintsLive input.now.script.setup input.now.sectors.items (typed_in 0 input.now.script.lines.items)
@@ -39,14 +39,14 @@ fn run_attached<H: Threads + Clock + Sync, W: Write + Drop>(
     rt: &H,
     alloc: Global,
     order: LiveOrder,
-    input: &Input,
+    input: &ScriptInput,
     writer: &mut W,
 ) -> Result<(), Failure>
     requires attached { IsTrue (are_attached input.now.script.setup.guest.drives order.saved.items) }
     ensures printed { PrintsLive input.now.script.setup input.now.sectors.items (typed_in 0 input.now.script.lines.items)
         (typed_in 1 input.now.script.lines.items) order result (W.contents writer.old) (W.contents writer.new) }
 {
-    let mut printed = Report::new(alloc);
+    let mut printed = LineReport::new(alloc);
     let ended = live::run(
         rt,
         alloc,

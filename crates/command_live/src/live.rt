@@ -9,7 +9,7 @@ ghost use Rattle.pair_threads.specs.Ending.{WonBy};
 
 use crate::beginning::{Asked, STEPS, workers_of};
 use altair_laws::altairs_are_lawful;
-use command_io::{Failure, Input, Report, images_of};
+use command_io::{Failure, LineReport, ScriptInput, images_of};
 use command_line::LiveOrder;
 use event_callbacks::Completes;
 use guest_board::Board;
@@ -70,8 +70,8 @@ pub(crate) fn run<
     rt: &H,
     alloc: Global,
     order: LiveOrder,
-    input: &Input,
-    report: &mut Report,
+    input: &ScriptInput,
+    report: &mut LineReport,
     writer: &mut O,
     sent: T,
     sector: S,
@@ -114,7 +114,7 @@ fn tell<B: Lockstep + Drop, O: Write + Drop>(
     alloc: Global,
     end: &mut GenerationEnd<B, MemoryStore>,
     saved: &[u8],
-    report: &mut Report,
+    report: &mut LineReport,
     writer: &mut O,
 ) -> Result<Vec<u8>, Failure>
     ensures { TellsScreens end.old.winner (map (λ v. v.items) end.old.accepted) end.old.disk saved.now result
@@ -154,7 +154,7 @@ fn generation<
     alloc: Global,
     asked: Asked,
     link: Vec<Fate>,
-    input: &Input,
+    input: &ScriptInput,
     sent: T,
     sector: S,
     written: W,

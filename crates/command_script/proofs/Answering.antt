@@ -17,8 +17,8 @@ use Rattle.command_script.specs.Printing.{AnswersBut, AnswersLines, HandsNone, I
 use Rattle.command_io.specs.Reports.{AddsLine}
 use Rattle.command_io.specs.declared.failure.Failure.{Failure}
 use Rattle.command_io.specs.declared.failure.Failure.TheVariants as failure
-use Rattle.command_script.specs.declared.order.Order.{Order}
-use Rattle.command_script.specs.declared.order.Order.TheVariants.{Script, Check}
+use Rattle.command_script.specs.declared.order.ScriptTask.{ScriptTask}
+use Rattle.command_script.specs.declared.order.ScriptTask.TheVariants.{Script, Check}
 use Rattle.altair_pair.specs.declared.verdict.Verdict.{Verdict}
 use Rattle.altair_pair.specs.declared.verdict.Verdict.TheVariants as verdict
 use Rattle.script_language.specs.declared.line.Line.{Line}
@@ -163,7 +163,7 @@ module _ (a b c : Option (List ℕ)) (first rest : List ℕ) (none : first ≡ [
   settled_but holds failure.Stalled h = h
   settled_but holds failure.Differs h = (h.0, settled_line a b c first rest none q _ h.1)
 
-  pub settled_prints : (order : Order) (setup : ScriptSetup) (sectors : List SectorWrite) (lines : List Line) (result : Result (Unit {0}) Failure)
+  pub settled_prints : (order : ScriptTask) (setup : ScriptSetup) (sectors : List SectorWrite) (lines : List Line) (result : Result (Unit {0}) Failure)
       → Prints order setup sectors lines result (append_known a first) (append_known b rest)
       → Prints order setup sectors lines result a c
   settled_prints Script setup sectors lines (Ok done) h = (
@@ -187,7 +187,7 @@ answers_residual M C w lines most (Ok done) e old new is h = absurd is
 answers_residual M C w lines most (Err k) e old new is h = subst (λ f. AnswersBut M C w lines most f old new) (sym is) h
 
 -- a run that prints nothing because it is out of memory
-pub prints_nothing : (order : Order) (setup : ScriptSetup) (sectors : List SectorWrite) (lines : List Line)
+pub prints_nothing : (order : ScriptTask) (setup : ScriptSetup) (sectors : List SectorWrite) (lines : List Line)
     (booted : Booted setup sectors)
     (result : Result (Unit {0}) Failure) (old new : Option (List ℕ)) → IsErrAnd result (λ e. e ≡ failure.OutOfMemory)
     → Keeps old new → Prints order setup sectors lines result old new

@@ -17,7 +17,7 @@ use Rattle.command_script.specs.Printing.{AnswersLines, IsSameAfter, Prints, Pri
 use Rattle.command_script.specs.Running.{HasFailed, HaveHappened}
 use Rattle.command_script.specs.Telling.{HaveTold, IsToldOf, Told, failures_in_all}
 use Rattle.command_io.specs.declared.failure.Failure.{Failure}
-use Rattle.command_script.specs.declared.order.Order.TheVariants.{Script, Check}
+use Rattle.command_script.specs.declared.order.ScriptTask.TheVariants.{Script, Check}
 use Rattle.command_script.proofs.Answering.{says_more}
 use Rattle.command_script.proofs.Lines.{fails_within}
 use Rattle.script_language.specs.declared.line.Line.{Line}

@@ -14,8 +14,8 @@ use Rattle.altair_pair.specs.Alike.{IsSameAtSettled}
 use Rattle.altair_pair.specs.Verdicts.{words_of}
 use Rattle.command_io.specs.declared.failure.Failure.{Failure}
 use Rattle.command_io.specs.declared.failure.Failure.TheVariants.{OutOfMemory, InputOrOutput, Differs}
-use Rattle.command_script.specs.declared.order.Order.{Order}
-use Rattle.command_script.specs.declared.order.Order.TheVariants.{Script, Check}
+use Rattle.command_script.specs.declared.order.ScriptTask.{ScriptTask}
+use Rattle.command_script.specs.declared.order.ScriptTask.TheVariants.{Script, Check}
 use Rattle.altair_pair.specs.declared.verdict.Verdict.{Verdict}
 use Rattle.altair_pair.specs.declared.verdict.Verdict.TheVariants as verdict
 use Rattle.script_language.specs.declared.line.Line.{Line}
@@ -63,7 +63,7 @@ pub record IsSameAfter (setup : ScriptSetup) (sectors : List SectorWrite) (boote
   pub same : IsSameAtSettled (altair setup.guest booted.start) after verdict
 
 -- a run of a script with this setup, these sectors at boot and these lines
-abbrev pub Prints : Order → ScriptSetup → List SectorWrite → List Line → Result (Unit {0}) Failure → Option (List ℕ)
+abbrev pub Prints : ScriptTask → ScriptSetup → List SectorWrite → List Line → Result (Unit {0}) Failure → Option (List ℕ)
     → Option (List ℕ) → Type 0
 Prints Script setup sectors lines result old new = (b : Booted setup sectors)
     × AnswersLines (altair setup.guest b.start) (image_copy setup.guest.drives) b.world lines

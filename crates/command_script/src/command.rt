@@ -1,9 +1,9 @@
 //! A script that is run, and told of.
 ghost use Rattle.command_script.specs.Printing.{Prints};
 
-use crate::order::Order;
+use crate::order::ScriptTask;
 use crate::session;
-use command_io::{Failure, Input, Report};
+use command_io::{Failure, LineReport, ScriptInput};
 use event_callbacks::plain_completions;
 use std::alloc::Global;
 use std::io::Write;
@@ -12,14 +12,14 @@ use std::io::Write;
 #[tactic(auto, using(crate::proofs::Answering::settled_prints))]
 pub fn run_script<W: Write + Drop>(
     alloc: Global,
-    order: Order,
-    input: &Input,
+    order: ScriptTask,
+    input: &ScriptInput,
     writer: &mut W,
 ) -> Result<(), Failure>
     ensures { Prints order input.now.script.setup input.now.sectors.items input.now.script.lines.items result
         (W.contents writer.old) (W.contents writer.new) }
 {
-    let mut report = Report::new(alloc);
+    let mut report = LineReport::new(alloc);
     let ended = session::run(
         alloc,
         order,

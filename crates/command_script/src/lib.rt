@@ -12,5 +12,5 @@ mod session;
 
 pub use command::run_script;
 pub use lint::run_lint;
-pub use order::Order;
+pub use order::ScriptTask;
 pub use picture::run_picture;

@@ -8,8 +8,10 @@ ghost use Rattle.script_language.specs.Text.{lines_of};
 
 use crate::named::{Named, WellFormed};
 use crate::reason::{Reason, reason_of};
-use command_io::{Failure, Report};
-use script_language::{Draft, SCRIPT_BYTES, ScriptError, first_line, parse, read_script, text_of};
+use command_io::{Failure, LineReport};
+use script_language::{
+    SCRIPT_BYTES, ScriptDraft, ScriptError, first_line, parse, read_script, text_of,
+};
 use std::alloc::{AllocError, Global};
 use std::io::{Read, Write};
 
@@ -23,7 +25,7 @@ pub fn run_lint<R: Read + Drop, W: Write + Drop>(
     ensures { Lints (R.remaining reader.old) result (W.contents writer.old) (W.contents writer.new) }
 {
     let bytes = read_script(alloc, reader)?;
-    let mut report = Report::new(alloc);
+    let mut report = LineReport::new(alloc);
     let ended = lint(alloc, &bytes, &mut report, writer);
     report.flush(writer)?;
     ended
@@ -34,7 +36,7 @@ pub fn run_lint<R: Read + Drop, W: Write + Drop>(
 fn lint<W: Write + Drop>(
     alloc: Global,
     bytes: &[u8],
-    report: &mut Report,
+    report: &mut LineReport,
     writer: &mut W,
 ) -> Result<(), Failure>
     ensures { LintsText bytes.now result
@@ -80,14 +82,14 @@ fn line_count(text: &[u8]) -> usize
 fn name_all<W: Write + Drop>(
     alloc: Global,
     bytes: &[u8],
-    report: &mut Report,
+    report: &mut LineReport,
     writer: &mut W,
 ) -> Result<(), Failure>
     ensures { NamesUntil (bad_lines bytes.now) result
         (handed (W.contents writer.old) report.old) (handed (W.contents writer.new) report.new) }
 {
     let drives = drives_of(alloc, bytes)?;
-    let mut draft = Draft::new(alloc)?;
+    let mut draft = ScriptDraft::new(alloc)?;
     name_each(alloc, bytes, drives, &mut draft, report, writer)
 }
 
@@ -97,8 +99,8 @@ fn name_each<W: Write + Drop>(
     alloc: Global,
     bytes: &[u8],
     drives: u8,
-    draft: &mut Draft,
-    report: &mut Report,
+    draft: &mut ScriptDraft,
+    report: &mut LineReport,
     writer: &mut W,
 ) -> Result<(), Failure>
     ensures { NamesUntil (bad_from drives 1048576 1 (lines_of bytes.now) (meaning.said_by draft.old)) result
@@ -124,7 +126,7 @@ fn name_each<W: Write + Drop>(
 fn drives_of(alloc: Global, bytes: &[u8]) -> Result<u8, AllocError>
     ensures { IfOk result (λ drives. drives ≡ (meaning.said_in bytes.now).boot.drives) }
 {
-    let mut draft = Draft::new(alloc)?;
+    let mut draft = ScriptDraft::new(alloc)?;
     draft.read(alloc, bytes)?;
     Ok(draft.drives())
 }
@@ -133,11 +135,11 @@ fn drives_of(alloc: Global, bytes: &[u8]) -> Result<u8, AllocError>
 #[tactic(auto, using(crate::proofs::Linting::names_none, crate::proofs::Linting::names_until, crate::proofs::Linting::some_none))]
 fn name_if_bad<W: Write + Drop>(
     alloc: Global,
-    draft: &mut Draft,
+    draft: &mut ScriptDraft,
     number: u64,
     text: &[u8],
     drives: u8,
-    report: &mut Report,
+    report: &mut LineReport,
     writer: &mut W,
 ) -> Result<(), Failure>
     requires { 1 ≤ number }
@@ -156,7 +158,7 @@ fn name_if_bad<W: Write + Drop>(
 // Takes a line. Whether it is bad.
 fn take_bad(
     alloc: Global,
-    draft: &mut Draft,
+    draft: &mut ScriptDraft,
     number: u64,
     text: &[u8],
     drives: u8,
@@ -177,7 +179,7 @@ fn take_bad(
 fn name<W: Write + Drop>(
     number: u64,
     reason: Reason<'_>,
-    report: &mut Report,
+    report: &mut LineReport,
     writer: &mut W,
 ) -> Result<(), Failure>
     ensures { NamesUntil (named number reason.entry ∷ []) result

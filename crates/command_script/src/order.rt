@@ -2,7 +2,7 @@
 
 /// What is asked of a script.
 #[derive(Clone, Copy)]
-pub enum Order {
+pub enum ScriptTask {
     /// To print what each line of a script answers.
     Script,
     /// To compare the pair at the end of a script with a single machine.

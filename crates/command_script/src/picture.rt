@@ -11,7 +11,7 @@ ghost use Rattle.shared_disk.specs.Failing.{records_in};
 
 use altair_pair::{boot, moment_of};
 use clone_state::Copies;
-use command_io::{Failure, Input};
+use command_io::{Failure, ScriptInput};
 use event_callbacks::{Completes, plain_completions};
 use ft_world::World;
 use script_language::{Line, Script};
@@ -24,7 +24,7 @@ use std::io::Write;
 #[tactic(auto, using(crate::proofs::Drawing::draws_run))]
 pub fn run_picture<W: Write + Drop>(
     alloc: Global,
-    input: &Input,
+    input: &ScriptInput,
     writer: &mut W,
 ) -> Result<(), Failure>
     ensures { Draws input.now.script.setup input.now.sectors.items input.now.script.lines.items result
@@ -46,7 +46,7 @@ pub fn run_picture<W: Write + Drop>(
 // Boots a pair whose completions are these closures, makes the events of a script happen, and tells of each.
 fn run<T: Completes + Drop + Copy, S: Completes + Drop + Copy, W: Completes + Drop + Copy>(
     alloc: Global,
-    input: &Input,
+    input: &ScriptInput,
     sent: T,
     sector: S,
     written: W,

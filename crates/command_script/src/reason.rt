@@ -7,7 +7,7 @@ ghost use Rattle.shell_language.specs.Forms.{shape_of, shapes, word_of};
 ghost use Rattle.shell_language.specs.Mistakes.{flaw_of};
 
 use script_language::{Keyword, SCRIPT_BYTES, Words};
-use shell_language::{Form, Kind, Mistake, Shown, forms, mistake_in};
+use shell_language::{Form, Kind, Mistake, ShownWord, forms, mistake_in};
 use std::fmt;
 
 /// Why a line is bad.
@@ -224,7 +224,7 @@ impl fmt::Display for Reason<'_> {
                 "the script has more than {SCRIPT_BYTES} bytes, and the first that is too many is in this line"
             ),
             Reason::Spaces => f.write_str("the line has spaces alone"),
-            Reason::Unknown { word } => write!(f, "{} begins no line of a script", Shown(word)),
+            Reason::Unknown { word } => write!(f, "{} begins no line of a script", ShownWord(word)),
             Reason::OfShell { usage } => {
                 write!(f, "`{usage}` is a line of the shell, and of no script")
             }
@@ -237,7 +237,7 @@ impl fmt::Display for Reason<'_> {
 fn write_detached<W: fmt::Write>(f: &mut fmt::Formatter<W>, drive: &[u8], drives: u8) -> fmt::Result
     ensures { WritesOnOk W.write_str_gives f.old result (detached_text drive.now drives) f.new }
 {
-    let drive = Shown(drive);
+    let drive = ShownWord(drive);
     write!(
         f,
         "word 2 is {drive}: a drive below {drives} is expected; `drives N` attaches more"

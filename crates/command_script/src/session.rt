@@ -14,11 +14,11 @@ ghost use Rattle.command_script.specs.Printing.{AnswersLines, HandsNone, Prints,
 ghost use Rattle.command_io.specs.Reports.{handed};
 ghost use Rattle.command_script.specs.Running.{HasHappened, HaveAnswers, HaveHappened};
 
-use crate::order::Order;
+use crate::order::ScriptTask;
 use altair_pair::{Verdict, boot, compare, faithful_pairs_are_alike, find};
 use board_image::DraftedBoard;
 use clone_state::Copies;
-use command_io::{Failure, Input, Report};
+use command_io::{Failure, LineReport, ScriptInput};
 use disk_dcdd::SectorWrite;
 use event_callbacks::{Callbacks, Completes};
 use ft_world::World;
@@ -38,9 +38,9 @@ pub fn run<
     O: Write + Drop,
 >(
     alloc: Global,
-    order: Order,
-    input: &Input,
-    report: &mut Report,
+    order: ScriptTask,
+    input: &ScriptInput,
+    report: &mut LineReport,
     writer: &mut O,
     sent: T,
     sector: S,
@@ -57,8 +57,8 @@ pub fn run<
     let sectors = &input.sectors;
     let mut world = boot(alloc, setup, sectors, sent, sector, written)?;
     match order {
-        Order::Script => answer_each(alloc, &mut world, lines, report, writer),
-        Order::Check => {
+        ScriptTask::Script => answer_each(alloc, &mut world, lines, report, writer),
+        ScriptTask::Check => {
             run_silently(alloc, &mut world, lines);
             check(alloc, &mut world, &setup.guest, sectors, report, writer)
         }
@@ -71,7 +71,7 @@ fn check<B: Copies<H> + Drop, H: Drop, O: Write + Drop>(
     world: &mut World<B, Disk, H>,
     setup: &Setup,
     sectors: &[SectorWrite],
-    report: &mut Report,
+    report: &mut LineReport,
     writer: &mut O,
 ) -> Result<(), Failure>
     ensures verdict { (c : Course B.State) → Shows B.state B.copied B.machine records_in world.old c
@@ -118,7 +118,7 @@ fn answer_each<B: Copies<H> + Drop, H: Drop, O: Write + Drop>(
     alloc: Global,
     world: &mut World<B, Disk, H>,
     lines: &[Line],
-    report: &mut Report,
+    report: &mut LineReport,
     writer: &mut O,
 ) -> Result<(), Failure>
     ensures { (c : Course B.State) → Shows B.state B.copied B.machine records_in world.old c
@@ -148,7 +148,7 @@ fn answer<B: Copies<H> + Drop, H: Drop, O: Write + Drop>(
     alloc: Global,
     world: &mut World<B, Disk, H>,
     line: Line,
-    report: &mut Report,
+    report: &mut LineReport,
     writer: &mut O,
 ) -> Result<(), Failure>
     ensures answered { OnOk result ((c : Course B.State) → Shows B.state B.copied B.machine records_in world.old c

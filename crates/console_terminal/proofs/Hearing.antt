@@ -15,7 +15,7 @@ use Rattle.console_terminal.specs.declared.command.Order.{Order}
 use Rattle.console_terminal.specs.declared.desk.Act.{Act}
 use Rattle.console_terminal.specs.declared.listener.Ending.{Ending}
 use Rattle.console_terminal.specs.declared.listener.Listener.{Listener}
-use Rattle.console_terminal.specs.declared.note.Note.{Note}
+use Rattle.console_terminal.specs.declared.note.DisplayNote.{DisplayNote}
 use Rattle.console_terminal.specs.declared.port.Port.{Port}
 
 -- ---- some bytes after others
@@ -40,7 +40,7 @@ commands_both e p (x ∷ xs) ys =
     ap (λ l. first ++ l) (commands_both e (after e p x) xs ys)
     ∙ sym (append_assoc first (commands_at e (after e p x) xs) (commands_at e (after_all e (after e p x) xs) ys))
 
-tells_both : (e : ℕ) (p : Place) (xs ys : List ℕ) (ms ns : List Note) →
+tells_both : (e : ℕ) (p : Place) (xs ys : List ℕ) (ms ns : List DisplayNote) →
     Tells e p xs ms → Tells e (after_all e p xs) ys ns → Tells e p (xs ++ ys) (ms ++ ns)
 tells_both e p [] ys ms ns h k = subst (λ l. Tells e p ys (l ++ ns)) (sym h) k
 tells_both e p (x ∷ xs) ys ms ns h k =

@@ -13,7 +13,7 @@ use Rattle.console_terminal.specs.declared.screen.Shown.{Shown}
 use Rattle.rtrb.specs.Ring.{SameConsumer, received}
 use Rattle.rtrb.specs.declared.consumer.Consumer.{Consumer}
 use Rattle.console_terminal.specs.Screen.{AreSeen, IsClear, Piece, Wrote, beside_of, byte_seen, bytes_of, bytes_seen, guest_in, guest_of, is_looked_at, is_looking, kept_with, look_after, look_at_end, said_in, said_of, text_of, texts_of, told_in, told_of, unseen}
-use Rattle.console_terminal.specs.declared.note.Note.{Note}
+use Rattle.console_terminal.specs.declared.note.DisplayNote.{DisplayNote}
 use Rattle.console_terminal.specs.declared.port.Port.{Port}
 use Rattle.console_terminal.specs.declared.display.Display.{Display}
 use Rattle.console_terminal.proofs.Seen.{byte_clear, byte_parted, one_byte, seen_bytes, seen_clear, seen_now, seen_parted, shown_both}
@@ -151,7 +151,7 @@ module _ {W N : Type 0} (screen : W → Option (List ℕ)) (notes : N → Option
       (ap received said ∙ sym (append-nil (received a.said))) told (same_self a.shown b.shown shown) (same_self a.said b.said said) same
 
   -- a note is said, and what was kept of the terminal that one looks at after it is seen
-  pub of_a_note : (note : Note) (a b : Display W N) → b.shown ≡ a.shown → received b.said ≡ received a.said ++ note ∷ [] → b.told ≡ a.told
+  pub of_a_note : (note : DisplayNote) (a b : Display W N) → b.shown ≡ a.shown → received b.said ≡ received a.said ++ note ∷ [] → b.told ≡ a.told
       → b.look ≡ look_after a.look note → Appends (notes a.notes) (notes b.notes) (text_of note)
       → Appends (screen a.screen) (screen b.screen) (bytes_seen b.look a.kept.items) → b.kept.items ≡ unseen b.look a.kept.items
       → SameConsumer a.said b.said → Wrote screen notes a b

@@ -12,7 +12,7 @@ use Rattle.console_terminal.specs.declared.command.Order.{Order}
 use Rattle.console_terminal.specs.declared.desk.Act.{Act}
 use Rattle.console_terminal.specs.declared.listener.Ending.{Ending}
 use Rattle.console_terminal.specs.declared.listener.Listener.{Listener}
-use Rattle.console_terminal.specs.declared.note.Note.{Note}
+use Rattle.console_terminal.specs.declared.note.DisplayNote.{DisplayNote}
 use Rattle.console_terminal.specs.declared.port.Port.{Port}
 
 -- ---- the end
@@ -36,7 +36,7 @@ abbrev pub place_after : Option Ending → Place → Place
 place_after None p = p
 place_after (Some ending) p = closed p
 
-abbrev pub notes_after : Option Ending → Place → List Note
+abbrev pub notes_after : Option Ending → Place → List DisplayNote
 notes_after None p = []
 notes_after (Some ending) p = closing p
 
@@ -71,7 +71,7 @@ module _ {S I : Type 0} where
   -- open is closed; it has ended by a command to quit if there is one, and at the end of the input only if no key is left.
   pub record Listens (left : S → Option (List ℕ)) (given : I → Option (List Command)) (ending : Option Ending) (old new : Listener S I) : Type 0 where
     pub bytes : List ℕ
-    pub said : List Note
+    pub said : List DisplayNote
     pub taken : Consumes (left old.source) (left new.source) bytes
     pub escape : new.desk.escape ≡ old.desk.escape
     pub place : place_of new.desk ≡ place_after ending (after_all old.desk.escape (place_of old.desk) bytes)

@@ -7,7 +7,7 @@ use Rattle.console_terminal.specs.Lines.{shown_at}
 use Rattle.console_terminal.specs.declared.screen.Shown.{Shown}
 use Rattle.rtrb.specs.Ring.{SameConsumer, known_items, received}
 use Rattle.console_terminal.specs.Commands.{mistake_text, number_of_port}
-use Rattle.console_terminal.specs.declared.note.Note.{Note}
+use Rattle.console_terminal.specs.declared.note.DisplayNote.{DisplayNote}
 use Rattle.console_terminal.specs.declared.port.Port.{Port}
 use Rattle.console_terminal.specs.declared.display.Display.{Display}
 
@@ -16,20 +16,20 @@ abbrev pub on_a_line : List ℕ → List ℕ
 on_a_line text = 13 ∷ 10 ∷ text
 
 -- what is written of a note: BS, a space and BS rub out a byte
-abbrev pub text_of : Note → List ℕ
-text_of Note.Opened = on_a_line (codes "pair> ")
-text_of (Note.Typed byte) = byte ∷ []
-text_of Note.TakenBack = 8 ∷ 32 ∷ 8 ∷ []
-text_of (Note.Mistaken mistake) = on_a_line (mistake_text mistake)
-text_of (Note.Answered text) = on_a_line (string_bytes text)
-text_of (Note.Closed port) = on_a_line []
+abbrev pub text_of : DisplayNote → List ℕ
+text_of DisplayNote.Opened = on_a_line (codes "pair> ")
+text_of (DisplayNote.Typed byte) = byte ∷ []
+text_of DisplayNote.TakenBack = 8 ∷ 32 ∷ 8 ∷ []
+text_of (DisplayNote.Mistaken mistake) = on_a_line (mistake_text mistake)
+text_of (DisplayNote.Answered text) = on_a_line (string_bytes text)
+text_of (DisplayNote.Closed port) = on_a_line []
 
 -- what is written, piece by piece
 pub data Piece : Type 0 where
   -- a byte of the guest
   Guest : Shown → Piece
   -- what becomes of the command line
-  Said : Note → Piece
+  Said : DisplayNote → Piece
   -- a line about the pair
   Told : String Global → Piece
 
@@ -39,7 +39,7 @@ guest_of (Piece.Guest s) = s ∷ []
 guest_of (Piece.Said n) = []
 guest_of (Piece.Told t) = []
 
-abbrev pub said_of : Piece → List Note
+abbrev pub said_of : Piece → List DisplayNote
 said_of (Piece.Guest s) = []
 said_of (Piece.Said n) = n ∷ []
 said_of (Piece.Told t) = []
@@ -58,7 +58,7 @@ beside_of (Piece.Told t) = string_bytes t
 abbrev pub guest_in : List Piece → List Shown
 guest_in pieces = flat_map guest_of pieces
 
-abbrev pub said_in : List Piece → List Note
+abbrev pub said_in : List Piece → List DisplayNote
 said_in pieces = flat_map said_of pieces
 
 abbrev pub told_in : List Piece → List (String Global)
@@ -72,9 +72,9 @@ abbrev pub texts_of : List Piece → List ℕ
 texts_of pieces = flat_map beside_of pieces
 
 -- which terminal one looks at after a note
-abbrev pub look_after : Option Port → Note → Option Port
-look_after look Note.Opened = None
-look_after look (Note.Closed port) = Some port
+abbrev pub look_after : Option Port → DisplayNote → Option Port
+look_after look DisplayNote.Opened = None
+look_after look (DisplayNote.Closed port) = Some port
 look_after look _ = look
 
 -- which terminal one looks at after some pieces

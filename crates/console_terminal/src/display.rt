@@ -6,7 +6,7 @@ ghost use Rattle.rtrb.specs.Ring.{known_items};
 ghost use Rattle.console_terminal.specs.Screen.{HasNoMore, IsClear, IsEmpty, Wrote, but_at, byte_seen, bytes_seen, is_looked_at, is_looking, kept_with, look_after, unseen};
 
 use crate::Shown;
-use crate::note::{Note, write_note};
+use crate::note::{DisplayNote, write_note};
 use crate::port::Port;
 use rtrb::Consumer;
 use std::alloc::Global;
@@ -24,7 +24,7 @@ pub struct Display<W, N> {
     kept: Vec<Shown>,
     look: Option<Port>,
     shown: Consumer<Shown>,
-    said: Consumer<Note>,
+    said: Consumer<DisplayNote>,
     told: Consumer<String>,
 }
 
@@ -37,7 +37,7 @@ impl<W, N> Display<W, N> {
         notes: N,
         port: Port,
         shown: Consumer<Shown>,
-        said: Consumer<Note>,
+        said: Consumer<DisplayNote>,
         told: Consumer<String>,
     ) -> Display<W, N>
         ensures writers { (result.screen ≡ screen) × (result.notes ≡ notes) }
@@ -152,12 +152,12 @@ impl<W: Write, N: Write> Display<W, N> {
 }
 
 // Which terminal one looks at after a note.
-fn look_after(look: Option<Port>, note: &Note) -> Option<Port>
+fn look_after(look: Option<Port>, note: &DisplayNote) -> Option<Port>
     ensures { result ≡ look_after look note.now }
 {
     match note {
-        Note::Opened => None,
-        Note::Closed(port) => Some(*port),
+        DisplayNote::Opened => None,
+        DisplayNote::Closed(port) => Some(*port),
         _ => look,
     }
 }

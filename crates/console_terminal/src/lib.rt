@@ -25,7 +25,7 @@ pub use keyboard::{Keyboard, Stroke};
 pub use keys::{Heard, KeySource, TerminalKeys};
 pub use lines::Lines;
 pub use listener::{Ending, Interpreter, Listener, listen};
-pub use note::Note;
+pub use note::DisplayNote;
 pub use port::Port;
 pub use screen::{Screen, Shown};
 pub use signs::Signs;

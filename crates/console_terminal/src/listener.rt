@@ -10,7 +10,7 @@ use crate::Stroke;
 use crate::command::{Command, Order};
 use crate::desk::{Act, Desk};
 use crate::keys::{Heard, KeySource};
-use crate::note::Note;
+use crate::note::DisplayNote;
 use crate::port::Port;
 use crate::signs::Signs;
 use rtrb::Producer;
@@ -53,7 +53,7 @@ pub struct Listener<S, I> {
     pub second: Producer<Stroke>,
     /// What is said to the display. The ring needs places for three notes: a byte is heard only while there is room for the two that it
     /// may be worth and for the one that closes a command line at the end.
-    pub notes: Producer<Note>,
+    pub notes: Producer<DisplayNote>,
     pub interpreter: I,
 }
 
@@ -192,7 +192,8 @@ impl<S: KeySource, I: Interpreter> Listener<S, I> {
     {
         if self.desk.is_open() {
             self.desk.change(Act::Cancels);
-            self.notes.push_reserved(Note::Closed(self.desk.port));
+            self.notes
+                .push_reserved(DisplayNote::Closed(self.desk.port));
         }
     }
 }
@@ -252,7 +253,12 @@ fn press(first: &mut Producer<Stroke>, second: &mut Producer<Stroke>, port: Port
 }
 
 // Gives the command of a line to the interpreter, and says what it answers.
-fn obey<I: Interpreter>(interpreter: &mut I, notes: &mut Producer<Note>, order: Order, line: &[u8])
+fn obey<I: Interpreter>(
+    interpreter: &mut I,
+    notes: &mut Producer<DisplayNote>,
+    order: Order,
+    line: &[u8],
+)
     requires { 0 < known_free notes.old }
     ensures given { Grows (I.given interpreter.old) (I.given interpreter.new) (command_in order) }
     ensures notes { Answers order (sent notes.old) (sent notes.new) }
@@ -261,36 +267,36 @@ fn obey<I: Interpreter>(interpreter: &mut I, notes: &mut Producer<Note>, order: 
 {
     match order {
         Order::Nothing => {}
-        Order::Mistake(mistake) => notes.push_reserved(Note::Mistaken(mistake)),
+        Order::Mistake(mistake) => notes.push_reserved(DisplayNote::Mistaken(mistake)),
         Order::Command(command) => say(notes, interpreter.carry_out(command, line)),
     }
 }
 
 // Says what the interpreter answers, if anything.
-fn say(notes: &mut Producer<Note>, answer: Option<String>)
+fn say(notes: &mut Producer<DisplayNote>, answer: Option<String>)
     requires { 0 < known_free notes.old }
     ensures notes { sent notes.new ≡ sent notes.old ++ note_of answer }
     ensures ring { SameProducer notes.old notes.new }
     ensures room { known_free notes.old ≤ known_free notes.new + 1 }
 {
     if let Some(text) = answer {
-        notes.push_reserved(Note::Answered(text));
+        notes.push_reserved(DisplayNote::Answered(text));
     }
 }
 
 // Says what a byte did to the command line.
-fn tell(notes: &mut Producer<Note>, act: Act, was_open: bool, port: Port)
+fn tell(notes: &mut Producer<DisplayNote>, act: Act, was_open: bool, port: Port)
     requires { 0 < known_free notes.old }
     ensures notes { sent notes.new ≡ sent notes.old ++ changed act was_open port }
     ensures ring { SameProducer notes.old notes.new }
     ensures room { known_free notes.old ≤ known_free notes.new + 1 }
 {
     match act {
-        Act::Opens => notes.push_reserved(Note::Opened),
-        Act::Adds(byte) => notes.push_reserved(Note::Typed(byte)),
-        Act::TakesBack => notes.push_reserved(Note::TakenBack),
-        Act::Cancels | Act::HandsOn => notes.push_reserved(Note::Closed(port)),
-        Act::Key(_) if was_open => notes.push_reserved(Note::Closed(port)),
+        Act::Opens => notes.push_reserved(DisplayNote::Opened),
+        Act::Adds(byte) => notes.push_reserved(DisplayNote::Typed(byte)),
+        Act::TakesBack => notes.push_reserved(DisplayNote::TakenBack),
+        Act::Cancels | Act::HandsOn => notes.push_reserved(DisplayNote::Closed(port)),
+        Act::Key(_) if was_open => notes.push_reserved(DisplayNote::Closed(port)),
         Act::Key(_) | Act::Nothing => {}
     }
 }

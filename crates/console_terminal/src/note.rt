@@ -9,7 +9,7 @@ use std::io::{self, Write};
 
 /// What becomes of the command line, and what is said to it.
 #[derive(Drop)]
-pub enum Note {
+pub enum DisplayNote {
     /// It is opened: from then on the screen holds still.
     Opened,
     /// One more byte is in it.
@@ -24,16 +24,16 @@ pub enum Note {
 }
 
 // Writes what is said.
-pub(crate) fn write_note<W: Write>(writer: &mut W, note: &Note) -> io::Result<()>
+pub(crate) fn write_note<W: Write>(writer: &mut W, note: &DisplayNote) -> io::Result<()>
     ensures { OnOk result (Appends (W.contents writer.old) (W.contents writer.new) (text_of note.now)) }
 {
     match note {
-        Note::Opened => writer.write_all(b"\r\npair> "),
-        Note::Typed(byte) => writer.write_all(&[*byte]),
-        Note::TakenBack => writer.write_all(b"\x08 \x08"),
-        Note::Mistaken(mistake) => write_line(writer, mistake.text()),
-        Note::Answered(text) => write_line(writer, text.as_str()),
-        Note::Closed(_) => writer.write_all(b"\r\n"),
+        DisplayNote::Opened => writer.write_all(b"\r\npair> "),
+        DisplayNote::Typed(byte) => writer.write_all(&[*byte]),
+        DisplayNote::TakenBack => writer.write_all(b"\x08 \x08"),
+        DisplayNote::Mistaken(mistake) => write_line(writer, mistake.text()),
+        DisplayNote::Answered(text) => write_line(writer, text.as_str()),
+        DisplayNote::Closed(_) => writer.write_all(b"\r\n"),
     }
 }
 

@@ -4,7 +4,9 @@ ghost use Rattle.disk_file.specs.Device.{Only};
 ghost use Rattle.disk_file.specs.Kept.{IsKept};
 
 use disk_dcdd::SECTOR_BYTES;
-use disk_file::{CrashingMemory, Device, Kept, Memory, close_kept, finish, open_kept};
+use disk_file::{
+    CrashableFile, CrashingMemory, FileRecords, MemoryFile, close_kept, finish, open_kept,
+};
 use shared_disk::Record;
 use std::alloc::Global;
 use std::test::Fail;
@@ -24,7 +26,7 @@ fn two(alloc: Global, first: u8, second: u8) -> Result<Vec<u8>, Fail> {
 }
 
 // Writes a sector of one byte. 1 if that is answered.
-fn write<D: Device>(kept: &mut Kept<D>, place: usize, byte: u8) -> usize
+fn write<D: CrashableFile>(kept: &mut FileRecords<D>, place: usize, byte: u8) -> usize
     requires kept { IsKept D.seen D.may_leave kept.old }
     requires two { length kept.old.records.items ≡ 2 }
     requires there { place < 2 }
@@ -40,7 +42,7 @@ fn write<D: Device>(kept: &mut Kept<D>, place: usize, byte: u8) -> usize
 }
 
 // Writes three times. How many writes were answered.
-fn write_all<D: Device>(kept: &mut Kept<D>) -> usize
+fn write_all<D: CrashableFile>(kept: &mut FileRecords<D>) -> usize
     requires kept { IsKept D.seen D.may_leave kept.old }
     requires two { length kept.old.records.items ≡ 2 }
     ensures kept { IsKept D.seen D.may_leave kept.new }
@@ -52,7 +54,7 @@ fn write_all<D: Device>(kept: &mut Kept<D>) -> usize
 }
 
 // A session: how many writes were answered, and the file that is left.
-fn session<D: Device>(alloc: Global, device: D) -> (usize, D)
+fn session<D: CrashableFile>(alloc: Global, device: D) -> (usize, D)
     requires { Only (D.seen device) (D.may_leave device) }
     ensures { result.0 ≤ 3 }
 {
@@ -69,7 +71,7 @@ fn session<D: Device>(alloc: Global, device: D) -> (usize, D)
 
 // The bytes of the two sectors of the disk that a file stands for.
 fn disk_in(alloc: Global, file: &[u8]) -> Result<[u8; 2], Fail> {
-    match open_kept(alloc, 2, Memory::new(alloc, file.to_vec(alloc)?)) {
+    match open_kept(alloc, 2, MemoryFile::new(alloc, file.to_vec(alloc)?)) {
         Ok(kept) => Ok([kept.records[0].bytes[0], kept.records[1].bytes[136]]),
         Err(_) => Err(Fail::new("it is not opened")),
     }
@@ -123,7 +125,7 @@ fn the_newest_of_two_blocks_is_taken_up_and_a_closed_one_is_not(
     for (gate, byte) in [(1, 7), (1, 8), (0, 9)] {
         add_block(&mut file, gate, byte)?;
     }
-    let mut device = Memory::new(alloc, file);
+    let mut device = MemoryFile::new(alloc, file);
     finish(alloc, &mut device, 2)?;
     let image = two(alloc, 1, 8)?;
     assert_eq!(rt; device.bytes(), image.as_slice());

@@ -11,7 +11,7 @@ use Rattle.disk_dcdd.specs.declared.sector.TheConstants.{SECTOR_BYTES}
 use Rattle.shared_disk.specs.Records.{IsAtBoot, boot_record, record_at}
 use Rattle.shared_disk.specs.declared.store.Record.{Record}
 use Rattle.disk_file.specs.Drives.{AgreeOnDrive, IsBooted, IsDrive, all_records}
-use Rattle.disk_file.specs.declared.kept.Kept.{Kept}
+use Rattle.disk_file.specs.declared.kept.FileRecords.{FileRecords}
 use Rattle.disk_file.proofs.Drives.{Nowhere, Place, at_none, place_of}
 
 record_if : Bool → List ℕ → Option Record
@@ -26,7 +26,7 @@ unfolding record_if
 number_of true bytes r is = sym (ap (λ (r : Record). r.number) (same_Some (boot_record bytes) r is))
 number_of false bytes r is = absurd (cc)
 
-module _ {D : Type 0} (list : List (Kept D)) (are : All IsDrive list) (drives : ℕ) (many : length list ≡ drives) (others : List Record)
+module _ {D : Type 0} (list : List (FileRecords D)) (are : All IsDrive list) (drives : ℕ) (many : length list ≡ drives) (others : List Record)
     (alike : (d : ℕ) → d < drives → AgreeOnDrive d (all_records list) others) (sectors : List SectorWrite)
     (boot : IsAtBoot others drives sectors) where
   at_place : (a : SectorAddress) → Place a → (within : Bool) → nat_lt a.drive drives ≡ within

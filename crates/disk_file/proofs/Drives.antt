@@ -13,7 +13,7 @@ use Rattle.disk_dcdd.specs.declared.sector.TheConstants.{SECTORS}
 use Rattle.shared_disk.specs.Records.{HasWholeSectors, record_at, with_record}
 use Rattle.shared_disk.specs.declared.store.Record.{Record}
 use Rattle.disk_file.specs.Drives.{IsDrive, all_records, in_drive}
-use Rattle.disk_file.specs.declared.kept.Kept.{Kept}
+use Rattle.disk_file.specs.declared.kept.FileRecords.{FileRecords}
 
 -- one list after another
 get_front : {X : Type 0} (xs ys : List X) (i : ℕ) → i < length xs → slice_get (xs ++ ys) i ≡ slice_get xs i
@@ -38,7 +38,7 @@ set_back (x ∷ xs) ys n (suc i) y is = ap (λ (l : List _). x ∷ l) (set_back 
 
 module _ {D : Type 0} where
   -- by place
-  get_drive : (drives : List (Kept D)) → All IsDrive drives → (d i : ℕ) (k : Kept D) → slice_get drives d ≡ Some k → i < 2464
+  get_drive : (drives : List (FileRecords D)) → All IsDrive drives → (d i : ℕ) (k : FileRecords D) → slice_get drives d ≡ Some k → i < 2464
       → slice_get (all_records drives) (d * 2464 + i) ≡ slice_get k.records.items i
   get_drive [] are d i k is lt = absurd (cc)
   get_drive (x ∷ xs) are zero i k is lt =
@@ -47,13 +47,13 @@ module _ {D : Type 0} where
       let e : 0 * 2464 + i ≡ i = omega arith in
       ap (slice_get (x.records.items ++ all_records xs)) e
       ∙ get_front x.records.items (all_records xs) i (omega (arith, size, lt))
-      ∙ ap (λ (y : Kept D). slice_get y.records.items i) same
+      ∙ ap (λ (y : FileRecords D). slice_get y.records.items i) same
   get_drive (x ∷ xs) are (suc d) i k is lt =
       let size : length x.records.items ≡ 2464 = (All-head IsDrive x xs are).size in
       get_back x.records.items (all_records xs) (d * 2464 + i) (suc d * 2464 + i) (omega (arith, size))
       ∙ get_drive xs (All-tail IsDrive x xs are) d i k is lt
 
-  get_none : (drives : List (Kept D)) → All IsDrive drives → (d i : ℕ) → slice_get drives d ≡ None
+  get_none : (drives : List (FileRecords D)) → All IsDrive drives → (d i : ℕ) → slice_get drives d ≡ None
       → slice_get (all_records drives) (d * 2464 + i) ≡ None
   get_none [] are d i is = refl
   get_none (x ∷ xs) are zero i is = absurd (cc)
@@ -62,7 +62,7 @@ module _ {D : Type 0} where
       get_back x.records.items (all_records xs) (d * 2464 + i) (suc d * 2464 + i) (omega (arith, size))
       ∙ get_none xs (All-tail IsDrive x xs are) d i is
 
-  set_drive : (drives : List (Kept D)) → All IsDrive drives → (d i : ℕ) (k new : Kept D) (r : Record) → slice_get drives d ≡ Some k → i < 2464
+  set_drive : (drives : List (FileRecords D)) → All IsDrive drives → (d i : ℕ) (k new : FileRecords D) (r : Record) → slice_get drives d ≡ Some k → i < 2464
       → new.records.items ≡ slice_set k.records.items i r
       → all_records (slice_set drives d new) ≡ slice_set (all_records drives) (d * 2464 + i) r
   set_drive [] are d i k new r is lt was = absurd (cc)
@@ -70,7 +70,7 @@ module _ {D : Type 0} where
       let size : length x.records.items ≡ 2464 = (All-head IsDrive x xs are).size in
       let same : k ≡ x = sym (same_Some x k is) in
       let e : i ≡ 0 * 2464 + i = omega arith in
-      ap (λ (l : List Record). l ++ all_records xs) (was ∙ ap (λ (y : Kept D). slice_set y.records.items i r) same)
+      ap (λ (l : List Record). l ++ all_records xs) (was ∙ ap (λ (y : FileRecords D). slice_set y.records.items i r) same)
       ∙ sym (set_front x.records.items (all_records xs) i r (omega (arith, size, lt)))
       ∙ ap (λ (n : ℕ). slice_set (x.records.items ++ all_records xs) n r) e
   set_drive (x ∷ xs) are (suc d) i k new r is lt was =
@@ -79,12 +79,12 @@ module _ {D : Type 0} where
       ∙ sym (set_back x.records.items (all_records xs) (d * 2464 + i) (suc d * 2464 + i) r (omega (arith, size)))
 
   -- a drive with the same records
-  pub same_drive : (drives : List (Kept D)) (d : ℕ) (k new : Kept D) → slice_get drives d ≡ Some k → new.records.items ≡ k.records.items
+  pub same_drive : (drives : List (FileRecords D)) (d : ℕ) (k new : FileRecords D) → slice_get drives d ≡ Some k → new.records.items ≡ k.records.items
       → all_records (slice_set drives d new) ≡ all_records drives
   same_drive [] d k new is was = refl
   same_drive (x ∷ xs) zero k new is was =
       let same : k ≡ x = sym (same_Some x k is) in
-      ap (λ (l : List Record). l ++ all_records xs) (was ∙ ap (λ (y : Kept D). y.records.items) same)
+      ap (λ (l : List Record). l ++ all_records xs) (was ∙ ap (λ (y : FileRecords D). y.records.items) same)
   same_drive (x ∷ xs) (suc d) k new is was = ap (λ (l : List Record). x.records.items ++ l) (same_drive xs d k new is was)
 
 -- where a sector stands, among all records and in the file of its drive
@@ -131,12 +131,12 @@ placed false q a t s =
 pub place_of : (a : SectorAddress) → Place a ⊎ Nowhere a
 place_of a = placed (nat_lt a.track TRACKS) (nat_lt a.sector SECTORS) a refl refl
 
-module _ {D : Type 0} (drives : List (Kept D)) (are : All IsDrive drives) (a : SectorAddress) where
+module _ {D : Type 0} (drives : List (FileRecords D)) (are : All IsDrive drives) (a : SectorAddress) where
   all : List Record
   all = all_records drives
 
   -- by address
-  pub at_drive : (k : Kept D) → slice_get drives a.drive ≡ Some k → record_at (all_records drives) a ≡ record_at k.records.items (in_drive a)
+  pub at_drive : (k : FileRecords D) → slice_get drives a.drive ≡ Some k → record_at (all_records drives) a ≡ record_at k.records.items (in_drive a)
   at_drive k is = ⊎_elim (λ (p : Place a). there p) (λ (n : Nowhere a). none n) (place_of a)
     where
       there : Place a → record_at (all_records drives) a ≡ record_at k.records.items (in_drive a)
@@ -156,7 +156,7 @@ module _ {D : Type 0} (drives : List (Kept D)) (are : All IsDrive drives) (a : S
       there : Place a → record_at (all_records drives) a ≡ None
       there p = ap (option_and_then (slice_get (all_records drives))) p.all ∙ get_none drives are a.drive p.at is
 
-  pub with_drive : (k new : Kept D) (r : Record) → slice_get drives a.drive ≡ Some k
+  pub with_drive : (k new : FileRecords D) (r : Record) → slice_get drives a.drive ≡ Some k
       → new.records.items ≡ with_record k.records.items (in_drive a) r
       → all_records (slice_set drives a.drive new) ≡ with_record (all_records drives) a r
   with_drive k new r is was = ⊎_elim (λ (p : Place a). there p) (λ (n : Nowhere a). none n) (place_of a)
@@ -174,15 +174,15 @@ module _ {D : Type 0} (drives : List (Kept D)) (are : All IsDrive drives) (a : S
           ∙ sym (ap (λ (i : Option ℕ). option_map_or (λ place. slice_set (all_records drives) place r) i (all_records drives)) n.all)
 
 -- one of the drives
-pub drive_at : {D : Type 0} (drives : List (Kept D)) → All IsDrive drives → (d : ℕ) (k : Kept D) → slice_get drives d ≡ Some k → IsDrive k
+pub drive_at : {D : Type 0} (drives : List (FileRecords D)) → All IsDrive drives → (d : ℕ) (k : FileRecords D) → slice_get drives d ≡ Some k → IsDrive k
 drive_at [] are d k is = absurd (cc)
-drive_at (x ∷ xs) are zero k is = subst (λ (y : Kept _). IsDrive y) (same_Some x k is) (All-head IsDrive x xs are)
+drive_at (x ∷ xs) are zero k is = subst (λ (y : FileRecords _). IsDrive y) (same_Some x k is) (All-head IsDrive x xs are)
 drive_at (x ∷ xs) are (suc d) k is = drive_at xs (All-tail IsDrive x xs are) d k is
 
 -- each sector of them all is whole
-pub all_whole : {D : Type 0} (drives : List (Kept D)) → All IsDrive drives → HasWholeSectors (all_records drives)
+pub all_whole : {D : Type 0} (drives : List (FileRecords D)) → All IsDrive drives → HasWholeSectors (all_records drives)
 all_whole {D} drives are a r is = go (slice_get drives a.drive) refl
   where
-    go : (k : Option (Kept D)) → slice_get drives a.drive ≡ k → length r.bytes ≡ 137
+    go : (k : Option (FileRecords D)) → slice_get drives a.drive ≡ k → length r.bytes ≡ 137
     go (Some k) found = (drive_at drives are a.drive k found).whole (in_drive a) r (sym (at_drive drives are a k found) ∙ is)
     go None found = let none : record_at (all_records drives) a ≡ None = at_none drives are a found in absurd (cc)

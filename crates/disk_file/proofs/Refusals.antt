@@ -8,7 +8,7 @@ use Rattle.disk_dcdd.specs.declared.address.SectorAddress.{SectorAddress}
 use Rattle.shared_disk.specs.Records.{record_at, refusal_at}
 use Rattle.shared_disk.specs.declared.store.Record.{Record}
 use Rattle.disk_file.specs.Kept.{StandsFor, pending_with, pending_in}
-use Rattle.disk_file.specs.declared.kept.Pending.{Pending}
+use Rattle.disk_file.specs.declared.kept.PendingWrite.{PendingWrite}
 
 within : (xs : List Record) (i : ℕ) → i < length xs → is_some (slice_get xs i) ≡ true
 within [] i lt = absurd (omega arith)
@@ -33,11 +33,11 @@ module _ (records : List Record) (address : SectorAddress) where
   pub refusal_past : (p : ℕ) → index_of address ≡ Some p → length records ≤ p → refusal_at records address ≡ Unknown
   refusal_past p is le = ap (λ (b : Bool). if b then DeviceFault else Unknown) (is_past p is le)
 
-pub with_more : (sectors : ℕ) (disk : List ℕ) (pending : Option Pending) (place : ℕ) (bytes c : List ℕ) → StandsFor sectors disk pending c → StandsFor sectors disk (pending_with pending place bytes) c
+pub with_more : (sectors : ℕ) (disk : List ℕ) (pending : Option PendingWrite) (place : ℕ) (bytes c : List ℕ) → StandsFor sectors disk pending c → StandsFor sectors disk (pending_with pending place bytes) c
 with_more sectors disk None place bytes c is = inl is
 with_more sectors disk (Some p) place bytes c is = is
 
-pub in_more : (sectors : ℕ) (disk : List ℕ) (pending : Option Pending) (address : SectorAddress) (bytes c : List ℕ) → StandsFor sectors disk pending c → StandsFor sectors disk (pending_in pending address bytes) c
+pub in_more : (sectors : ℕ) (disk : List ℕ) (pending : Option PendingWrite) (address : SectorAddress) (bytes c : List ℕ) → StandsFor sectors disk pending c → StandsFor sectors disk (pending_in pending address bytes) c
 in_more sectors disk pending address bytes c is = go (index_of address)
   where
     go : (i : Option ℕ) → StandsFor sectors disk (option_map_or (λ place. pending_with pending place bytes) i pending) c

@@ -4,7 +4,7 @@ ghost use Rattle.disk_file.specs.Names.{AreInFiles, IsKept, is_named};
 
 use crate::closing::end_image;
 use crate::file_device::FileDevice;
-use crate::opening::{OpenImage, Opening, open_image, take_up};
+use crate::opening::{ImageOptions, OpenImage, open_image, take_up};
 use crate::refusal::OpenError;
 use crate::{DriveFiles, FileStore};
 use disk_dcdd::{DRIVE_SECTORS, DRIVES, SECTORS, SectorAddress, SectorWrite};
@@ -156,7 +156,7 @@ impl Attached {
         is_synced: bool,
         drive: u8,
     ) -> Result<(), OpenError> {
-        let how = Opening {
+        let how = ImageOptions {
             is_made: true,
             is_synced,
         };

@@ -4,7 +4,7 @@ ghost use Rattle.disk_file.specs.FileBytes.{bytes_in};
 ghost use Rattle.disk_file.specs.Kept.{bytes_of};
 
 use crate::file_device::FileDevice;
-use crate::opening::{OpenImage, Opening, open_image};
+use crate::opening::{ImageOptions, OpenImage, open_image};
 use crate::refusal::OpenError;
 use crate::write_through;
 use std::alloc::Global;
@@ -31,7 +31,7 @@ fn pad(device: &mut FileDevice, padding: &[u8]) -> Result<(), OpenError>
 
 /// Takes up what a crash has left in the journal of an image, and ends it. A missing file is not made.
 pub fn recover_image(alloc: Global, files: &HostRuntime, path: &str) -> Result<(), OpenError> {
-    let how = Opening {
+    let how = ImageOptions {
         is_made: false,
         is_synced: true,
     };
@@ -46,7 +46,7 @@ pub fn end_image(
     path: &str,
     padding: Vec<u8>,
 ) -> Result<(), OpenError> {
-    let how = Opening {
+    let how = ImageOptions {
         is_made: false,
         is_synced: true,
     };

@@ -3,8 +3,8 @@ ghost use Rattle.std.specs.Prelude.{◌≡◌, ◌⊎◌, ◌+◌, ◌<◌, ◌�
 ghost use Rattle.std.proofs.Common.{inl};
 ghost use Rattle.disk_file.specs.SectorPast.{HadBeen, only_bytes};
 
-use crate::memory::Memory;
-use crate::{Device, DeviceError};
+use crate::memory::MemoryFile;
+use crate::{CrashableFile, DeviceError};
 use std::alloc::{AllocError, Global};
 
 /// A file in memory that crashes once so many bytes are written; each sync and each cut counts as one. Of the write at the
@@ -13,7 +13,7 @@ use std::alloc::{AllocError, Global};
 #[derive(Drop)]
 pub struct CrashingMemory {
     alloc: Global,
-    memory: Memory,
+    memory: MemoryFile,
     left: usize,
     fill: Option<u8>,
     failures: Vec<u8>,
@@ -24,7 +24,7 @@ impl CrashingMemory {
     pub fn new(alloc: Global, bytes: Vec<u8>, left: usize, fill: Option<u8>) -> Self {
         CrashingMemory {
             alloc,
-            memory: Memory::new(alloc, bytes),
+            memory: MemoryFile::new(alloc, bytes),
             left,
             fill,
             failures: Vec::new(alloc),
@@ -74,7 +74,7 @@ fn torn(alloc: Global, bytes: &[u8], left: usize, fill: Option<u8>) -> Result<Ve
     Ok(torn)
 }
 
-impl Device for CrashingMemory {
+impl CrashableFile for CrashingMemory {
     ghost seen = { λ m. m.memory.bytes.items };
 
     ghost may_leave = { λ m c. c ≡ m.memory.bytes.items };

@@ -36,7 +36,7 @@ impl<T: Drop> From<AllocFailed<T>> for DeviceError {
 
 /// A file on a device. Between two syncs a crash may tear each write, or cut the file short of a cut. The moment tells what
 /// a crash during a call might have left.
-pub trait Device: Drop {
+pub trait CrashableFile: Drop {
     /// The bytes that a read returns.
     ghost seen: { Self → List ℕ };
 

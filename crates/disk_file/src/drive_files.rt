@@ -7,7 +7,7 @@ ghost use Rattle.disk_file.specs.Device.{LeavesOnly};
 ghost use Rattle.disk_file.specs.Drives.{Agree, AgreeOnDrive, AgreeOnTrack, IsBooted, IsOnDisk, OnlyDrive, WritesDrive, all_records, in_drive};
 ghost use Rattle.disk_file.specs.Kept.{StandsFor, bytes_of, pending_in};
 
-use crate::Device;
+use crate::CrashableFile;
 use crate::file_store::FileStore;
 use disk_dcdd::{SECTORS, SectorAddress, TRACKS};
 use i8080_words::{Fault, R};
@@ -17,23 +17,23 @@ use std::marker::Model;
 
 /// The drives of a disk, from drive 0 on, each in a file that has nothing of the others.
 #[derive(Drop)]
-pub struct DriveFiles<D: Device> {
+pub struct DriveFiles<D: CrashableFile> {
     drives: Vec<FileStore<D>>,
 }
 
-impl<D: Device> Model for DriveFiles<D> {
+impl<D: CrashableFile> Model for DriveFiles<D> {
     ghost use Rattle.std.specs.Prelude.{All, List};
     ghost use Rattle.disk_file.specs.Drives.{IsDrive};
-    ghost use Rattle.disk_file.specs.declared.kept.Kept.{Kept};
+    ghost use Rattle.disk_file.specs.declared.kept.FileRecords.{FileRecords};
 
-    ghost Value = { List (Kept D) };
+    ghost Value = { List (FileRecords D) };
 
     ghost view = { λ s. s.drives.items };
 
     ghost invariant = { λ s. All IsDrive s.drives.items };
 }
 
-impl<D: Device> DriveFiles<D> {
+impl<D: CrashableFile> DriveFiles<D> {
     /// A disk without a drive.
     pub fn new(alloc: Global) -> DriveFiles<D>
         ensures { result ≡ [] }
@@ -153,7 +153,7 @@ fn in_drive(address: SectorAddress) -> SectorAddress
 }
 
 // Puts a record into the file of a drive, all of whose sectors stay whole.
-fn put<D: Device>(drive: &mut FileStore<D>, address: SectorAddress, content: Record) -> R<()>
+fn put<D: CrashableFile>(drive: &mut FileStore<D>, address: SectorAddress, content: Record) -> R<()>
     ensures there { OnOk result (table.IsThere drive.old.records.items address) }
     ensures ok { OnOk result (drive.new.records.items
         ≡ table.with_record drive.old.records.items address content) }
@@ -171,7 +171,7 @@ fn put<D: Device>(drive: &mut FileStore<D>, address: SectorAddress, content: Rec
     answer
 }
 
-impl<D: Device> SectorStore for DriveFiles<D> {
+impl<D: CrashableFile> SectorStore for DriveFiles<D> {
     ghost records = { λ s. all_records s };
 
     ghost may_fail = { λ s. None };

@@ -6,7 +6,7 @@ ghost use Rattle.disk_file.specs.Past.{HadBeen, only_bytes};
 use crate::bytes::{lengthen, write_over};
 use crate::medium::Medium;
 use crate::past::Past;
-use crate::{Device, DeviceError};
+use crate::{CrashableFile, DeviceError};
 use std::alloc::Global;
 use std::fs::File;
 
@@ -64,7 +64,7 @@ impl FileDevice {
     }
 }
 
-impl Device for FileDevice {
+impl CrashableFile for FileDevice {
     ghost seen = { λ m. m.bytes.items };
 
     ghost may_leave = { λ m c. c ≡ m.bytes.items };

@@ -8,9 +8,9 @@ ghost use Rattle.disk_file.specs.Sectors.{contents};
 ghost use Rattle.shared_disk.specs.declared.store.Record.{Record};
 ghost use Rattle.disk_file.specs.Kept.{StandsFor, bytes_of, pending_in};
 
-use crate::kept::Kept;
+use crate::kept::FileRecords;
 use crate::session_opening::{close_kept, open_kept};
-use crate::{Device, DeviceError};
+use crate::{CrashableFile, DeviceError};
 use disk_dcdd::{DRIVE_SECTORS, SectorAddress};
 use i8080_words::{Fault, R};
 use shared_disk::{Record, SectorStore};
@@ -20,22 +20,22 @@ use std::marker::Model;
 /// Records in a file. Once the device has failed or memory has run out in a write, which is answered `DeviceFault`, no
 /// further write succeeds: the file has to be opened again.
 #[derive(Drop)]
-pub struct FileStore<D: Device> {
-    kept: Kept<D>,
+pub struct FileStore<D: CrashableFile> {
+    kept: FileRecords<D>,
 }
 
-impl<D: Device> Model for FileStore<D> {
+impl<D: CrashableFile> Model for FileStore<D> {
     ghost use Rattle.disk_file.specs.Kept.{IsKept};
-    ghost use Rattle.disk_file.specs.declared.kept.Kept.{Kept};
+    ghost use Rattle.disk_file.specs.declared.kept.FileRecords.{FileRecords};
 
-    ghost Value = { Kept D };
+    ghost Value = { FileRecords D };
 
     ghost view = { λ s. s.kept };
 
     ghost invariant = { λ s. IsKept D.seen D.may_leave s.kept };
 }
 
-impl<D: Device> FileStore<D> {
+impl<D: CrashableFile> FileStore<D> {
     /// Opens the disk of this many drives that a file stands for, which a crash may have left. To no sector of it has a
     /// write of this session arrived. It may crash too, and then the file stands for the same disk. An `Err` hands the
     /// file back.
@@ -75,7 +75,7 @@ impl<D: Device> FileStore<D> {
         &self.kept.device
     }
 
-    /// Why no further write succeeds: `Memory` if memory ran out in one, and `Failed` if the device failed; `None` while
+    /// Why no further write succeeds: `MemoryFile` if memory ran out in one, and `Failed` if the device failed; `None` while
     /// the store works.
     pub fn error(&self) -> Option<DeviceError>
         ensures error { result ≡ self.now.error }
@@ -96,7 +96,7 @@ impl<D: Device> FileStore<D> {
     }
 }
 
-impl<D: Device> SectorStore for FileStore<D> {
+impl<D: CrashableFile> SectorStore for FileStore<D> {
     ghost records = { λ s. s.records.items };
 
     ghost may_fail = { λ s. None };

@@ -4,7 +4,7 @@ ghost use Rattle.disk_file.specs.Device.{Only, LeavesOnly};
 ghost use Rattle.disk_file.specs.Sectors.{contents, with_sector, Resting, IsBeforeOrAfter};
 
 use crate::through::write_through;
-use crate::{Device, DeviceError};
+use crate::{CrashableFile, DeviceError};
 use disk_dcdd::SECTOR_BYTES;
 
 // How many bytes a block of the journal has: its gate, the place of a sector in two bytes, and the sector's bytes.
@@ -28,7 +28,7 @@ fn block_of(place: u16, bytes: &[u8; SECTOR_BYTES]) -> [u8; BLOCK_BYTES]
 
 /// Adds a block to the journal of a file that has this many sectors and ends there. At `Ok` it is on the disk: from then
 /// on each crash leaves a file that has it. At `Err` the file has to be opened again.
-pub fn append<D: Device>(
+pub fn append<D: CrashableFile>(
     device: &mut D,
     sectors: usize,
     end: usize,

@@ -5,26 +5,26 @@ ghost use Rattle.disk_file.specs.Sectors.{IsBeforeOrAfter};
 ghost use Rattle.disk_file.specs.Kept.{IsKept, StandsFor, bytes_of, pending_with};
 
 use crate::room::add;
-use crate::{Device, DeviceError};
+use crate::{CrashableFile, DeviceError};
 use disk_dcdd::SECTOR_BYTES;
 use shared_disk::Record;
 use std::alloc::Global;
 
 /// A write of a sector in which the device failed: it may be on the disk or not.
 #[derive(Clone, Copy)]
-pub struct Pending {
+pub struct PendingWrite {
     pub place: usize,
     pub bytes: [u8; SECTOR_BYTES],
 }
 
 /// Records, the file that has them, the offset of its last gate, the write in which the device failed, and its error.
 #[derive(Drop)]
-pub struct Kept<D: Device> {
+pub struct FileRecords<D: CrashableFile> {
     pub alloc: Global,
     pub device: D,
     pub records: Vec<Record>,
     pub end: usize,
-    pub pending: Option<Pending>,
+    pub pending: Option<PendingWrite>,
     pub error: Option<DeviceError>,
 }
 
@@ -33,7 +33,7 @@ pub(crate) fn sized(bytes: &[u8; SECTOR_BYTES])
     ensures { length bytes.now ≡ 137 }
 {}
 
-impl<D: Device> Kept<D> {
+impl<D: CrashableFile> FileRecords<D> {
     /// Puts a record into a place. At `Ok` it is on the disk, and each crash from then on leaves it there. At `Err` the
     /// device has failed: no record changes, and no further write succeeds.
     pub fn put(&mut self, place: usize, content: Record) -> Result<(), DeviceError>
@@ -87,7 +87,7 @@ impl<D: Device> Kept<D> {
                 Ok(())
             }
             Err(error) => {
-                self.pending = Some(Pending { place, bytes });
+                self.pending = Some(PendingWrite { place, bytes });
                 self.error = Some(error);
                 Err(error)
             }

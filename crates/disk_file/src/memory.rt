@@ -3,25 +3,25 @@ ghost use Rattle.std.specs.Prelude.{◌≡◌, ◌⊎◌, [], ◌∷◌, ◌++�
 ghost use Rattle.std.proofs.Common.{inl};
 ghost use Rattle.disk_file.specs.SectorPast.{HadBeen, only_bytes};
 
-use crate::{Device, DeviceError};
+use crate::{CrashableFile, DeviceError};
 use std::alloc::{AllocError, Global};
 
 /// A file in memory, with the contents that it had. Each call is done at once, so a crash leaves what is there.
 #[derive(Drop)]
-pub struct Memory {
+pub struct MemoryFile {
     alloc: Global,
     bytes: Vec<u8>,
     past: Vec<Vec<u8>>,
 }
 
-impl Memory {
+impl MemoryFile {
     ghost use Rattle.disk_file.specs.Memory.{memory_bytes};
 
     /// A file with these bytes, all of them on the disk.
     pub fn new(alloc: Global, bytes: Vec<u8>) -> Self
         ensures { memory_bytes result ≡ bytes.items }
     {
-        Memory {
+        MemoryFile {
             alloc,
             bytes,
             past: Vec::new(alloc),
@@ -54,7 +54,7 @@ fn replace(
     Ok(())
 }
 
-impl Device for Memory {
+impl CrashableFile for MemoryFile {
     ghost seen = { λ m. m.bytes.items };
 
     ghost may_leave = { λ m c. c ≡ m.bytes.items };

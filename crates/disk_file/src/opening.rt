@@ -19,7 +19,7 @@ pub const PADDING_BYTES: usize = 96;
 
 /// How an image is opened.
 #[derive(Clone, Copy)]
-pub struct Opening {
+pub struct ImageOptions {
     /// Whether a missing file is made.
     pub is_made: bool,
     /// Whether a write is done only once the disk has it; if not, once the file system has.
@@ -40,7 +40,7 @@ pub fn open_image(
     alloc: Global,
     files: &HostRuntime,
     path: &str,
-    how: Opening,
+    how: ImageOptions,
 ) -> Result<OpenImage, OpenError>
     ensures size { IfOk result (λ image. length image.store.records.items ≡ 2464) }
     ensures unwritten { IfOk result (λ image. All (λ (r : Record). r.number ≡ 0) image.store.records.items) }

@@ -4,7 +4,7 @@ ghost use Rattle.disk_file.specs.Device.{Only, LeavesOnly};
 ghost use Rattle.disk_file.specs.Sectors.{Entry, contents, journal_of, Redone, Resting};
 
 use crate::through::{cut_through, write_through};
-use crate::{Device, DeviceError};
+use crate::{CrashableFile, DeviceError};
 use disk_dcdd::SECTOR_BYTES;
 use std::alloc::Global;
 
@@ -27,7 +27,7 @@ fn first_entry(sectors: usize, journal: &[u8]) -> Option<(usize, &[u8], &[u8])>
 }
 
 // Writes the entries of a file's journal into its image. The journal stands.
-fn redo<D: Device>(device: &mut D, sectors: usize, journal: &[u8]) -> Result<(), DeviceError>
+fn redo<D: CrashableFile>(device: &mut D, sectors: usize, journal: &[u8]) -> Result<(), DeviceError>
     requires is { journal.now ≡ drop (137 * sectors) (D.seen device.old) }
     requires long { 137 * sectors ≤ length (D.seen device.old) }
     requires few { sectors ≤ 65536 }
@@ -50,7 +50,11 @@ fn redo<D: Device>(device: &mut D, sectors: usize, journal: &[u8]) -> Result<(),
 }
 
 // Shuts the first gate of a journal that is in the image.
-fn shut_first<D: Device>(device: &mut D, sectors: usize, journal: &[u8]) -> Result<(), DeviceError>
+fn shut_first<D: CrashableFile>(
+    device: &mut D,
+    sectors: usize,
+    journal: &[u8],
+) -> Result<(), DeviceError>
     requires is { journal.now ≡ drop (137 * sectors) (D.seen device.old) }
     requires long { 137 * sectors ≤ length (D.seen device.old) }
     requires few { sectors ≤ 65536 }
@@ -74,7 +78,7 @@ fn shut_first<D: Device>(device: &mut D, sectors: usize, journal: &[u8]) -> Resu
 }
 
 // Cuts off a journal that stands for nothing, and writes the closed gate of a new one.
-fn cut_off<D: Device>(device: &mut D, sectors: usize) -> Result<(), DeviceError>
+fn cut_off<D: CrashableFile>(device: &mut D, sectors: usize) -> Result<(), DeviceError>
     requires long { 137 * sectors ≤ length (D.seen device.old) }
     requires few { sectors ≤ 65536 }
     requires durable { Only (D.seen device.old) (D.may_leave device.old) }
@@ -95,7 +99,11 @@ fn cut_off<D: Device>(device: &mut D, sectors: usize) -> Result<(), DeviceError>
 
 /// Takes the journal of a file that a crash may have left up into its image: at `Ok` the file is the image of the disk that
 /// it stood for, and a closed gate. It may crash too, and is then done again. `Short` if the file is no such image.
-pub fn take_up<D: Device>(alloc: Global, device: &mut D, sectors: usize) -> Result<(), DeviceError>
+pub fn take_up<D: CrashableFile>(
+    alloc: Global,
+    device: &mut D,
+    sectors: usize,
+) -> Result<(), DeviceError>
     // After a restart, what is read is what is on the disk.
     requires durable { Only (D.seen device.old) (D.may_leave device.old) }
     requires few { sectors ≤ 65536 }
@@ -126,7 +134,11 @@ pub fn take_up<D: Device>(alloc: Global, device: &mut D, sectors: usize) -> Resu
 }
 
 /// The same, and then cuts off the closed gate: at `Ok` the file is an ordinary image of the disk that it stood for.
-pub fn finish<D: Device>(alloc: Global, device: &mut D, sectors: usize) -> Result<(), DeviceError>
+pub fn finish<D: CrashableFile>(
+    alloc: Global,
+    device: &mut D,
+    sectors: usize,
+) -> Result<(), DeviceError>
     requires durable { Only (D.seen device.old) (D.may_leave device.old) }
     requires few { sectors ≤ 65536 }
 

@@ -5,7 +5,7 @@ ghost use Rattle.disk_file.specs.Sectors.{IsBeforeOrAfter, Resting, contents, wi
 
 use crate::journal::{BLOCK_BYTES, append};
 use crate::recovery::take_up;
-use crate::{Device, DeviceError};
+use crate::{CrashableFile, DeviceError};
 use disk_dcdd::SECTOR_BYTES;
 use std::alloc::Global;
 
@@ -13,7 +13,7 @@ use std::alloc::Global;
 const JOURNAL_BYTES: usize = 4096 * BLOCK_BYTES;
 
 // Where a journal ends once it has room for a block. If it has none it is taken up into the image.
-fn make_room<D: Device>(
+fn make_room<D: CrashableFile>(
     alloc: Global,
     device: &mut D,
     sectors: usize,
@@ -39,8 +39,8 @@ fn make_room<D: Device>(
 }
 
 /// Adds a block to a journal that ends there, as `append` does, and returns where it ends then: 4,096 blocks after the
-/// image at most. At `Err` the file has to be opened again; `Memory` if memory ran out.
-pub fn add<D: Device>(
+/// image at most. At `Err` the file has to be opened again; `MemoryFile` if memory ran out.
+pub fn add<D: CrashableFile>(
     alloc: Global,
     device: &mut D,
     sectors: usize,

@@ -5,9 +5,9 @@ ghost use Rattle.disk_file.specs.Device.{LeavesOnly, Only};
 ghost use Rattle.disk_file.specs.Sectors.{contents};
 ghost use Rattle.disk_file.specs.Kept.{AreWhole, IsKept, StandsFor, bytes_of};
 
-use crate::kept::{Kept, sized};
+use crate::kept::{FileRecords, sized};
 use crate::recovery::{finish, take_up};
-use crate::{Device, DeviceError};
+use crate::{CrashableFile, DeviceError};
 use disk_dcdd::SECTOR_BYTES;
 use shared_disk::Record;
 use std::alloc::{AllocError, Global};
@@ -46,11 +46,11 @@ fn records_of(alloc: Global, image: &[u8]) -> Result<Vec<Record>, AllocError>
 
 /// Opens the disk that a file stands for, which a crash may have left. It may crash too, and then the file stands for the
 /// same disk. An `Err` hands the file back.
-pub fn open_kept<D: Device>(
+pub fn open_kept<D: CrashableFile>(
     alloc: Global,
     sectors: usize,
     device: D,
-) -> Result<Kept<D>, (DeviceError, D)>
+) -> Result<FileRecords<D>, (DeviceError, D)>
     // After a restart, what is read is what is on the disk.
     requires durable { Only (D.seen device) (D.may_leave device) }
     requires few { sectors ≤ 65536 }
@@ -71,7 +71,7 @@ pub fn open_kept<D: Device>(
         Ok(records) => records,
         Err(error) => return Err((error, device)),
     };
-    Ok(Kept {
+    Ok(FileRecords {
         alloc,
         device,
         records,
@@ -82,7 +82,7 @@ pub fn open_kept<D: Device>(
 }
 
 // The records of a file that has been taken up.
-fn read_records<D: Device>(
+fn read_records<D: CrashableFile>(
     alloc: Global,
     device: &mut D,
     sectors: usize,
@@ -103,14 +103,17 @@ fn read_records<D: Device>(
 }
 
 /// Ends a session. At `Ok` the file is an ordinary image of the disk.
-pub fn close_kept<D: Device>(alloc: Global, kept: Kept<D>) -> (D, Result<(), DeviceError>)
+pub fn close_kept<D: CrashableFile>(
+    alloc: Global,
+    kept: FileRecords<D>,
+) -> (D, Result<(), DeviceError>)
     requires kept { IsKept D.seen D.may_leave kept }
     ensures image { OnOk result.1 (D.seen result.0 ≡ bytes_of kept.records.items) }
     ensures durable { OnOk result.1 (Only (D.seen result.0) (D.may_leave result.0)) }
     ensures any_moment { LeavesOnly D.moment D.left_since kept.device result.0
         (StandsFor (length kept.records.items) (bytes_of kept.records.items) kept.pending) }
 {
-    let Kept {
+    let FileRecords {
         alloc: _,
         mut device,
         records,

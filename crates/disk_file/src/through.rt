@@ -2,10 +2,14 @@
 ghost use Rattle.std.specs.Prelude.{◌≡◌, ◌<◌, ◌≤◌, length, take, OnOk, IsErrOf};
 ghost use Rattle.disk_file.specs.Device.{Cut, Holds, LeavesOnly, Only, Torn};
 
-use crate::{Device, DeviceError};
+use crate::{CrashableFile, DeviceError};
 
 /// Writes, and waits until it is on the disk. Meanwhile a crash may tear the write, and nothing else.
-pub fn write_through<D: Device>(device: &mut D, at: usize, bytes: &[u8]) -> Result<(), DeviceError>
+pub fn write_through<D: CrashableFile>(
+    device: &mut D,
+    at: usize,
+    bytes: &[u8],
+) -> Result<(), DeviceError>
     requires here { at ≤ length (D.seen device.old) }
     requires durable { Only (D.seen device.old) (D.may_leave device.old) }
     ensures written { OnOk result (Holds (D.seen device.old) at bytes.now (D.seen device.new)) }
@@ -23,7 +27,7 @@ pub fn write_through<D: Device>(device: &mut D, at: usize, bytes: &[u8]) -> Resu
 }
 
 /// Cuts the file, and waits until that is on the disk.
-pub fn cut_through<D: Device>(device: &mut D, len: usize) -> Result<(), DeviceError>
+pub fn cut_through<D: CrashableFile>(device: &mut D, len: usize) -> Result<(), DeviceError>
     requires here { len ≤ length (D.seen device.old) }
     requires durable { Only (D.seen device.old) (D.may_leave device.old) }
     ensures cut { OnOk result (D.seen device.new ≡ take len (D.seen device.old)) }

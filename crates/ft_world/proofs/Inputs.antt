@@ -8,13 +8,13 @@ use Rattle.ft_node.specs.declared.node.Node.TheVariants as node
 use Rattle.ft_world.proofs.Keeping.{machine_count, own_inputs}
 
 -- a node that has taken an input
-record Takes {S : Type 0} (M : Machine S) (i : Input) (x y : Node S) : Type 0 where
+record TakesInput {S : Type 0} (M : Machine S) (i : Input) (x y : Node S) : Type 0 where
   pub role : y.role ≡ x.role
   pub list : y.list ≡ x.list ++ timed (M.count x.machine) i ∷ []
   pub count : M.count y.machine ≡ M.count x.machine
 
 takes : {S : Type 0} (M : Machine S) (i : Input) (x : Node S) (s : S) → Counts M → M.take x.machine i ≡ Some s
-    → (q : Role) → Serving q → Takes M i x (took M x q s i)
+    → (q : Role) → Serving q → TakesInput M i x (took M x q s i)
 takes M i x s counts e Primary v =
     record { role = refl; list = refl; count = counts.by_input x.machine s i e }
 takes M i x s counts e Alone v = record { role = refl; list = refl; count = counts.by_input x.machine s i e }
@@ -28,7 +28,7 @@ takes M i x s counts e Spare (inl v) = (cc)
 takes M i x s counts e Spare (inr v) = (cc)
 
 took_station : {B H S : Type 0} (state : B → S) (M : Machine S) (C : Copying S) (drives : ℕ) (i : Input) (h new : Station B H) (x y : Node S)
-    → Serving x.role → Takes M i x y → IsStation state M C drives h x → IsNode state M C drives new.node y
+    → Serving x.role → TakesInput M i x y → IsStation state M C drives h x → IsNode state M C drives new.node y
     → new.inputs ≡ h.inputs ++ timed h.count i ∷ [] → new.count ≡ h.count → IsStation state M C drives new y
 took_station state M C drives i h new x y serve t is now e c =
     let later : Serving y.role = subst (λ q. Serving q) (sym t.role) serve in
@@ -62,7 +62,7 @@ accepts state M C drives i h new x counts may is made e c =
       done = t;
       after =
           took_station state M C drives i h new x made.y role
-          (subst (Takes M i x) (sym t.after) (takes M i x t.s counts t.takes x.role role)) is made.after e c;
+          (subst (TakesInput M i x) (sym t.after) (takes M i x t.s counts t.takes x.role role)) is made.after e c;
     }
 
 -- there is no room for an input

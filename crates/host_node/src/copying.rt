@@ -1,7 +1,7 @@
 //! What a host that is alone does when it is told to begin a generation: a copy of its machine goes early, while it runs on.
 ghost use Rattle.host_node.specs.Goes.{Goes};
 
-use crate::heard::Heard;
+use crate::heard::FrameOutcome;
 use crate::pace::AGAIN;
 use crate::serving::Serving;
 use board_image::{KeyRoom, OutstandingWrites, Snapshots};
@@ -15,12 +15,12 @@ impl<B: Copies<H> + KeyRoom + OutstandingWrites + Snapshots + Drop, H: Drop> Ser
     // A copy goes early once the host is told to begin a generation, and no longer once the host is gone to which it goes. Without memory
     // none goes, and the generation begins without that.
     #[tactic(auto, using(crate::proofs::Going::stays, crate::proofs::Going::and_then))]
-    pub(crate) fn prepare(&mut self, heard: Heard)
+    pub(crate) fn prepare(&mut self, heard: FrameOutcome)
         ensures { Goes B.state B.machine B.copied self.old.host self.new.host }
     {
         match heard {
-            Heard::Asked { generation, host } => self.begin_early(generation, host),
-            Heard::Gone(_) if self.pace.is_gone => self.host.end_early(),
+            FrameOutcome::Asked { generation, host } => self.begin_early(generation, host),
+            FrameOutcome::Gone(_) if self.pace.is_gone => self.host.end_early(),
             _ => {}
         }
     }

@@ -4,7 +4,7 @@ ghost use Rattle.host_node.specs.Early.{CopiesEarly, EndsEarly, IsEarlyPart, IsP
 ghost use Rattle.host_node.specs.Goes.{Goes};
 ghost use Rattle.i8080_words.specs.declared.refusal.Fault.TheVariants.{OutOfMemory};
 
-use crate::heard::Heard;
+use crate::heard::FrameOutcome;
 use crate::host::{HostNode, Hosted};
 use board_image::Snapshots;
 use clone_state::{Copies, Image};
@@ -124,17 +124,17 @@ impl<B: Copies<H> + Drop, H: Drop> HostNode<B, H> {
 
     // Takes a part that has come early. It says nothing to a host that has a node.
     #[tactic(auto, using(crate::proofs::Going::stays))]
-    pub(crate) fn take_early(&mut self, host: u8, bytes: &[u8]) -> Heard
+    pub(crate) fn take_early(&mut self, host: u8, bytes: &[u8]) -> FrameOutcome
         ensures { Goes B.state B.machine B.copied self.old self.new }
     {
         let Hosted::Spare(_) = &self.node else {
-            return Heard::Nothing;
+            return FrameOutcome::Nothing;
         };
         let [_, _, _, _, _, _, high, low, ..] = *bytes else {
-            return Heard::Malformed;
+            return FrameOutcome::Malformed;
         };
         self.peer = host;
-        Heard::Early(u16::from_be_bytes([high, low]))
+        FrameOutcome::Early(u16::from_be_bytes([high, low]))
     }
 }
 

@@ -4,7 +4,7 @@ use ft_node::{Lead, PartCame};
 
 /// What a frame was to a host.
 #[derive(Clone, Copy)]
-pub enum Heard {
+pub enum FrameOutcome {
     /// The frame says nothing that is new to this host, or nothing that its node takes.
     Nothing,
     /// The bytes are no frame, or a packet of the peer is none of its log, or fits nothing.

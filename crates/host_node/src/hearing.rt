@@ -6,7 +6,7 @@ ghost use Rattle.host_node.specs.Mail.{IsFrom};
 ghost use Rattle.host_frames.specs.Frames.{Packet, Tells, Transfers, said_by};
 
 use crate::early::EARLY;
-use crate::heard::Heard;
+use crate::heard::FrameOutcome;
 use crate::host::{HostNode, Hosted};
 use crate::pace::End;
 use crate::sending::PARTS;
@@ -28,7 +28,7 @@ impl<B: Copies<H> + Drop, H: Drop> HostNode<B, H> {
     /// Takes the next frame that has come, if there is one, and says what it was; or says why the host ends: it was told to
     /// stop, or there was no memory for what the frame asks.
     #[tactic(auto, using(crate::proofs::Going::heard_none, crate::proofs::Going::heard_one, crate::proofs::Going::from_last, crate::proofs::Going::and_then))]
-    pub fn hear(&mut self) -> Result<Option<Heard>, End>
+    pub fn hear(&mut self) -> Result<Option<FrameOutcome>, End>
         ensures goes { Goes B.state B.machine B.copied self.old self.new }
         ensures why { IfErr result (λ end. IsEnd B.state B.machine B.copied end self.old self.new) }
     {
@@ -37,13 +37,13 @@ impl<B: Copies<H> + Drop, H: Drop> HostNode<B, H> {
         };
         match frame_of(&body) {
             Ok(frame) => self.hear_frame(&frame),
-            Err(_) => Ok(Some(Heard::Malformed)),
+            Err(_) => Ok(Some(FrameOutcome::Malformed)),
         }
     }
 
     // Takes a frame that came.
     #[tactic(auto, using(crate::proofs::Going::stays))]
-    fn hear_frame(&mut self, frame: &Frame<'_>) -> Result<Option<Heard>, End>
+    fn hear_frame(&mut self, frame: &Frame<'_>) -> Result<Option<FrameOutcome>, End>
         requires { IsFrom self.old.mail.came (said_by frame.now) }
         ensures goes { Goes B.state B.machine B.copied self.old self.new }
         ensures why { IfErr result (λ end. IsEnd B.state B.machine B.copied end self.old self.new) }
@@ -59,7 +59,7 @@ impl<B: Copies<H> + Drop, H: Drop> HostNode<B, H> {
 
     // Takes a frame.
     #[tactic(auto, using(crate::proofs::Going::stays))]
-    fn take(&mut self, frame: &Frame<'_>) -> R<Heard>
+    fn take(&mut self, frame: &Frame<'_>) -> R<FrameOutcome>
         requires { IsFrom self.old.mail.came (said_by frame.now) }
         ensures { Goes B.state B.machine B.copied self.old self.new }
     {
@@ -72,7 +72,7 @@ impl<B: Copies<H> + Drop, H: Drop> HostNode<B, H> {
 
     // Takes a packet of the peer, or one that comes early. A host that waits for the arbiter's answer takes none of its peer.
     #[tactic(auto, using(crate::proofs::Going::stays))]
-    fn take_packet(&mut self, host: u8, bytes: &[u8]) -> R<Heard>
+    fn take_packet(&mut self, host: u8, bytes: &[u8]) -> R<FrameOutcome>
         requires { IsFrom self.old.mail.came (Packet host bytes.now) }
         ensures { Goes B.state B.machine B.copied self.old self.new }
     {
@@ -80,71 +80,71 @@ impl<B: Copies<H> + Drop, H: Drop> HostNode<B, H> {
             return Ok(self.take_early(host, bytes));
         }
         if host != self.peer || self.is_waiting {
-            return Ok(Heard::Nothing);
+            return Ok(FrameOutcome::Nothing);
         }
         match *bytes {
-            [] => Ok(Heard::Beat),
-            [PARTS, high, low] => Ok(Heard::Parts(u64::from(high) * 256 + u64::from(low))),
+            [] => Ok(FrameOutcome::Beat),
+            [PARTS, high, low] => Ok(FrameOutcome::Parts(u64::from(high) * 256 + u64::from(low))),
             [LOG, ..] => self.take_entry(host, bytes),
             [ACKNOWLEDGED, ..] | [REPORTED, ..] => self.take_acknowledgement(host, bytes),
             [PART, ..] => self.take_part(host, bytes),
-            _ => Ok(Heard::Malformed),
+            _ => Ok(FrameOutcome::Malformed),
         }
     }
 
     // Takes a packet of the log.
     #[tactic(auto, using(crate::proofs::Packets::on_log, crate::proofs::Going::stays))]
-    fn take_entry(&mut self, host: u8, bytes: &[u8]) -> R<Heard>
+    fn take_entry(&mut self, host: u8, bytes: &[u8]) -> R<FrameOutcome>
         requires { IsFrom self.old.mail.came (Packet host bytes.now) }
         ensures { Goes B.state B.machine B.copied self.old self.new }
     {
         let Hosted::Node(node) = &mut self.node else {
-            return Ok(Heard::Nothing);
+            return Ok(FrameOutcome::Nothing);
         };
         match node.on_log(bytes) {
-            Ok(_) => Ok(Heard::Entry),
+            Ok(_) => Ok(FrameOutcome::Entry),
             Err(Fault::OutOfMemory) => Err(Fault::OutOfMemory),
-            Err(Fault::Malformed) => Ok(Heard::Malformed),
-            Err(_) => Ok(Heard::Nothing),
+            Err(Fault::Malformed) => Ok(FrameOutcome::Malformed),
+            Err(_) => Ok(FrameOutcome::Nothing),
         }
     }
 
     // Takes an acknowledgement.
     #[tactic(auto, using(crate::proofs::Packets::on_ack, crate::proofs::Going::stays))]
-    fn take_acknowledgement(&mut self, host: u8, bytes: &[u8]) -> R<Heard>
+    fn take_acknowledgement(&mut self, host: u8, bytes: &[u8]) -> R<FrameOutcome>
         requires { IsFrom self.old.mail.came (Packet host bytes.now) }
         ensures { Goes B.state B.machine B.copied self.old self.new }
     {
         let Hosted::Node(node) = &mut self.node else {
-            return Ok(Heard::Nothing);
+            return Ok(FrameOutcome::Nothing);
         };
         match node.on_ack(bytes) {
-            Ok(covered) => Ok(Heard::Acknowledged(covered)),
-            Err(Fault::Malformed) | Err(Fault::BadAck) => Ok(Heard::Malformed),
-            Err(_) => Ok(Heard::Nothing),
+            Ok(covered) => Ok(FrameOutcome::Acknowledged(covered)),
+            Err(Fault::Malformed) | Err(Fault::BadAck) => Ok(FrameOutcome::Malformed),
+            Err(_) => Ok(FrameOutcome::Nothing),
         }
     }
 
     // Takes a part of an image.
     #[tactic(auto, using(crate::proofs::Packets::on_part, crate::proofs::Going::stays))]
-    fn take_part(&mut self, host: u8, bytes: &[u8]) -> R<Heard>
+    fn take_part(&mut self, host: u8, bytes: &[u8]) -> R<FrameOutcome>
         requires { IsFrom self.old.mail.came (Packet host bytes.now) }
         ensures { Goes B.state B.machine B.copied self.old self.new }
     {
         let Hosted::Node(node) = &mut self.node else {
-            return Ok(Heard::Nothing);
+            return Ok(FrameOutcome::Nothing);
         };
         match node.part(self.alloc, bytes) {
-            Ok(came) => Ok(Heard::Part(came)),
+            Ok(came) => Ok(FrameOutcome::Part(came)),
             Err(Fault::OutOfMemory) => Err(Fault::OutOfMemory),
-            Err(Fault::Malformed) => Ok(Heard::Malformed),
-            Err(_) => Ok(Heard::Nothing),
+            Err(Fault::Malformed) => Ok(FrameOutcome::Malformed),
+            Err(_) => Ok(FrameOutcome::Nothing),
         }
     }
 
     // Takes what the arbiter or the switch says.
     #[tactic(auto, using(crate::proofs::Going::stays))]
-    fn take_notice(&mut self, notice: &Notice) -> R<Heard>
+    fn take_notice(&mut self, notice: &Notice) -> R<FrameOutcome>
         requires { IsFrom self.old.mail.came (Tells notice.now) }
         ensures { Goes B.state B.machine B.copied self.old self.new }
     {
@@ -158,15 +158,15 @@ impl<B: Copies<H> + Drop, H: Drop> HostNode<B, H> {
                 drives,
                 count,
             } => self.join(generation, host, drives, count),
-            Notice::Gone(host) => Ok(Heard::Gone(host)),
+            Notice::Gone(host) => Ok(FrameOutcome::Gone(host)),
             Notice::Progress {
                 host,
                 entries,
                 count,
-            } if host == self.peer => Ok(Heard::Progress(Lead { entries, count })),
-            Notice::Tick { number, speed } => Ok(Heard::Tick { number, speed }),
+            } if host == self.peer => Ok(FrameOutcome::Progress(Lead { entries, count })),
+            Notice::Tick { number, speed } => Ok(FrameOutcome::Tick { number, speed }),
             Notice::Progress { .. } | Notice::Suspect(_) | Notice::Report(_) | Notice::Stop => {
-                Ok(Heard::Nothing)
+                Ok(FrameOutcome::Nothing)
             }
         }
     }

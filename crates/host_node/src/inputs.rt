@@ -7,7 +7,7 @@ ghost use Rattle.host_frames.specs.declared.frame.Transfer.TheVariants as transf
 ghost use Rattle.host_node.specs.Goes.{Goes};
 ghost use Rattle.host_node.specs.Mail.{IsFrom};
 
-use crate::heard::Heard;
+use crate::heard::FrameOutcome;
 use crate::host::{HostNode, Hosted};
 use crate::mail::KeptKey;
 use clone_state::Copies;
@@ -24,7 +24,7 @@ const ACCEPTANCES: u64 = 16;
 impl<B: Copies<H> + Drop, H: Drop> HostNode<B, H> {
     // Takes what a terminal or the disk sends.
     #[tactic(auto, using(crate::proofs::Going::stays))]
-    pub(crate) fn take_transfer(&mut self, transfer: &Transfer) -> R<Heard>
+    pub(crate) fn take_transfer(&mut self, transfer: &Transfer) -> R<FrameOutcome>
         requires { IsFrom self.old.mail.came (Transfers transfer.now) }
         ensures { Goes B.state B.machine B.copied self.old self.new }
     {
@@ -35,13 +35,15 @@ impl<B: Copies<H> + Drop, H: Drop> HostNode<B, H> {
                     index: *index,
                     byte: *byte,
                 });
-                Ok(Heard::Key)
+                Ok(FrameOutcome::Key)
             }
             Transfer::Accepted { port, count } => self.take_accepted(*port, *count),
             Transfer::Written(number) => self.take_written(*number),
-            Transfer::Failed(number) => Ok(Heard::Failed(*number)),
+            Transfer::Failed(number) => Ok(FrameOutcome::Failed(*number)),
             Transfer::Sector(read) => self.take_sector(read),
-            Transfer::Byte { .. } | Transfer::Write(_) | Transfer::Get(_) => Ok(Heard::Nothing),
+            Transfer::Byte { .. } | Transfer::Write(_) | Transfer::Get(_) => Ok(
+                FrameOutcome::Nothing,
+            ),
         }
     }
 
@@ -63,7 +65,7 @@ impl<B: Copies<H> + Drop, H: Drop> HostNode<B, H> {
 
     // Takes the acceptance of bytes of a port, up to this count.
     #[tactic(auto, using(crate::proofs::Going::stays, crate::proofs::Going::and_then))]
-    fn take_accepted(&mut self, port: u8, count: u64) -> R<Heard>
+    fn take_accepted(&mut self, port: u8, count: u64) -> R<FrameOutcome>
         requires { IsFrom self.old.mail.came (Transfers (transfer.Accepted port count)) }
         ensures { Goes B.state B.machine B.copied self.old self.new }
     {
@@ -72,7 +74,7 @@ impl<B: Copies<H> + Drop, H: Drop> HostNode<B, H> {
                 break;
             }
         }
-        Ok(Heard::Accepted)
+        Ok(FrameOutcome::Accepted)
     }
 
     // Takes the acceptance of the oldest byte of a port, if it is within this count.
@@ -99,34 +101,34 @@ impl<B: Copies<H> + Drop, H: Drop> HostNode<B, H> {
 
     // Takes the completion of a write.
     #[tactic(auto, using(crate::proofs::Taking::done, crate::proofs::Going::stays))]
-    fn take_written(&mut self, number: u64) -> R<Heard>
+    fn take_written(&mut self, number: u64) -> R<FrameOutcome>
         requires { IsFrom self.old.mail.came (Transfers (transfer.Written number)) }
         ensures { Goes B.state B.machine B.copied self.old self.new }
     {
         let Hosted::Node(node) = &mut self.node else {
-            return Ok(Heard::Nothing);
+            return Ok(FrameOutcome::Nothing);
         };
         match node.done(number) {
-            Ok(()) => Ok(Heard::Written(number)),
-            Err(_) => Ok(Heard::Nothing),
+            Ok(()) => Ok(FrameOutcome::Written(number)),
+            Err(_) => Ok(FrameOutcome::Nothing),
         }
     }
 
     // Takes a sector of the disk: as what a replaying node waits for, or as a live node's input.
     #[tactic(auto, using(crate::proofs::Going::stays))]
-    fn take_sector(&mut self, read: &SectorRead) -> R<Heard>
+    fn take_sector(&mut self, read: &SectorRead) -> R<FrameOutcome>
         requires { IsFrom self.old.mail.came (Transfers (transfer.Sector read.now)) }
         ensures { Goes B.state B.machine B.copied self.old self.new }
     {
         let sector = read.sector;
         if usize::from(read.drive) >= DRIVES || sector >= SECTORS {
-            return Ok(Heard::Malformed);
+            return Ok(FrameOutcome::Malformed);
         }
         let is_taken = match self.role() {
             Some(Role::Backup) | Some(Role::Draining) => self.take_wanted(read),
             _ => self.take_under(read),
         };
-        Ok(Heard::Sector { sector, is_taken })
+        Ok(FrameOutcome::Sector { sector, is_taken })
     }
 
     // Takes the sector for whose bytes a replaying node waits.

@@ -7,7 +7,7 @@ ghost use Rattle.host_node.specs.Mail.{IsFrom};
 ghost use Rattle.host_node.specs.Roles.{MayAsk};
 
 use crate::early::is_ready;
-use crate::heard::Heard;
+use crate::heard::FrameOutcome;
 use crate::host::{HostNode, Hosted};
 use arbiter_core::Arbiter;
 use clone_state::{Assembly, Copies};
@@ -22,26 +22,26 @@ use std::mem;
 impl<B: Copies<H> + Drop, H: Drop> HostNode<B, H> {
     // The node has won its generation, if that was asked. It asks an arbiter of its own, whom nobody else asks.
     #[tactic(auto, using(crate::proofs::Asked::wins, crate::proofs::Asked::never_lost, crate::proofs::Going::stays, crate::proofs::Going::looked))]
-    pub(crate) fn win(&mut self, generation: u32) -> R<Heard>
+    pub(crate) fn win(&mut self, generation: u32) -> R<FrameOutcome>
         requires { IsFrom self.old.mail.came (Tells (notice.Won generation)) }
         ensures { Goes B.state B.machine B.copied self.old self.new }
     {
         let Hosted::Node(node) = &mut self.node else {
-            return Ok(Heard::Nothing);
+            return Ok(FrameOutcome::Nothing);
         };
         if !self.is_waiting || node.generation() != generation || !may_ask(node.role()) {
-            return Ok(Heard::Nothing);
+            return Ok(FrameOutcome::Nothing);
         }
         let mut arbiter = Arbiter::new(self.alloc);
         match node.suspect(u64::from(self.number), &mut arbiter) {
             Ok(_) => {
                 self.is_waiting = false;
                 self.mail.forget_keys();
-                Ok(Heard::Won)
+                Ok(FrameOutcome::Won)
             }
             Err(Fault::Lost) => {
                 self.node = Hosted::Halted;
-                Ok(Heard::Lost)
+                Ok(FrameOutcome::Lost)
             }
             Err(fault) => Err(fault),
         }
@@ -49,43 +49,43 @@ impl<B: Copies<H> + Drop, H: Drop> HostNode<B, H> {
 
     // Another host has won the node's generation: the node halts, and is kept no longer.
     #[tactic(auto, using(crate::proofs::Asked::loses, crate::proofs::Going::stays))]
-    pub(crate) fn lose(&mut self, generation: u32) -> R<Heard>
+    pub(crate) fn lose(&mut self, generation: u32) -> R<FrameOutcome>
         requires { IsFrom self.old.mail.came (Tells (notice.Lost generation)) }
         ensures { Goes B.state B.machine B.copied self.old self.new }
     {
         let Hosted::Node(node) = &mut self.node else {
-            return Ok(Heard::Nothing);
+            return Ok(FrameOutcome::Nothing);
         };
         if node.generation() != generation {
-            return Ok(Heard::Nothing);
+            return Ok(FrameOutcome::Nothing);
         }
         node.stop()?;
         self.node = Hosted::Halted;
         self.early = None;
-        Ok(Heard::Lost)
+        Ok(FrameOutcome::Lost)
     }
 
     // A node that is alone begins this generation with the host at that place, once a copy has gone there early.
     #[tactic(auto, using(crate::proofs::Begun::begins, crate::proofs::Going::stays, crate::proofs::Going::looked))]
-    pub(crate) fn begin(&mut self, generation: u32, host: u8) -> R<Heard>
+    pub(crate) fn begin(&mut self, generation: u32, host: u8) -> R<FrameOutcome>
         requires { IsFrom self.old.mail.came (Tells (notice.Begin generation host)) }
         ensures { Goes B.state B.machine B.copied self.old self.new }
     {
         let Hosted::Node(node) = &mut self.node else {
-            return Ok(Heard::Nothing);
+            return Ok(FrameOutcome::Nothing);
         };
         let Role::Alone = node.role() else {
-            return Ok(Heard::Nothing);
+            return Ok(FrameOutcome::Nothing);
         };
         let before = node.generation();
         if before == u32::MAX || before + 1 != generation {
-            return Ok(Heard::Nothing);
+            return Ok(FrameOutcome::Nothing);
         }
         if !is_ready(&self.early, generation, host) {
-            return Ok(Heard::Asked { generation, host });
+            return Ok(FrameOutcome::Asked { generation, host });
         }
         if !self.mail.has_room() {
-            return Ok(Heard::Nothing);
+            return Ok(FrameOutcome::Nothing);
         }
         let join = Frame::Notice(Notice::Join {
             generation,
@@ -98,20 +98,26 @@ impl<B: Copies<H> + Drop, H: Drop> HostNode<B, H> {
         self.mail.say_bytes(bytes);
         self.peer = host;
         self.early = None;
-        Ok(Heard::Begun)
+        Ok(FrameOutcome::Begun)
     }
 
     // A spare joins the generation that is to be its number, with the host at that place as its primary.
     #[tactic(auto, using(crate::proofs::Begun::joins_it, crate::proofs::Going::stays))]
-    pub(crate) fn join(&mut self, generation: u32, host: u8, drives: u8, count: u64) -> R<Heard>
+    pub(crate) fn join(
+        &mut self,
+        generation: u32,
+        host: u8,
+        drives: u8,
+        count: u64,
+    ) -> R<FrameOutcome>
         requires { IsFrom self.old.mail.came (Tells (notice.Join generation host drives count)) }
         ensures { Goes B.state B.machine B.copied self.old self.new }
     {
         if generation == 0 || drives == 0 || usize::from(drives) > DRIVES {
-            return Ok(Heard::Malformed);
+            return Ok(FrameOutcome::Malformed);
         }
         if drives != self.drives {
-            return Ok(Heard::Nothing);
+            return Ok(FrameOutcome::Nothing);
         }
         let assembly = Assembly::new(self.alloc, generation, drives)?;
         match mem::replace(&mut self.node, Hosted::Halted) {
@@ -120,11 +126,11 @@ impl<B: Copies<H> + Drop, H: Drop> HostNode<B, H> {
                 self.node = Hosted::Node(node);
                 self.number = generation;
                 self.peer = host;
-                Ok(Heard::Joined)
+                Ok(FrameOutcome::Joined)
             }
             other => {
                 self.node = other;
-                Ok(Heard::Nothing)
+                Ok(FrameOutcome::Nothing)
             }
         }
     }

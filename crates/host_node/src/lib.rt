@@ -20,7 +20,7 @@ mod sending;
 mod serving;
 mod speed;
 
-pub use heard::Heard;
+pub use heard::FrameOutcome;
 pub use host::{HostNode, Hosted};
 pub use laws::hosts_boot;
 pub use mail::{KEYS, KeptKey, Mail};

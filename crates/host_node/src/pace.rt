@@ -1,6 +1,6 @@
 //! What a host's loop knows of times and of what was sent, so that it knows what is due. None of it is in what is promised.
 
-use crate::heard::Heard;
+use crate::heard::FrameOutcome;
 use crate::lag::Lag;
 use crate::speed::Speed;
 use event_callbacks::PORTS;
@@ -51,7 +51,7 @@ pub enum End {
 
 /// Times, and what is due.
 #[derive(Clone, Copy)]
-pub struct Pace {
+pub struct Schedule {
     pub now: u64,
     // When the peer was last heard, how many ticks came since then, and whether its stream has ended.
     pub heard_at: u64,
@@ -101,10 +101,10 @@ pub struct Pace {
     pub tick: u64,
 }
 
-impl Pace {
+impl Schedule {
     /// At the start.
-    pub fn new(now: u64) -> Pace {
-        Pace {
+    pub fn new(now: u64) -> Schedule {
+        Schedule {
             now,
             heard_at: now,
             silent: 0,
@@ -173,32 +173,36 @@ impl Pace {
     }
 
     /// Takes in what was heard of the host's peer, at this place of the switch.
-    pub fn note(&mut self, heard: Heard, peer: u8) {
+    pub fn note(&mut self, heard: FrameOutcome, peer: u8) {
         match heard {
-            Heard::Beat => self.hear_peer(),
-            Heard::Entry => {
+            FrameOutcome::Beat => self.hear_peer(),
+            FrameOutcome::Entry => {
                 self.hear_peer();
                 self.given_at = self.now;
                 self.owes_acknowledgement = true;
             }
-            Heard::Acknowledged(covered) => self.note_acknowledged(covered),
-            Heard::Part(came) => self.note_part(came),
-            Heard::Parts(parts) => self.note_parts(parts),
-            Heard::Failed(number) => self.next_write = self.next_write.min(number),
-            Heard::Sector { sector, is_taken } => self.note_sector(sector, is_taken),
-            Heard::Accepted | Heard::Written(_) | Heard::Key => self.is_idle = false,
-            Heard::Won => self.forget_peer(),
-            Heard::Gone(host) => self.is_gone = self.is_gone || host == peer,
-            Heard::Begun => self.begin(),
-            Heard::Joined => self.join(),
-            Heard::Early(index) => self.note_early(index),
-            Heard::Tick { number, speed } => {
+            FrameOutcome::Acknowledged(covered) => self.note_acknowledged(covered),
+            FrameOutcome::Part(came) => self.note_part(came),
+            FrameOutcome::Parts(parts) => self.note_parts(parts),
+            FrameOutcome::Failed(number) => self.next_write = self.next_write.min(number),
+            FrameOutcome::Sector { sector, is_taken } => self.note_sector(sector, is_taken),
+            FrameOutcome::Accepted | FrameOutcome::Written(_) | FrameOutcome::Key => self.is_idle =
+                false,
+            FrameOutcome::Won => self.forget_peer(),
+            FrameOutcome::Gone(host) => self.is_gone = self.is_gone || host == peer,
+            FrameOutcome::Begun => self.begin(),
+            FrameOutcome::Joined => self.join(),
+            FrameOutcome::Early(index) => self.note_early(index),
+            FrameOutcome::Tick { number, speed } => {
                 self.silent = self.silent.saturating_add(1);
                 self.tick = number;
                 self.speed.set(speed, self.now);
             }
-            Heard::Progress(lead) => self.lag.hear(lead),
-            Heard::Nothing | Heard::Malformed | Heard::Lost | Heard::Asked { .. } => {}
+            FrameOutcome::Progress(lead) => self.lag.hear(lead),
+            FrameOutcome::Nothing
+            | FrameOutcome::Malformed
+            | FrameOutcome::Lost
+            | FrameOutcome::Asked { .. } => {}
         }
     }
 

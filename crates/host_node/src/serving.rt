@@ -5,7 +5,7 @@ ghost use Rattle.host_node.specs.Goes.{Goes};
 ghost use Rattle.host_node.specs.declared.pace.End.TheVariants as of_end;
 
 use crate::host::HostNode;
-use crate::pace::{End, Pace, Settings, TICK};
+use crate::pace::{End, Schedule, Settings, TICK};
 use crate::reporting::Known;
 use board_image::{KeyRoom, OutstandingWrites, Snapshots};
 use clone_state::Copies;
@@ -31,7 +31,7 @@ const REPORTED: u64 = 200;
 pub struct Serving<B: Copies<H> + Drop, H: Drop> {
     pub host: HostNode<B, H>,
     pub settings: Settings,
-    pub pace: Pace,
+    pub pace: Schedule,
 }
 
 /// Serves until there is a reason to end, which is returned with the host. The reader of frames wakes the loop through the
@@ -45,7 +45,7 @@ pub fn serve<
     ensures goes { Goes B.state B.machine B.copied host result.0 }
     ensures why { IsEnd B.state B.machine B.copied result.1 host result.0 }
 {
-    let pace = Pace::new(micros(rt, 0));
+    let pace = Schedule::new(micros(rt, 0));
     let mut serving = Serving {
         host,
         settings,

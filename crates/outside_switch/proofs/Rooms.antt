@@ -15,8 +15,8 @@ use Rattle.outside_switch.specs.Heeds.{Asked, HasRoomFor, HeedsBody, HeedsAt, He
 use Rattle.outside_switch.specs.Goes.{HeedsNext}
 use Rattle.outside_switch.specs.Lines.{number_at}
 use Rattle.outside_switch.specs.Meets.{Seen}
-use Rattle.outside_switch.specs.declared.heard.Heard.{Heard}
-use Rattle.outside_switch.specs.declared.heard.Heard.TheVariants.{Became, Failed, Lost, Met, Nothing, Shown, Unwritten, Won, Written}
+use Rattle.outside_switch.specs.declared.heard.BodyOutcome.{BodyOutcome}
+use Rattle.outside_switch.specs.declared.heard.BodyOutcome.TheVariants.{Became, Failed, Lost, Met, Nothing, Shown, Unwritten, Won, Written}
 use Rattle.outside_switch.specs.declared.line.HostLine.{HostLine}
 use Rattle.std.specs.Global.{Vec}
 
@@ -78,7 +78,7 @@ module _ (rooms : List Bool) (at shown : ℕ) where
   of_next taken new place (Some body) h =
       of_open taken.devices new.devices taken.lines place body.items (open_in (slice_get taken.lines place)) h
 
-pub room_for : (rooms : List Bool) (place : ℕ) (body : Option (Vec ℕ)) (taken new : Seen) (heard : Heard) →
+pub room_for : (rooms : List Bool) (place : ℕ) (body : Option (Vec ℕ)) (taken new : Seen) (heard : BodyOutcome) →
     HeedsNext place rooms body taken new heard → HasRoomFor rooms heard
 room_for rooms place body taken new (Shown port byte) h = of_next rooms port byte taken new place body h
 room_for rooms place body taken new _ h = tt

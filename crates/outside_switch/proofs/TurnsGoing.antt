@@ -7,8 +7,8 @@ use Rattle.outside_switch.specs.Goes.{GoesWith, HearsNext}
 use Rattle.outside_switch.specs.Meets.{Seen, seen}
 use Rattle.outside_switch.specs.Heeds.{HasRoomFor}
 use Rattle.outside_switch.specs.Passing.{Passed, Shown, passed_of, typed_at}
-use Rattle.outside_switch.specs.declared.heard.Heard.{Heard}
-use Rattle.outside_switch.specs.declared.heard.Heard.TheVariants as heard
+use Rattle.outside_switch.specs.declared.heard.BodyOutcome.{BodyOutcome}
+use Rattle.outside_switch.specs.declared.heard.BodyOutcome.TheVariants as heard
 use Rattle.console_terminal.specs.Lines.{HasRoom, HasShown, IsSameStart, with_byte}
 use Rattle.console_terminal.specs.declared.screen.Screen.{Screen}
 use Rattle.outside_switch.proofs.Cutting.{cut_on, cut_paid, cut_rested, cut_taken}
@@ -181,7 +181,7 @@ module _ {D S : Type 0} where
       gone = subst (λ s. GoesWith passed (seen s) (seen c.switch)) looks.switch
           (subst (λ s. GoesWith passed (seen r.switch) (seen s)) (sym told.switch) goes)
 
-  pub hears_one : (a r b c : Session D S) (place : ℕ) (rooms : List Bool) (heard : Heard) → IsTold [] a r →
+  pub hears_one : (a r b c : Session D S) (place : ℕ) (rooms : List Bool) (heard : BodyOutcome) → IsTold [] a r →
       HearsNext place rooms (seen r.switch) (seen b.switch) heard → b.flood ≡ r.flood → IsTold (passed_of heard) b c →
       HearsOne place heard a c
   hears_one a r b c place rooms heard looks hears flood told = record {
@@ -228,7 +228,7 @@ module _ {D S : Type 0} where
   }
 
 -- what was heard of a host types nothing
-pub types_nothing : (heard : Heard) (port : ℕ) → typed_at port (passed_of heard) ≡ []
+pub types_nothing : (heard : BodyOutcome) (port : ℕ) → typed_at port (passed_of heard) ≡ []
 types_nothing (heard.Shown port byte) at = refl
 types_nothing heard.Nothing at = refl
 types_nothing heard.Met at = refl
@@ -240,7 +240,7 @@ types_nothing (heard.Lost generation) at = refl
 types_nothing heard.Failed at = refl
 
 -- a screen that has room may show
-pub may_show : (room : Bool) (screen : Screen) → (room ≡ true → HasRoom screen.ring) → (heard : Heard) →
+pub may_show : (room : Bool) (screen : Screen) → (room ≡ true → HasRoom screen.ring) → (heard : BodyOutcome) →
     HasRoomFor (room ∷ room ∷ []) heard → MayShow screen heard
 may_show room screen has_room (heard.Shown port byte) has = has_room (go (port == 0) has.1)
   where

@@ -1,7 +1,7 @@
 -- How many bodies of each host were taken lately, and how many were refused.
 use Rattle.std.specs.Prelude.{ℕ, ◌+◌, ◌-◌, ◌^◌, min, nat_lt, Bool, false, if◌then◌else◌, List, replicate, slice_index_or, slice_set}
-use Rattle.outside_switch.specs.declared.heard.Heard.{Heard}
-use Rattle.outside_switch.specs.declared.heard.Heard.TheVariants as heard
+use Rattle.outside_switch.specs.declared.heard.BodyOutcome.{BodyOutcome}
+use Rattle.outside_switch.specs.declared.heard.BodyOutcome.TheVariants as heard
 use Rattle.outside_switch.specs.declared.flood.Came.{Came}
 use Rattle.outside_switch.specs.declared.flood.Came.TheVariants.{Accepted, Nothing, Refused, Taken}
 use Rattle.outside_switch.specs.declared.flood.Flood.{Flood}
@@ -13,7 +13,7 @@ taken_if is_open = if is_open then Taken else Refused
 abbrev pub accepted_if : Bool → Came
 accepted_if is_open = if is_open then Accepted else Refused
 
-abbrev pub came_of : Heard → Bool → Came
+abbrev pub came_of : BodyOutcome → Bool → Came
 came_of heard.Nothing is_open = Nothing
 came_of heard.Failed is_open = Refused
 came_of (heard.Shown port byte) is_open = accepted_if is_open

@@ -6,8 +6,8 @@ use Rattle.host_frames.specs.declared.frame.Notice.TheVariants.{Begin}
 use Rattle.host_frames.specs.declared.frame.Transfer.TheVariants.{Key}
 use Rattle.i8080_words.specs.declared.refusal.Fault.{Fault}
 use Rattle.outside_switch.specs.Heeds.{HeedsBody}
-use Rattle.outside_switch.specs.declared.heard.Heard.{Heard}
-use Rattle.outside_switch.specs.declared.heard.Heard.TheVariants.{Nothing}
+use Rattle.outside_switch.specs.declared.heard.BodyOutcome.{BodyOutcome}
+use Rattle.outside_switch.specs.declared.heard.BodyOutcome.TheVariants.{Nothing}
 use Rattle.outside_switch.specs.Lines.{AtPlace, IsClosed, IsNamed, LineGoes, MayBeGiven, NoneWaits, OneLine, Posts}
 use Rattle.outside_switch.specs.Meets.{Meets, MeetsWith, Seen}
 use Rattle.outside_switch.specs.Passing.{Passed, passed_by_calls}
@@ -90,7 +90,7 @@ abbrev pub NextSo : ℕ → Option (Vec ℕ) → Seen → Seen → Type 0
 NextSo place (Some body) old new = Takes place body old new
 NextSo place None old new = MeetsWith [] None old new × (new.devices ≡ old.devices) × NoneWaits (slice_get new.lines place)
 
-abbrev pub HeedsNext : ℕ → List Bool → Option (Vec ℕ) → Seen → Seen → Heard → Type 0
+abbrev pub HeedsNext : ℕ → List Bool → Option (Vec ℕ) → Seen → Seen → BodyOutcome → Type 0
 HeedsNext place rooms None taken new heard = (new ≡ taken) × (heard ≡ Nothing)
 HeedsNext place rooms (Some body) taken new heard =
     HeedsBody place rooms body.items taken.lines taken.devices new.devices heard
@@ -113,7 +113,7 @@ SendsKey (Err why) place port index is_sent old new = (is_sent ≡ false) × (ne
 
 -- What was heard of the host at a place: nothing, and then no body of it is known to wait; or what becomes known of the body
 -- that came.
-pub record HearsNext (place : ℕ) (rooms : List Bool) (old new : Seen) (heard : Heard) : Type 0 where
+pub record HearsNext (place : ℕ) (rooms : List Bool) (old new : Seen) (heard : BodyOutcome) : Type 0 where
   pub body : Option (Vec ℕ)
   pub taken : Seen
   pub next : NextSo place body old taken

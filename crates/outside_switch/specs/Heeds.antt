@@ -15,8 +15,8 @@ use Rattle.outside_switch.specs.Held.{Held}
 use Rattle.outside_switch.specs.Terminal.{KeptTerminal}
 use Rattle.shared_disk.specs.declared.disk.SectorRead.{SectorRead}
 use Rattle.outside_switch.specs.Lines.{number_at}
-use Rattle.outside_switch.specs.declared.heard.Heard.{Heard}
-use Rattle.outside_switch.specs.declared.heard.Heard.TheVariants.{Became, Failed, Lost, Met, Shown, Unwritten, Won, Written}
+use Rattle.outside_switch.specs.declared.heard.BodyOutcome.{BodyOutcome}
+use Rattle.outside_switch.specs.declared.heard.BodyOutcome.TheVariants.{Became, Failed, Lost, Met, Shown, Unwritten, Won, Written}
 use Rattle.outside_switch.specs.declared.line.HostLine.{HostLine}
 
 -- whether the screen of a port has room
@@ -24,27 +24,27 @@ abbrev pub room_of : List Bool → ℕ → Bool
 room_of rooms port = if port == 0 then slice_index_or rooms 0 false else slice_index_or rooms 1 false
 
 -- a byte is to be shown exactly if its terminal accepts it
-abbrev pub shown_if : Bool → ℕ → ℕ → Heard
+abbrev pub shown_if : Bool → ℕ → ℕ → BodyOutcome
 shown_if accepts port byte = if accepts then Shown port byte else Met
 
 -- a frame that names no place means that its host has failed
-abbrev pub passed_if : ℕ → ℕ → Heard
+abbrev pub passed_if : ℕ → ℕ → BodyOutcome
 passed_if places host = if nat_lt host places then Met else Failed
 
 -- keys are told to be covered, unless none are
 abbrev pub told_unless : List KeptTerminal → ℕ → ℕ → List KeptTerminal
 told_unless terminals port keys = if keys == 0 then terminals else told_after terminals port keys
 
-abbrev pub Stays : Held → Held → Heard → Heard → Type 0
+abbrev pub Stays : Held → Held → BodyOutcome → BodyOutcome → Type 0
 Stays old new heard is = (new ≡ old) × (heard ≡ is)
 
 -- a write is put or refused
-abbrev pub Writes : SectorWrite → Held → Held → Heard → Type 0
+abbrev pub Writes : SectorWrite → Held → Held → BodyOutcome → Type 0
 Writes write old new Written = Puts old.records write (Ok tt) new.records
 Writes write old new Unwritten = (why : Fault) × Puts old.records write (Err why) new.records
 Writes write old new heard = ⊥
 
-abbrev pub HeedsTransfer : List Bool → Transfer → Held → Held → Heard → Type 0
+abbrev pub HeedsTransfer : List Bool → Transfer → Held → Held → BodyOutcome → Type 0
 HeedsTransfer rooms (Byte port number byte) old new heard =
     (new ≡ record old { terminals = arrived_after old.terminals port number (room_of rooms port) })
     × (heard ≡ shown_if (is_accepted old.terminals port number (room_of rooms port)) port byte)
@@ -54,7 +54,7 @@ HeedsTransfer rooms (Get address) old new heard =
 HeedsTransfer rooms transfer old new heard = Stays old new heard Failed
 
 -- the arbiter is asked by the host of a number
-abbrev pub Asked : Option ℕ → ℕ → Held → Held → Heard → Type 0
+abbrev pub Asked : Option ℕ → ℕ → Held → Held → BodyOutcome → Type 0
 Asked None generation old new heard = Stays old new heard Met
 Asked (Some host) generation old new (Won won) =
     (won ≡ generation) × ((answer : arbiter.Won) × Asks old.askings generation host (Ok answer) new.askings)
@@ -63,7 +63,7 @@ Asked (Some host) generation old new (Lost lost) =
 Asked (Some host) generation old new heard =
     (heard ≡ Met) × ((why : Fault) × Asks old.askings generation host (Err why) new.askings)
 
-abbrev pub HeedsNotice : ℕ → Option ℕ → Notice → Held → Held → Heard → Type 0
+abbrev pub HeedsNotice : ℕ → Option ℕ → Notice → Held → Held → BodyOutcome → Type 0
 HeedsNotice places number (Suspect generation) old new heard = Asked number generation old new heard
 HeedsNotice places number (Report report) old new heard =
     (new ≡ record old {
@@ -75,13 +75,13 @@ HeedsNotice places number (Progress host entries count) old new heard = Stays ol
 HeedsNotice places number notice old new heard = Stays old new heard Failed
 
 -- of the host of a number, if it has one, among so many places
-abbrev pub Heeds : ℕ → Option ℕ → List Bool → Said → Held → Held → Heard → Type 0
+abbrev pub Heeds : ℕ → Option ℕ → List Bool → Said → Held → Held → BodyOutcome → Type 0
 Heeds places number rooms (Packet host bytes) old new heard = Stays old new heard (passed_if places host)
 Heeds places number rooms (Transfers transfer) old new heard = HeedsTransfer rooms transfer old new heard
 Heeds places number rooms (Tells notice) old new heard = HeedsNotice places number notice old new heard
 
 -- the same, of the host at a place
-abbrev pub HeedsAt : ℕ → List Bool → Said → List HostLine → Held → Held → Heard → Type 0
+abbrev pub HeedsAt : ℕ → List Bool → Said → List HostLine → Held → Held → BodyOutcome → Type 0
 HeedsAt place rooms said lines old new heard = Heeds (length lines) (number_at lines place) rooms said old new heard
 
 -- whether a host is at a place that is not cut off
@@ -94,17 +94,17 @@ abbrev pub OthersStay : ℕ → List HostLine → List HostLine → Type 0
 OthersStay place old new = (other : ℕ) → (other ≡ place → ⊥) → open_in (slice_get new other) ≡ open_in (slice_get old other)
 
 -- what comes from a host that is cut off is dropped, and one that sends what is no frame has failed
-abbrev pub HeedsOpen : Bool → ℕ → List Bool → List ℕ → List HostLine → Held → Held → Heard → Type 0
+abbrev pub HeedsOpen : Bool → ℕ → List Bool → List ℕ → List HostLine → Held → Held → BodyOutcome → Type 0
 HeedsOpen false place rooms body lines old new heard = Stays old new heard Met
 HeedsOpen true place rooms body lines old new heard =
     ((said : Said) × IsBodyOf said body × HeedsAt place rooms said lines old new heard)
     ⊎ (((said : Said) → IsBodyOf said body → ⊥) × Stays old new heard Failed)
 
-abbrev pub HeedsBody : ℕ → List Bool → List ℕ → List HostLine → Held → Held → Heard → Type 0
+abbrev pub HeedsBody : ℕ → List Bool → List ℕ → List HostLine → Held → Held → BodyOutcome → Type 0
 HeedsBody place rooms body lines old new heard =
     HeedsOpen (open_in (slice_get lines place)) place rooms body lines old new heard
 
 -- a byte is shown only on the screen of a port, and if that has room
-abbrev pub HasRoomFor : List Bool → Heard → Type 0
+abbrev pub HasRoomFor : List Bool → BodyOutcome → Type 0
 HasRoomFor rooms (Shown port byte) = (port < PORTS) × (room_of rooms port ≡ true)
 HasRoomFor rooms _ = Unit {0}

@@ -3,7 +3,7 @@ use Rattle.std.specs.Prelude.{◌≡◌, ℕ, ◌-◌, nat_le, Bool, false, true
 use Rattle.outside_switch.specs.Goes.{HearsNext}
 use Rattle.outside_switch.specs.Heeds.{OthersStay, open_in}
 use Rattle.outside_switch.specs.Meets.{seen}
-use Rattle.outside_switch.specs.declared.heard.Heard.{Heard}
+use Rattle.outside_switch.specs.declared.heard.BodyOutcome.{BodyOutcome}
 use Rattle.outside_switch.specs.declared.switch.Switch.{Switch}
 use Rattle.outside_switch.specs.Floods.{accepted_one, came_of, has_flooded, refused_one, rested, sent_one}
 use Rattle.outside_switch.specs.declared.flood.Came.{Came}
@@ -43,14 +43,14 @@ Judges Taken place old new = TakesOne (has_flooded (sent_one place old.flood) pl
 Judges Accepted place old new = IsCounted (accepted_one place old.flood) old new
 
 -- it was heard
-pub record HearsOne {D S : Type 0} (place : ℕ) (heard : Heard) (old new : Session D S) : Type 0 where
+pub record HearsOne {D S : Type 0} (place : ℕ) (heard : BodyOutcome) (old new : Session D S) : Type 0 where
   pub rooms : List Bool
   pub hears : HearsNext place rooms (seen old.switch) (seen new.switch) heard
   pub flood : new.flood ≡ old.flood
 
 -- and counted
 pub record HearsAndCounts {D S : Type 0} (place : ℕ) (old new : Session D S) : Type 0 where
-  pub heard : Heard
+  pub heard : BodyOutcome
   pub met : Session D S
   pub hears : HearsOne place heard old met
   pub judges : Judges (came_of heard (is_open old.switch place)) place met new

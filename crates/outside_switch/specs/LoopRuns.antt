@@ -7,8 +7,8 @@ use Rattle.outside_switch.specs.Goes.{GoesWith}
 use Rattle.outside_switch.specs.Lines.{reports_spare}
 use Rattle.outside_switch.specs.Meets.{seen}
 use Rattle.outside_switch.specs.Passing.{Passed, shown_at, typed_at}
-use Rattle.outside_switch.specs.declared.heard.Heard.{Heard}
-use Rattle.outside_switch.specs.declared.heard.Heard.TheVariants.{Shown}
+use Rattle.outside_switch.specs.declared.heard.BodyOutcome.{BodyOutcome}
+use Rattle.outside_switch.specs.declared.heard.BodyOutcome.TheVariants.{Shown}
 use Rattle.outside_switch.specs.declared.line.HostLine.{HostLine}
 use Rattle.console_terminal.specs.Lines.{HasRoom, HasShown, IsSameStart}
 use Rattle.console_terminal.specs.declared.screen.Screen.{Screen}
@@ -44,7 +44,7 @@ pub record IsTold {D S : Type 0} (passed : List Passed) (old new : Session D S) 
   pub flood : new.flood ≡ old.flood
 
 -- the screen has room for a byte that is to be shown
-abbrev pub MayShow : Screen → Heard → Type 0
+abbrev pub MayShow : Screen → BodyOutcome → Type 0
 MayShow screen (Shown port byte) = HasRoom screen.ring
 MayShow screen _ = Unit {0}
 

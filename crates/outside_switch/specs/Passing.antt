@@ -6,8 +6,8 @@ use Rattle.outside_switch.specs.DeviceCalls.{is_accepted}
 use Rattle.outside_switch.specs.Held.{Held}
 use Rattle.outside_switch.specs.Calls as calls
 use Rattle.outside_switch.specs.Calls.{Call, Called}
-use Rattle.outside_switch.specs.declared.heard.Heard.{Heard}
-use Rattle.outside_switch.specs.declared.heard.Heard.TheVariants as heard
+use Rattle.outside_switch.specs.declared.heard.BodyOutcome.{BodyOutcome}
+use Rattle.outside_switch.specs.declared.heard.BodyOutcome.TheVariants as heard
 
 pub data Passed : Type 0 where
   Shown : (port byte : ℕ) → Passed
@@ -40,7 +40,7 @@ pub record CalledWith (passed : List Passed) (first : Held) (read written : List
   pub passes : passed_by_calls called ≡ passed
 
 -- what was heard of a host, if it is a byte that is to be shown; a key that was typed, unless it was refused
-abbrev pub passed_of : Heard → List Passed
+abbrev pub passed_of : BodyOutcome → List Passed
 passed_of (heard.Shown port byte) = Shown port byte ∷ []
 passed_of _ = []
 

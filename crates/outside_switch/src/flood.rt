@@ -2,7 +2,7 @@
 ghost use Rattle.std.specs.Prelude.{◌≡◌};
 ghost use Rattle.outside_switch.specs.Floods.{accepted_if, accepted_one, came_of, count_at, has_flooded, one_more, refused_one, rested, sent_one, taken_if, ticked, unheard};
 
-use crate::Heard;
+use crate::BodyOutcome;
 
 /// How many bodies of a host are taken at most until its count is set to 0. For an outside that was stopped some 15,000 wait: 10,922
 /// of the smallest frames in a pipe, and 4,096 bodies in a ring.
@@ -28,19 +28,19 @@ pub(crate) enum Came {
 }
 
 /// What became of the next body of a host, by what was heard, and whether the host was open before.
-pub(crate) fn came_of(heard: Heard, is_open: bool) -> Came
+pub(crate) fn came_of(heard: BodyOutcome, is_open: bool) -> Came
     ensures { result ≡ came_of heard is_open }
 {
     match heard {
-        Heard::Nothing => Came::Nothing,
-        Heard::Failed => Came::Refused,
-        Heard::Met => taken_if(is_open),
-        Heard::Shown { .. } => accepted_if(is_open),
-        Heard::Written => accepted_if(is_open),
-        Heard::Unwritten => taken_if(is_open),
-        Heard::Became(_) => taken_if(is_open),
-        Heard::Won(_) => taken_if(is_open),
-        Heard::Lost(_) => taken_if(is_open),
+        BodyOutcome::Nothing => Came::Nothing,
+        BodyOutcome::Failed => Came::Refused,
+        BodyOutcome::Met => taken_if(is_open),
+        BodyOutcome::Shown { .. } => accepted_if(is_open),
+        BodyOutcome::Written => accepted_if(is_open),
+        BodyOutcome::Unwritten => taken_if(is_open),
+        BodyOutcome::Became(_) => taken_if(is_open),
+        BodyOutcome::Won(_) => taken_if(is_open),
+        BodyOutcome::Lost(_) => taken_if(is_open),
     }
 }
 

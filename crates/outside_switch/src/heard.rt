@@ -4,7 +4,7 @@ use pair_events::Role;
 
 /// What became of the next body of a host. It is for whoever shows bytes and tells what the hosts are.
 #[derive(Clone, Copy, PartialEq, Eq)]
-pub enum Heard {
+pub enum BodyOutcome {
     /// No body waits.
     Nothing,
     /// It was met, and there is nothing to show or to tell.

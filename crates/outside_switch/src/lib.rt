@@ -24,10 +24,10 @@ mod turning;
 
 pub use device_laws::{calls_are_steps, runs_go_on};
 pub use devices::OutsideDevices;
-pub use heard::Heard;
+pub use heard::BodyOutcome;
 pub use laws::{numbers_stay_apart, switch_runs};
 pub use line::HostLine;
-pub use link::Fate;
+pub use link::LinkState;
 pub use port::PortEnd;
 pub use serving::run_hosts;
 pub use session::{HostsEnd, Quit, Session, SessionParts};

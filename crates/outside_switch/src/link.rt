@@ -4,7 +4,7 @@ ghost use Rattle.outside_switch.specs.Links.{after_draw, is_lost, loses};
 
 /// What the switch does with packets between two hosts.
 #[derive(Debug, Clone, Copy, PartialEq, Eq)]
-pub enum Fate {
+pub enum LinkState {
     /// It passes each on.
     Passes,
     /// Of 100 packets it loses so many. Beats are packets too, and it passes them on: no host is suspected for it.
@@ -16,7 +16,7 @@ pub enum Fate {
 /// The switch's link from host to host.
 #[derive(Drop)]
 pub(crate) struct Link {
-    pub(crate) fate: Fate,
+    pub(crate) fate: LinkState,
     // How many packets were drawn for.
     draws: u64,
 }
@@ -25,7 +25,7 @@ impl Link {
     /// It passes each packet on.
     pub(crate) fn new() -> Link {
         Link {
-            fate: Fate::Passes,
+            fate: LinkState::Passes,
             draws: 0,
         }
     }
@@ -41,9 +41,9 @@ impl Link {
             self.draws = draw.wrapping_add(1);
         }
         match self.fate {
-            Fate::Passes => false,
-            Fate::Loses(percent) => !is_beat && is_lost(percent, draw),
-            Fate::Parts => true,
+            LinkState::Passes => false,
+            LinkState::Loses(percent) => !is_beat && is_lost(percent, draw),
+            LinkState::Parts => true,
         }
     }
 }

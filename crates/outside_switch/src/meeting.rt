@@ -11,7 +11,7 @@ ghost use Rattle.outside_switch.specs.Meets.{MeetsSaid};
 ghost use Rattle.outside_switch.specs.Passing.{CalledWith, passed_of};
 ghost use Rattle.outside_switch.specs.Says.{IsPassed};
 
-use crate::heard::Heard;
+use crate::heard::BodyOutcome;
 use crate::places;
 use crate::switch::Switch;
 use disk_dcdd::{SectorAddress, SectorWrite};
@@ -29,7 +29,7 @@ impl<D: SectorStore> Switch<D> {
         place: u8,
         frame: Frame<'_>,
         rooms: [bool; PORTS],
-    ) -> Heard
+    ) -> BodyOutcome
         ensures meets { MeetsSaid (passed_of result) place (said_by frame.entry) self.old self.new }
         ensures heeds { HeedsAt place rooms (said_by frame.entry) self.old.lines.items self.old.devices self.new.devices result }
     {
@@ -50,7 +50,7 @@ impl<D: SectorStore> Switch<D> {
         place: u8,
         transfer: Transfer,
         rooms: [bool; PORTS],
-    ) -> Heard
+    ) -> BodyOutcome
         ensures meets { MeetsSaid (passed_of result) place (Transfers transfer) self.old self.new }
         ensures heeds { HeedsTransfer rooms transfer self.old.devices self.new.devices result }
     {
@@ -60,13 +60,13 @@ impl<D: SectorStore> Switch<D> {
             }
             Transfer::Write(write) => self.meet_write(alloc, place, &write),
             Transfer::Get(address) => self.meet_get(alloc, place, address),
-            _ => Heard::Failed,
+            _ => BodyOutcome::Failed,
         }
     }
 
     // What is said to the arbiter or the switch.
     #[tactic(auto, using(crate::proofs::Acting::still_met))]
-    fn meet_notice(&mut self, alloc: Global, place: u8, notice: Notice) -> Heard
+    fn meet_notice(&mut self, alloc: Global, place: u8, notice: Notice) -> BodyOutcome
         ensures meets { MeetsSaid (passed_of result) place (Tells notice) self.old self.new }
         ensures heeds { HeedsNotice (length self.old.lines.items) (number_at self.old.lines.items place) notice self.old.devices self.new.devices result }
     {
@@ -91,26 +91,26 @@ impl<D: SectorStore> Switch<D> {
                 };
                 self.pass(alloc, host, &Frame::Notice(passed))
             }
-            _ => Heard::Failed,
+            _ => BodyOutcome::Failed,
         }
     }
 
     // A frame is passed on to the host at a place, unless the link loses it.
     #[tactic(auto, using(crate::proofs::Acting::passed_met, crate::proofs::Acting::still_met))]
-    fn pass(&mut self, alloc: Global, host: u8, frame: &Frame<'_>) -> Heard
+    fn pass(&mut self, alloc: Global, host: u8, frame: &Frame<'_>) -> BodyOutcome
         ensures meets { (place : ℕ) (heard : Said)
             → IsPassed place host (number_at self.old.lines.items host) heard (said_by frame.now)
             → MeetsSaid (passed_of result) place heard self.old self.new }
         ensures heeds { Stays self.old.devices self.new.devices result (passed_if (length self.old.lines.items) host) }
     {
         if usize::from(host) >= self.lines.len() {
-            return Heard::Failed;
+            return BodyOutcome::Failed;
         }
         if self.link.loses(is_beat(frame)) {
-            return Heard::Met;
+            return BodyOutcome::Met;
         }
         let _ = places::post(&mut self.lines, alloc, host, frame);
-        Heard::Met
+        BodyOutcome::Met
     }
 
     // A released byte arrives at its terminal, and the host is told how many were accepted.
@@ -123,7 +123,7 @@ impl<D: SectorStore> Switch<D> {
         number: u64,
         byte: u8,
         room: bool,
-    ) -> Heard
+    ) -> BodyOutcome
         ensures meets { MeetsSaid (passed_of result) place (Transfers (of_transfer.Byte port number byte)) self.old self.new }
         ensures heeds { (self.new.devices ≡ record self.old.devices { terminals = arrived_after self.old.devices.terminals port number room })
             × (result ≡ shown_if (is_accepted self.old.devices.terminals port number room) port byte) }
@@ -133,14 +133,14 @@ impl<D: SectorStore> Switch<D> {
         let answer = Frame::Transfer(Transfer::Accepted { port, count });
         let _ = places::post(&mut self.lines, alloc, place, &answer);
         match shown {
-            Some(byte) => Heard::Shown { port, byte },
-            None => Heard::Met,
+            Some(byte) => BodyOutcome::Shown { port, byte },
+            None => BodyOutcome::Met,
         }
     }
 
     // A released write arrives at the disk.
     #[tactic(auto, using(crate::proofs::Acting::written_met, crate::proofs::Acting::unwritten_met))]
-    fn meet_write(&mut self, alloc: Global, place: u8, write: &SectorWrite) -> Heard
+    fn meet_write(&mut self, alloc: Global, place: u8, write: &SectorWrite) -> BodyOutcome
         ensures meets { MeetsSaid (passed_of result) place (Transfers (of_transfer.Write write.now)) self.old self.new }
         ensures heeds { Writes write.now self.old.devices self.new.devices result }
     {
@@ -148,57 +148,57 @@ impl<D: SectorStore> Switch<D> {
             Ok(()) => {
                 let answer = Frame::Transfer(Transfer::Written(write.number));
                 let _ = places::post(&mut self.lines, alloc, place, &answer);
-                Heard::Written
+                BodyOutcome::Written
             }
             Err(_) => {
                 let answer = Frame::Transfer(Transfer::Failed(write.number));
                 let _ = places::post(&mut self.lines, alloc, place, &answer);
-                Heard::Unwritten
+                BodyOutcome::Unwritten
             }
         }
     }
 
     // A sector is read.
     #[tactic(auto, using(crate::proofs::Acting::sector_met, crate::proofs::Acting::unread_met))]
-    fn meet_get(&mut self, alloc: Global, place: u8, address: SectorAddress) -> Heard
+    fn meet_get(&mut self, alloc: Global, place: u8, address: SectorAddress) -> BodyOutcome
         ensures meets { MeetsSaid (passed_of result) place (Transfers (of_transfer.Get address)) self.old self.new }
         ensures heeds { HeedsTransfer [] (of_transfer.Get address) self.old.devices self.new.devices result }
     {
         let Ok(read) = self.devices.read(address) else {
-            return Heard::Met;
+            return BodyOutcome::Met;
         };
         let answer = Frame::Transfer(Transfer::Sector(read));
         let _ = places::post(&mut self.lines, alloc, place, &answer);
-        Heard::Met
+        BodyOutcome::Met
     }
 
     // The arbiter is asked, in the name of the host that is at the place.
     #[tactic(auto, using(crate::proofs::Acting::won_met, crate::proofs::Acting::lost_met, crate::proofs::Acting::forgot_met, crate::proofs::Acting::still_met))]
-    fn meet_suspect(&mut self, alloc: Global, place: u8, generation: u32) -> Heard
+    fn meet_suspect(&mut self, alloc: Global, place: u8, generation: u32) -> BodyOutcome
         ensures meets { MeetsSaid (passed_of result) place (Tells (of_notice.Suspect generation)) self.old self.new }
         ensures heeds { Asked (number_at self.old.lines.items place) generation self.old.devices self.new.devices result }
     {
         let Some(host) = places::number_at(&self.lines, place) else {
-            return Heard::Met;
+            return BodyOutcome::Met;
         };
         match self.devices.test_and_set(generation, host) {
             Ok(_) => {
                 let answer = Frame::Notice(Notice::Won(generation));
                 let _ = places::post(&mut self.lines, alloc, place, &answer);
-                Heard::Won(generation)
+                BodyOutcome::Won(generation)
             }
             Err(Fault::Lost) => {
                 let answer = Frame::Notice(Notice::Lost(generation));
                 let _ = places::post(&mut self.lines, alloc, place, &answer);
-                Heard::Lost(generation)
+                BodyOutcome::Lost(generation)
             }
-            Err(_) => Heard::Met,
+            Err(_) => BodyOutcome::Met,
         }
     }
 
     // Keys that are covered are told to the terminals, and the report is kept.
     #[tactic(auto, using(crate::proofs::Acting::report_met))]
-    fn meet_report(&mut self, place: u8, report: &Report) -> Heard
+    fn meet_report(&mut self, place: u8, report: &Report) -> BodyOutcome
         ensures meets { MeetsSaid (passed_of result) place (Tells (of_notice.Report report.now)) self.old self.new }
         ensures heeds { HeedsNotice 0 None (of_notice.Report report.now) self.old.devices self.new.devices result }
     {
@@ -206,9 +206,9 @@ impl<D: SectorStore> Switch<D> {
         self.tell(0, first);
         self.tell(1, second);
         if !places::keep(&mut self.lines, place, report) {
-            return Heard::Met;
+            return BodyOutcome::Met;
         }
-        Heard::Became(report.role)
+        BodyOutcome::Became(report.role)
     }
 
     // Tells a terminal how many of its keys are covered, unless none are.
@@ -234,15 +234,15 @@ impl<D: SectorStore> Switch<D> {
         host: u8,
         drives: u8,
         count: u64,
-    ) -> Heard
+    ) -> BodyOutcome
         ensures meets { MeetsSaid (passed_of result) place (Tells (of_notice.Join generation host drives count)) self.old self.new }
         ensures heeds { Stays self.old.devices self.new.devices result (passed_if (length self.old.lines.items) host) }
     {
         if usize::from(host) >= self.lines.len() {
-            return Heard::Failed;
+            return BodyOutcome::Failed;
         }
         if !places::is_number(&self.lines, host, generation) {
-            return Heard::Met;
+            return BodyOutcome::Met;
         }
         let passed = Notice::Join {
             generation,
@@ -251,7 +251,7 @@ impl<D: SectorStore> Switch<D> {
             count,
         };
         let _ = places::post(&mut self.lines, alloc, host, &Frame::Notice(passed));
-        Heard::Met
+        BodyOutcome::Met
     }
 }
 

@@ -1,6 +1,6 @@
 //! Whoever is told what becomes of the hosts, and says what becomes of packets between them, and how fast the guest runs.
 
-use crate::{Fate, HostLine};
+use crate::{HostLine, LinkState};
 use pair_events::Role;
 
 /// What becomes of the host at a place.
@@ -46,7 +46,7 @@ pub trait Steward {
     }
 
     /// What becomes of packets between hosts from now on.
-    fn fate(&mut self) -> Fate {
-        Fate::Passes
+    fn fate(&mut self) -> LinkState {
+        LinkState::Passes
     }
 }

@@ -1,7 +1,7 @@
 //! The devices, the lines to all hosts, and the calls that a loop makes of them.
 ghost use Rattle.std.specs.Prelude.{◌≡◌, [], IfOk, OnErr, OnOk, Some, IfErr, IsOkUnless, false, if◌then◌else◌, nat_lt, length, slice_get};
 ghost use Rattle.i8080_words.specs.declared.refusal.Fault.TheVariants.{OutOfMemory, Unknown};
-ghost use Rattle.outside_switch.specs.declared.heard.Heard.TheVariants as of_heard;
+ghost use Rattle.outside_switch.specs.declared.heard.BodyOutcome.TheVariants as of_heard;
 ghost use Rattle.outside_switch.specs.declared.line.HostLine.{HostLine};
 ghost use Rattle.host_frames.specs.Frames.{Tells, said_by};
 ghost use Rattle.host_frames.specs.declared.frame.Notice.TheVariants as notice;
@@ -14,9 +14,9 @@ ghost use Rattle.outside_switch.specs.Meets.{seen};
 ghost use Rattle.outside_switch.specs.Passing.{passed_of, typed_of};
 
 use crate::devices::OutsideDevices;
-use crate::heard::Heard;
+use crate::heard::BodyOutcome;
 use crate::line::HostLine;
-use crate::link::{Fate, Link};
+use crate::link::{Link, LinkState};
 use crate::places::{self, Audience};
 use event_callbacks::PORTS;
 use host_frames::{Frame, Notice, Transfer, frame_of};
@@ -82,7 +82,7 @@ impl<D: SectorStore> Switch<D> {
     }
 
     /// From now on this becomes of packets between hosts.
-    pub fn set_fate(&mut self, fate: Fate)
+    pub fn set_fate(&mut self, fate: LinkState)
         ensures fate { self.new.link.fate ≡ fate }
         ensures same { seen self.new ≡ seen self.old }
     {
@@ -91,7 +91,7 @@ impl<D: SectorStore> Switch<D> {
 
     /// Takes the next body of the host at a place, and does what it asks for. The screen of each port may have room. A host that has
     /// failed is cut off, and what comes from one that was cut off is dropped.
-    pub fn hear(&mut self, alloc: Global, place: u8, rooms: [bool; PORTS]) -> Heard
+    pub fn hear(&mut self, alloc: Global, place: u8, rooms: [bool; PORTS]) -> BodyOutcome
         ensures goes { GoesWith (passed_of result) (seen self.old) (seen self.new) }
         ensures hears { HearsNext place rooms (seen self.old) (seen self.new) result }
         ensures cut { result ≡ of_heard.Failed → open_in (slice_get self.new.lines.items place) ≡ false }
@@ -99,24 +99,30 @@ impl<D: SectorStore> Switch<D> {
     {
         match self.next(place) {
             Some(body) => self.hear_body(alloc, place, &body, rooms),
-            None => Heard::Nothing,
+            None => BodyOutcome::Nothing,
         }
     }
 
     // Does what a body asks for that came from the host at a place.
-    fn hear_body(&mut self, alloc: Global, place: u8, body: &[u8], rooms: [bool; PORTS]) -> Heard
+    fn hear_body(
+        &mut self,
+        alloc: Global,
+        place: u8,
+        body: &[u8],
+        rooms: [bool; PORTS],
+    ) -> BodyOutcome
         ensures goes { HearsBody (passed_of result) place body.now (seen self.old) (seen self.new) }
         ensures heeds { HeedsBody place rooms body.now self.old.lines.items self.old.devices self.new.devices result }
         ensures cut { result ≡ of_heard.Failed → open_in (slice_get self.new.lines.items place) ≡ false }
     {
         if !places::is_open(&self.lines, place) {
-            return Heard::Met;
+            return BodyOutcome::Met;
         }
         match frame_of(body) {
             Ok(frame) => self.hear_frame(alloc, place, frame, rooms),
             Err(_) => {
                 self.gone(alloc, place);
-                Heard::Failed
+                BodyOutcome::Failed
             }
         }
     }
@@ -135,15 +141,15 @@ impl<D: SectorStore> Switch<D> {
         place: u8,
         frame: Frame<'_>,
         rooms: [bool; PORTS],
-    ) -> Heard
+    ) -> BodyOutcome
         ensures goes { HearsFrame (passed_of result) place (said_by frame.entry) (seen self.old) (seen self.new) }
         ensures heeds { HeedsAt place rooms (said_by frame.entry) self.old.lines.items self.old.devices self.new.devices result }
         ensures cut { result ≡ of_heard.Failed → open_in (slice_get self.new.lines.items place) ≡ false }
     {
         match self.meet(alloc, place, frame, rooms) {
-            Heard::Failed => {
+            BodyOutcome::Failed => {
                 self.gone(alloc, place);
-                Heard::Failed
+                BodyOutcome::Failed
             }
             heard => heard,
         }

@@ -3,8 +3,8 @@ ghost use Rattle.std.specs.Prelude.{◌≡◌, ◌∷◌, []};
 ghost use Rattle.outside_switch.specs.Goes.{GoesWith};
 ghost use Rattle.outside_switch.specs.Meets.{seen};
 ghost use Rattle.outside_switch.specs.Passing.{Shown, passed_of};
-ghost use Rattle.outside_switch.specs.declared.heard.Heard.{Heard};
-ghost use Rattle.outside_switch.specs.declared.heard.Heard.TheVariants as of_heard;
+ghost use Rattle.outside_switch.specs.declared.heard.BodyOutcome.{BodyOutcome};
+ghost use Rattle.outside_switch.specs.declared.heard.BodyOutcome.TheVariants as of_heard;
 ghost use Rattle.outside_switch.specs.Heeds.{HasRoomFor};
 ghost use Rattle.outside_switch.specs.Floods.{has_flooded, refused_one, sent_one, ticked};
 ghost use Rattle.outside_switch.specs.Judging.{HearsAndCounts, HearsOne, IsCutOff, Judges, TakesOne, is_due, is_open};
@@ -14,7 +14,7 @@ use crate::flood::{Came, came_of};
 use crate::live::{Live, live_of, spare_for};
 use crate::session::Session;
 use crate::steward::{HostEvent, Steward};
-use crate::{Heard, HostLine};
+use crate::{BodyOutcome, HostLine};
 use event_callbacks::PORTS;
 use pair_events::Role;
 use shared_disk::SectorStore;
@@ -149,7 +149,7 @@ impl<D: SectorStore, S: Steward + Drop> Session<D, S> {
         let is_open = self.is_open(place);
         let heard = self.hear_one(alloc, now, place);
         self.judge(alloc, place, came_of(heard, is_open));
-        !matches!(heard, Heard::Nothing)
+        !matches!(heard, BodyOutcome::Nothing)
     }
 
     // Whether a host is at a place and not cut off.
@@ -163,7 +163,7 @@ impl<D: SectorStore, S: Steward + Drop> Session<D, S> {
     }
 
     // Hears the next body of a host, and shows what there is to show.
-    fn hear_one(&mut self, alloc: Global, now: u64, place: u8) -> Heard
+    fn hear_one(&mut self, alloc: Global, now: u64, place: u8) -> BodyOutcome
         ensures went { Went self.old self.new }
         ensures hears { HearsOne place result self.old self.new }
     {
@@ -213,7 +213,7 @@ impl<D: SectorStore, S: Steward + Drop> Session<D, S> {
     // Whether the screen has room for a byte of each port.
     fn rooms(&mut self) -> [bool; PORTS]
         ensures told { IsTold [] self.old self.new }
-        ensures room { (heard : Heard) → HasRoomFor result heard → MayShow self.new.screen heard }
+        ensures room { (heard : BodyOutcome) → HasRoomFor result heard → MayShow self.new.screen heard }
     {
         let has_room = self.screen.has_room();
         [has_room, has_room]
@@ -221,19 +221,19 @@ impl<D: SectorStore, S: Steward + Drop> Session<D, S> {
 
     // Shows and tells what was heard of a host.
     #[tactic(auto, using(crate::proofs::TurnsGoing::tells_nothing))]
-    fn tell(&mut self, now: u64, place: u8, heard: Heard)
+    fn tell(&mut self, now: u64, place: u8, heard: BodyOutcome)
         requires { MayShow self.old.screen heard }
         ensures { IsTold (passed_of heard) self.old self.new }
     {
         match heard {
-            Heard::Shown { port, byte } => self.show(now, port, byte),
-            Heard::Written => self.moments.moved = now,
-            Heard::Nothing | Heard::Met => {}
-            Heard::Unwritten => self.steward.hears(place, HostEvent::Unwritten),
-            Heard::Became(role) => self.see_role(place, role),
-            Heard::Won(generation) => self.steward.hears(place, HostEvent::Won(generation)),
-            Heard::Lost(generation) => self.steward.hears(place, HostEvent::Lost(generation)),
-            Heard::Failed => self.steward.hears(place, HostEvent::Failed),
+            BodyOutcome::Shown { port, byte } => self.show(now, port, byte),
+            BodyOutcome::Written => self.moments.moved = now,
+            BodyOutcome::Nothing | BodyOutcome::Met => {}
+            BodyOutcome::Unwritten => self.steward.hears(place, HostEvent::Unwritten),
+            BodyOutcome::Became(role) => self.see_role(place, role),
+            BodyOutcome::Won(generation) => self.steward.hears(place, HostEvent::Won(generation)),
+            BodyOutcome::Lost(generation) => self.steward.hears(place, HostEvent::Lost(generation)),
+            BodyOutcome::Failed => self.steward.hears(place, HostEvent::Failed),
         }
     }
 

@@ -10,10 +10,10 @@ use Rattle.pair_main.specs.Runs.{IsObeyed, IsRun, IsScriptOf, Writes, asked_by}
 use Rattle.pair_shell.specs.Hearing.{Hears}
 use Rattle.command_io.specs.declared.failure.Failure.{Failure}
 use Rattle.command_io.specs.declared.failure.Failure.TheVariants as failure
-use Rattle.command_script.specs.declared.order.Order.{Order}
-use Rattle.command_script.specs.declared.order.Order.TheVariants as order
+use Rattle.command_script.specs.declared.order.ScriptTask.{ScriptTask}
+use Rattle.command_script.specs.declared.order.ScriptTask.TheVariants as order
 use Rattle.command_io.specs.Inputs.{ReadsInput, meaning_of}
-use Rattle.command_io.specs.declared.input.Input.{Input}
+use Rattle.command_io.specs.declared.input.ScriptInput.{ScriptInput}
 use Rattle.command_io.specs.declared.input.Language.{Language}
 use Rattle.command_io.specs.declared.input.Language.TheVariants.{Any, Threads}
 use Rattle.command_line.specs.Orders.{IsAsked, IsRefused}
@@ -50,7 +50,7 @@ module _ {R W : Type 0} (remaining : R → Option (List ℕ)) (contents : W → 
   refuses asked language drives failure.Stalled of h = absurd h
   refuses asked language drives failure.Differs of h = absurd h
 
-  pub refuses_order : (order : Order) (images : Vec ℕ) (drives : List ℕ) (f : Failure) → drives ≡ images.items
+  pub refuses_order : (order : ScriptTask) (images : Vec ℕ) (drives : List ℕ) (f : Failure) → drives ≡ images.items
       → ReadsInput script_of drives (remaining reader) (Err f)
       → IsObeyed remaining contents reader reader' writer writer (asked_by order images) (Err f)
   refuses_order order.Script images drives f same h = refuses (request.Script images) Any drives f (same, refl) h
@@ -68,7 +68,7 @@ module _ {R W : Type 0} (remaining : R → Option (List ℕ)) (contents : W → 
 
   -- ---- a run of a script that was read
 
-  script_by : (images : Vec ℕ) (input : Input) (result : Result (Unit {0}) Failure)
+  script_by : (images : Vec ℕ) (input : ScriptInput) (result : Result (Unit {0}) Failure)
       → ReadsInput script_of images.items (remaining reader) (Ok input)
       → script.Prints order.Script input.script.setup input.sectors.items input.script.lines.items result (contents writer)
       (contents writer') → IsObeyed remaining contents reader reader' writer writer' (request.Script images) result
@@ -80,7 +80,7 @@ module _ {R W : Type 0} (remaining : R → Option (List ℕ)) (contents : W → 
   script_by images input (Err (failure.CommandLine text)) read h = absurd h.1
   script_by images input (Err (failure.BadScript line)) read h = absurd h.1
 
-  check_by : (images : Vec ℕ) (input : Input) (result : Result (Unit {0}) Failure)
+  check_by : (images : Vec ℕ) (input : ScriptInput) (result : Result (Unit {0}) Failure)
       → ReadsInput script_of images.items (remaining reader) (Ok input)
       → script.Prints order.Check input.script.setup input.sectors.items input.script.lines.items result (contents writer)
       (contents writer') → IsObeyed remaining contents reader reader' writer writer' (request.Check images) result
@@ -92,21 +92,21 @@ module _ {R W : Type 0} (remaining : R → Option (List ℕ)) (contents : W → 
   check_by images input (Err (failure.CommandLine text)) read h = absurd h.1
   check_by images input (Err (failure.BadScript line)) read h = absurd h.1
 
-  run_by : (order : Order) (images : Vec ℕ) (input : Input) (result : Result (Unit {0}) Failure)
+  run_by : (order : ScriptTask) (images : Vec ℕ) (input : ScriptInput) (result : Result (Unit {0}) Failure)
       → ReadsInput script_of images.items (remaining reader) (Ok input)
       → script.Prints order input.script.setup input.sectors.items input.script.lines.items result (contents writer)
       (contents writer') → IsObeyed remaining contents reader reader' writer writer' (asked_by order images) result
   run_by order.Script images input result read h = script_by images input result read h
   run_by order.Check images input result read h = check_by images input result read h
 
-  pub is_run : (order : Order) (images : Vec ℕ) (drives : List ℕ) (input : Input) (result : Result (Unit {0}) Failure)
+  pub is_run : (order : ScriptTask) (images : Vec ℕ) (drives : List ℕ) (input : ScriptInput) (result : Result (Unit {0}) Failure)
       → drives ≡ images.items → ReadsInput script_of drives (remaining reader) (Ok input)
       → script.Prints order input.script.setup input.sectors.items input.script.lines.items result (contents writer)
       (contents writer') → IsObeyed remaining contents reader reader' writer writer' (asked_by order images) result
   is_run order images drives input result same read h = run_by order images input result
       (subst (λ ds. ReadsInput script_of ds (remaining reader) (Ok input)) same read) h
 
-  picture_by : (images : Vec ℕ) (input : Input) (result : Result (Unit {0}) Failure)
+  picture_by : (images : Vec ℕ) (input : ScriptInput) (result : Result (Unit {0}) Failure)
       → ReadsInput script_of images.items (remaining reader) (Ok input)
       → Draws input.script.setup input.sectors.items input.script.lines.items result (contents writer) (contents writer')
       → IsObeyed remaining contents reader reader' writer writer' (request.Picture images) result
@@ -118,14 +118,14 @@ module _ {R W : Type 0} (remaining : R → Option (List ℕ)) (contents : W → 
   picture_by images input (Err (failure.CommandLine text)) read h = absurd h
   picture_by images input (Err (failure.BadScript line)) read h = absurd h
 
-  pub is_picture : (images : Vec ℕ) (drives : List ℕ) (input : Input) (result : Result (Unit {0}) Failure)
+  pub is_picture : (images : Vec ℕ) (drives : List ℕ) (input : ScriptInput) (result : Result (Unit {0}) Failure)
       → drives ≡ images.items → ReadsInput script_of drives (remaining reader) (Ok input)
       → Draws input.script.setup input.sectors.items input.script.lines.items result (contents writer) (contents writer')
       → IsObeyed remaining contents reader reader' writer writer' (request.Picture images) result
   is_picture images drives input result same read h = picture_by images input result
       (subst (λ ds. ReadsInput script_of ds (remaining reader) (Ok input)) same read) h
 
-  live_by : (how : LiveOrder) (input : Input) (result : Result (Unit {0}) Failure)
+  live_by : (how : LiveOrder) (input : ScriptInput) (result : Result (Unit {0}) Failure)
       → ReadsInput live_script_of how.images.items (remaining reader) (Ok input)
       → PrintsLive input.script.setup input.sectors.items (typed_in 0 input.script.lines.items) (typed_in 1 input.script.lines.items)
       how result (contents writer) (contents writer')
@@ -138,7 +138,7 @@ module _ {R W : Type 0} (remaining : R → Option (List ℕ)) (contents : W → 
   live_by how input (Err (failure.CommandLine text)) read h = absurd h
   live_by how input (Err (failure.BadScript line)) read h = absurd h
 
-  pub is_live : (how : LiveOrder) (drives : List ℕ) (input : Input) (result : Result (Unit {0}) Failure)
+  pub is_live : (how : LiveOrder) (drives : List ℕ) (input : ScriptInput) (result : Result (Unit {0}) Failure)
       → drives ≡ how.images.items → ReadsInput live_script_of drives (remaining reader) (Ok input)
       → PrintsLive input.script.setup input.sectors.items (typed_in 0 input.script.lines.items) (typed_in 1 input.script.lines.items)
       how result (contents writer) (contents writer')

@@ -16,14 +16,14 @@ use Rattle.command_io.specs.declared.failure.Failure.{Failure}
 use Rattle.command_io.specs.declared.failure.Failure.TheVariants.{CommandLine, BadScript}
 use Rattle.command_io.specs.declared.failure.Failure.TheVariants.{OutOfMemory, InputOrOutput, Stalled, Differs}
 use Rattle.command_io.specs.Inputs.{ReadsInput, meaning_of}
-use Rattle.command_io.specs.declared.input.Input.{Input}
+use Rattle.command_io.specs.declared.input.ScriptInput.{ScriptInput}
 use Rattle.command_io.specs.declared.input.Language.{Language}
 use Rattle.command_io.specs.declared.input.Language.TheVariants.{Any, Threads}
 use Rattle.command_line.specs.Orders.{IsAsked, IsRefused}
 use Rattle.command_line.specs.declared.options.Request.{Request}
 use Rattle.command_line.specs.declared.options.Request.TheVariants as request
-use Rattle.command_script.specs.declared.order.Order.{Order}
-use Rattle.command_script.specs.declared.order.Order.TheVariants as order
+use Rattle.command_script.specs.declared.order.ScriptTask.{ScriptTask}
+use Rattle.command_script.specs.declared.order.ScriptTask.TheVariants as order
 use Rattle.script_language.specs.Live.{live_script_of}
 use Rattle.script_language.specs.Meaning.{script_of}
 
@@ -34,8 +34,8 @@ Writes bytes (Err InputOrOutput) old new = Unit {0}
 Writes bytes (Err failure) old new = ⊥
 
 -- the images of these drives, and the script after them, which a reader had left
-pub record IsOfReader (meaning : Meaning) (images : List ℕ) (remaining : Option (List ℕ)) (Obeyed : Input → Type 0) : Type 0 where
-  pub input : Input
+pub record IsOfReader (meaning : Meaning) (images : List ℕ) (remaining : Option (List ℕ)) (Obeyed : ScriptInput → Type 0) : Type 0 where
+  pub input : ScriptInput
   pub read : ReadsInput meaning images remaining (Ok input)
   pub obeyed : Obeyed input
 
@@ -62,7 +62,7 @@ Obeys (request.Recover path) remaining after result old new = (after ≡ remaini
 Obeys (request.Help text) remaining after result old new = Writes (string_bytes text) result old new
 
 -- the request of an order
-abbrev pub asked_by : Order → Vec ℕ → Request
+abbrev pub asked_by : ScriptTask → Vec ℕ → Request
 asked_by order.Script images = request.Script images
 asked_by order.Check images = request.Check images
 

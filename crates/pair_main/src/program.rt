@@ -7,7 +7,7 @@ use command_console::Streams;
 use command_io::{Failure, Language, read_input};
 use command_line::{LiveOrder, Request, request_of};
 use command_live::run_live;
-use command_script::{Order, run_lint, run_picture, run_script};
+use command_script::{ScriptTask, run_lint, run_picture, run_script};
 use event_callbacks::plain_completions;
 use pair_shell::run_shell;
 use std::alloc::Global;
@@ -81,7 +81,7 @@ fn obey<
         Request::Script(images) => {
             run_order(
                 alloc,
-                Order::Script,
+                ScriptTask::Script,
                 images,
                 &mut streams.reader,
                 &mut streams.writer,
@@ -90,7 +90,7 @@ fn obey<
         Request::Check(images) => {
             run_order(
                 alloc,
-                Order::Check,
+                ScriptTask::Check,
                 images,
                 &mut streams.reader,
                 &mut streams.writer,
@@ -132,7 +132,7 @@ fn print_help<W: Write + Drop>(text: &String, writer: &mut W) -> Result<(), Fail
 #[tactic(auto, using(crate::proofs::Runs::refuses_order))]
 fn run_order<R: Read + Drop, W: Write + Drop>(
     alloc: Global,
-    order: Order,
+    order: ScriptTask,
     images: Vec<u8>,
     reader: &mut R,
     writer: &mut W,

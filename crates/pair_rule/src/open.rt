@@ -14,7 +14,7 @@ use crate::link::LinkSeat;
 use crate::primary::PrimarySeat;
 use crate::seat::SeatState;
 use crate::seated::Seated;
-use crate::terminal::{Line, TerminalSeat};
+use crate::terminal::{PortTerminal, TerminalSeat};
 use atomic_table::Table;
 use i8080_words::Fault;
 use std::alloc::{AllocError, Global};
@@ -134,11 +134,11 @@ impl Fabric {
             },
             terminal: TerminalSeat {
                 state: terminal,
-                line0: Line {
+                line0: PortTerminal {
                     hand: None,
                     accepted: 0,
                 },
-                line1: Line {
+                line1: PortTerminal {
                     hand: None,
                     accepted: 0,
                 },

@@ -18,12 +18,12 @@ use std::marker::Model;
 
 // What the terminal of one port has: the byte that it took last, and how many bytes it has accepted.
 #[derive(Clone, Copy)]
-pub(crate) struct Line {
+pub(crate) struct PortTerminal {
     pub(crate) hand: Option<Operation>,
     pub(crate) accepted: u64,
 }
 
-impl Line {
+impl PortTerminal {
     // How many bytes are accepted with the byte in hand.
     fn with_hand(&self) -> u64
         ensures { (arrivals : List Arrived) → self.now.accepted ≡ accepted_after 0 arrivals →
@@ -62,8 +62,8 @@ fn accepted_then(accepted: u64, number: u64) -> u64
 #[derive(Drop)]
 pub struct TerminalSeat {
     pub(crate) state: SeatState,
-    pub(crate) line0: Line,
-    pub(crate) line1: Line,
+    pub(crate) line0: PortTerminal,
+    pub(crate) line1: PortTerminal,
 }
 
 impl Model for TerminalSeat {

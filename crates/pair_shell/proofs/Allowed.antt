@@ -29,8 +29,8 @@ use Rattle.ft_world.specs.Guests.{machine_at}
 use Rattle.pair_shell.specs.Allowed.{IsStage, going_on}
 use Rattle.pair_shell.specs.First.{IsDueOrOut}
 use Rattle.pair_shell.specs.Serves.{Acts, ActsAndMayServe}
-use Rattle.pair_shell.specs.declared.completing.Stage.{Stage}
-use Rattle.pair_shell.specs.declared.completing.Stage.TheVariants as stage
+use Rattle.pair_shell.specs.declared.completing.OperationStage.{OperationStage}
+use Rattle.pair_shell.specs.declared.completing.OperationStage.TheVariants as stage
 
 pub not_zero : (k : ℕ) → 1 ≤ k → (k == 0) ≡ false
 not_zero k le = elim (bool_cases (k == 0)) [
@@ -158,7 +158,7 @@ module _ {S : Type 0} (M : Machine S) (C : Copying S) (laws : Lawful M) (copies 
       let f = some_is (M.find live.x.machine (id.Write number)) out in releases (id.Write number) f.0 f.1 refl
 
   -- the operation that is completed first goes on
-  pub goes : (name : OpId) (s : Stage) → IsDueOrOut M live.x.machine name → IsStage M w n name s →
+  pub goes : (name : OpId) (s : OperationStage) → IsDueOrOut M live.x.machine name → IsStage M w n name s →
       refusal M C w (going_on n name s) ≡ None
   goes (id.Byte port number) stage.Held due is = byte_goes port number due
   goes (id.Byte port number) stage.Covered due is = byte_goes port number due

@@ -19,15 +19,15 @@ use Rattle.pair_shell.specs.declared.notes.Notes.{Notes}
 use Rattle.shared_disk.specs.Failing.{Disk, records_in}
 use Rattle.shell_language.specs.Outcomes.{is_ended}
 use Rattle.shell_language.specs.Tapes.{Begins, trace_text}
-use Rattle.shell_language.specs.declared.outcome.Outcome.{Outcome}
-use Rattle.shell_language.specs.declared.outcome.Outcome.TheVariants as outcome
+use Rattle.shell_language.specs.declared.outcome.LineOutcome.{LineOutcome}
+use Rattle.shell_language.specs.declared.outcome.LineOutcome.TheVariants as outcome
 use Rattle.shell_language.specs.declared.printing.Printed.{Printed}
 use Rattle.shell_language.specs.declared.tape.Played.{Played}
 use Rattle.shell_language.specs.Saying.{said}
 use Rattle.shell_language.specs.declared.line.ShellLine.{ShellLine}
 use Rattle.shell_language.specs.declared.line.ShellLine.TheVariants as shell
 use Rattle.shell_language.specs.Openings.{SetsUpSaid}
-use Rattle.shell_language.specs.declared.opening.Opening.{Opening}
+use Rattle.shell_language.specs.declared.opening.SessionSetup.{SessionSetup}
 use Rattle.command_io.proofs.Handing.{keeps-appends}
 use Rattle.pair_shell.specs.Answering.{AreAnswers, Boots, Further, GoesOn, HasSeen, IsAnswer, Next, NoLine, Once, PairPasses, Passes, SeesIn, SeesSaid, Sitting, begun}
 use Rattle.pair_shell.specs.Lines.{is_run_line, without_cr}
@@ -42,7 +42,7 @@ are_then s mid new lines more answers others (Next {mid = v} {lines = ls} {answe
     Next one (are_then v mid new ls more texts others rest next)
 
 -- a line that plays nothing
-passes_none : (opening : Opening) (pair : Option (Course Guest)) → PairPasses opening pair [] pair
+passes_none : (opening : SessionSetup) (pair : Option (Course Guest)) → PairPasses opening pair [] pair
 passes_none opening None = refl
 passes_none opening (Some c) = record { after = c.world; rows = Nothing; is = refl }
 
@@ -97,7 +97,7 @@ module _ {B H : Type 0} (guest : B → Guest) where
       let d : Course Guest = record c { world = r.after } in
       (d, (record { after = r.after; rows = r.rows; is = refl }, records_show guest guest some_altair new d r.shows))
 
-  boots : (opening : Opening) (v : Running B H Disk) → BootsBy guest opening v
+  boots : (opening : SessionSetup) (v : Running B H Disk) → BootsBy guest opening v
       → (c : Course Guest) × (Boots opening c × Shows guest guest some_altair records_in v c)
   boots opening v b = (
     record (begun opening b.store) { world = b.world },
@@ -115,7 +115,7 @@ module _ {B H : Type 0} (guest : B → Guest) where
     ),
   )
 
-  pair_passes : (opening : Opening) (old new : Option (Running B H Disk)) (tape : List Played) (pair : Option (Course Guest))
+  pair_passes : (opening : SessionSetup) (old new : Option (Running B H Disk)) (tape : List Played) (pair : Option (Course Guest))
       → PairShows guest old pair → AltairsPlay guest opening old tape new
       → (after : Option (Course Guest)) × (PairPasses opening pair tape after × PairShows guest new after)
   pair_passes opening (Some old) (Some new) tape (Some c) shows plays =
@@ -174,7 +174,7 @@ module _ {B H : Type 0} (guest : B → Guest) where
   -- ---- one line
 
   -- what a session promises of a line
-  pub record Promise (old new : Desk B H) (noted noted' : Notes) (line : List ℕ) (tape : List Played) (told : Outcome)
+  pub record Promise (old new : Desk B H) (noted noted' : Notes) (line : List ℕ) (tape : List Played) (told : LineOutcome)
       (answer : List ℕ) : Type 0 where
     pub played : AltairsPlay guest old.opening old.world tape new.world
     pub traced : old.is_traced ≡ true → Begins (trace_text tape) answer
@@ -188,7 +188,7 @@ module _ {B H : Type 0} (guest : B → Guest) where
     pub ended : is_ended told ≡ is_quit (said line)
 
   -- a line that is not refused
-  answer_by : (old new : Desk B H) (noted noted' : Notes) (line : List ℕ) (tape : List Played) (told : Outcome) (answer : List ℕ)
+  answer_by : (old new : Desk B H) (noted noted' : Notes) (line : List ℕ) (tape : List Played) (told : LineOutcome) (answer : List ℕ)
       → (told ≡ outcome.Refused → ⊥) → Promise old new noted noted' line tape told answer → (pair : Option (Course Guest))
       → PairShows guest old.world pair
       → (after : Option (Course Guest)) × (PairShows guest new.world after × IsAnswer line (sitting old pair) answer (sitting new after))
@@ -241,7 +241,7 @@ module _ {B H : Type 0} (guest : B → Guest) where
         ),
       )
 
-  answers : (old new : Desk B H) (noted noted' : Notes) (line : List ℕ) (tape : List Played) (told : Outcome) (answer : List ℕ)
+  answers : (old new : Desk B H) (noted noted' : Notes) (line : List ℕ) (tape : List Played) (told : LineOutcome) (answer : List ℕ)
       → Promise old new noted noted' line tape told answer → (pair : Option (Course Guest)) → PairShows guest old.world pair
       → (after : Option (Course Guest)) × (PairShows guest new.world after × IsAnswer line (sitting old pair) answer (sitting new after))
   answers old new noted noted' line tape outcome.Refused answer p pair shows =
@@ -252,7 +252,7 @@ module _ {B H : Type 0} (guest : B → Guest) where
       answer_by old new noted noted' line tape outcome.Ended answer (λ is. cc) p pair shows
 
   -- its answer was written
-  pub each_one : (old new : Desk B H) (noted noted' : Notes) (line text : List ℕ) (tape : List Played) (told : Outcome)
+  pub each_one : (old new : Desk B H) (noted noted' : Notes) (line text : List ℕ) (tape : List Played) (told : LineOutcome)
       (answer : List ℕ) (before after : Option (List ℕ)) → text ≡ without_cr line
       → Promise old new noted noted' text tape told answer → Appends before after answer
       → AnswersEach guest old (line ∷ []) before after new

@@ -14,7 +14,7 @@ use Rattle.ft_world.specs.Words.{IsMessage}
 use Rattle.ft_world.specs.declared.message.Message.{Message}
 use Rattle.ft_world.specs.declared.message.Message.TheVariants as message
 use Rattle.pair_shell.specs.Arriving.{ArrivesAs, ComesNext, ComesToNode, IsTakenBy}
-use Rattle.pair_shell.specs.declared.serving.Serving.{Serving}
+use Rattle.pair_shell.specs.declared.serving.ServingNodes.{ServingNodes}
 
 abbrev IsWrite : Message → Type 0
 IsWrite (message.Write write) = Unit {0}
@@ -51,7 +51,7 @@ no_some None P none is = is
 no_some (Some e) P none is = none e refl
 
 -- what is taken by nobody keeps no other event from being next
-pub other_next : {S : Type 0} (w : World S) (who : Serving) (m : ℕ) (first next : Option Event) →
+pub other_next : {S : Type 0} (w : World S) (who : ServingNodes) (m : ℕ) (first next : Option Event) →
     ((e : Event) → first ≡ Some e → ⊥) → ComesNext w who m first → ComesNext w who m next
 other_next w who m first next none comes =
     record { found = comes.found; shown = comes.shown; comes = go comes.found comes.comes }

@@ -8,13 +8,13 @@ use Rattle.pair_shell.specs.Bound.{IsBound, IsCount, completions, events_for, no
 use Rattle.pair_shell.specs.Outstanding.{AreOut}
 use Rattle.pair_shell.specs.Serves.{AreAll, Serves}
 use Rattle.pair_shell.specs.Shown.{shown_at}
-use Rattle.pair_shell.specs.declared.serving.Serving.{Serving}
-use Rattle.pair_shell.specs.declared.serving.Serving.TheVariants as serving
+use Rattle.pair_shell.specs.declared.serving.ServingNodes.{ServingNodes}
+use Rattle.pair_shell.specs.declared.serving.ServingNodes.TheVariants as serving
 use Rattle.pair_shell.proofs.Sums.{joined_sum, one_more}
 
 module _ {B S : Type 0} (state : B → S) (writes : B → List Place) (M : Machine S) (w : World S)
     (hosts parts generation : ℕ) where
-  bound : (who : Serving) → Serves w generation who → AreAll w hosts generation who → (count most : ℕ) →
+  bound : (who : ServingNodes) → Serves w generation who → AreAll w hosts generation who → (count most : ℕ) →
       IsCount state writes M w count who → most ≡ up_to_greatest (events_for w.nodes parts count who) →
       IsBound state writes M w hosts parts generation most
   bound who serves all count most counted is =

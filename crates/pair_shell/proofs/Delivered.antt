@@ -39,8 +39,8 @@ use Rattle.ft_world.specs.declared.message.Message.{Message}
 use Rattle.ft_world.specs.declared.message.Message.TheVariants as message
 use Rattle.pair_shell.specs.Arriving.{ArrivesAs, HasJustSent, IsForNode, MayReceive}
 use Rattle.pair_shell.specs.Serves.{IsJoined, IsOfALaw, MayCome, Serves}
-use Rattle.pair_shell.specs.declared.serving.Serving.{Serving}
-use Rattle.pair_shell.specs.declared.serving.Serving.TheVariants as serving
+use Rattle.pair_shell.specs.declared.serving.ServingNodes.{ServingNodes}
+use Rattle.pair_shell.specs.declared.serving.ServingNodes.TheVariants as serving
 
 -- ---- what was sent
 
@@ -66,23 +66,23 @@ module _ {S : Type 0} (before : World S) (generation : ℕ) (n : ℕ) (x : Node 
   same_generation m y same is its =
       ap (λ (z : Node S). z.generation) (same_some x y (slice_get before.nodes m) (at m same) is) ∙ its
 
-  entry_generation : (who : Serving) (index : ℕ) → Serves before generation who → MayCome who (Send n index) →
+  entry_generation : (who : ServingNodes) (index : ℕ) → Serves before generation who → MayCome who (Send n index) →
       x.generation ≡ generation
   entry_generation (serving.Pair a b) index p comes = same_generation a p.x comes p.primary p.primary_generation
   entry_generation who index p comes = absurd comes
 
-  ack_generation : (who : Serving) → Serves before generation who → MayCome who (Acknowledge n) →
+  ack_generation : (who : ServingNodes) → Serves before generation who → MayCome who (Acknowledge n) →
       x.generation ≡ generation
   ack_generation (serving.Pair a b) p comes = same_generation b p.y comes p.backup p.backup_generation
   ack_generation who p comes = absurd comes
 
-  part_generation : (who : Serving) (index : ℕ) → Serves before generation who → MayCome who (SendPart n index) →
+  part_generation : (who : ServingNodes) (index : ℕ) → Serves before generation who → MayCome who (SendPart n index) →
       x.generation ≡ generation
   part_generation (serving.Joining a host) index j comes =
       same_generation a j.primary.acts.x comes j.primary.acts.there j.primary.acts.generation_is
   part_generation who index p comes = absurd comes
 
-  fetch_generation : (who : Serving) → Serves before generation who → MayCome who (Fetch n) → x.generation ≡ generation
+  fetch_generation : (who : ServingNodes) → Serves before generation who → MayCome who (Fetch n) → x.generation ≡ generation
   fetch_generation (serving.Pair a b) p comes = same_generation b p.y comes p.backup p.backup_generation
   fetch_generation (serving.Primary a) p comes = same_generation a p.acts.x comes p.acts.there p.acts.generation_is
   fetch_generation (serving.Backup a) p comes = same_generation a p.acts.x comes p.acts.there p.acts.generation_is
@@ -187,14 +187,14 @@ module _ {S : Type 0} (M : Machine S) (C : Copying S) (laws : Lawful M) (copies 
 
   -- ---- at the node that it is for
 
-  entry_by : (who : Serving) → Serves w generation who → (k a m index : ℕ) (e : Entry) → MayCome who (DeliverLog k a) →
+  entry_by : (who : ServingNodes) → Serves w generation who → (k a m index : ℕ) (e : Entry) → MayCome who (DeliverLog k a) →
       k ≡ m → slice_get w.messages m ≡ Some (LogEntry generation index e) → refusal M C w (DeliverLog k a) ≡ None
   entry_by (serving.Pair n b) p k a m index e comes is at =
       ap (λ j. refusal M C w (DeliverLog j a)) is ∙ ap (λ j. refusal M C w (DeliverLog m j)) comes
       ∙ entry_comes n b p m index e at
   entry_by who p k a m index e comes is at = absurd comes
 
-  acknowledgement_by : (who : Serving) → Serves w generation who → (k a m held replayed : ℕ) →
+  acknowledgement_by : (who : ServingNodes) → Serves w generation who → (k a m held replayed : ℕ) →
       MayCome who (DeliverAcknowledgement k a) → k ≡ m →
       slice_get w.messages m ≡ Some (Acknowledgement generation held replayed) →
       refusal M C w (DeliverAcknowledgement k a) ≡ None
@@ -203,7 +203,7 @@ module _ {S : Type 0} (M : Machine S) (C : Copying S) (laws : Lawful M) (copies 
       ∙ ap (λ j. refusal M C w (DeliverAcknowledgement m j)) comes ∙ acknowledgement_comes n b p m held replayed at
   acknowledgement_by who p k a m held replayed comes is at = absurd comes
 
-  part_by : (who : Serving) → Serves w generation who → (k a m index : ℕ) (part : List ℕ) →
+  part_by : (who : ServingNodes) → Serves w generation who → (k a m index : ℕ) (part : List ℕ) →
       MayCome who (PartComes k a) → k ≡ m → slice_get w.messages m ≡ Some (ImagePart generation index part) →
       refusal M C w (PartComes k a) ≡ None
   part_by (serving.Joining n host) join k a m index part comes is at =
@@ -213,7 +213,7 @@ module _ {S : Type 0} (M : Machine S) (C : Copying S) (laws : Lawful M) (copies 
 
   -- ---- as the message that the running world shows
 
-  module _ (who : Serving) (serves : Serves w generation who) (m : ℕ) where
+  module _ (who : ServingNodes) (serves : Serves w generation who) (m : ℕ) where
     log_arrives : (found : Message) (e : Event) (its index : ℕ) (entry : Entry) → MayCome who e → ArrivesAs found m e →
         slice_get w.messages m ≡ Some (LogEntry its index entry) → IsMessage found (LogEntry its index entry) →
         its ≡ generation → refusal M C w e ≡ None
@@ -268,7 +268,7 @@ module _ {S : Type 0} (M : Machine S) (C : Copying S) (laws : Lawful M) (copies 
     which : Replaying role
     still : StillReplays w n y
 
-  repeats : (who : Serving) → Serves w (highest w.nodes) who → MayReceive who → (k a : ℕ) → MayCome who (Fetched k a) →
+  repeats : (who : ServingNodes) → Serves w (highest w.nodes) who → MayReceive who → (k a : ℕ) → MayCome who (Fetched k a) →
       Repeats a
   repeats (serving.Draining n) s receives k a comes = subst Repeats (sym comes) (record {
     y = s.acts.x;
@@ -366,7 +366,7 @@ module _ {S : Type 0} (M : Machine S) (C : Copying S) (laws : Lawful M) (copies 
         (sector_record M before.puts does.address).bytes) (record { reply = does.reply; after = does.after })).0
 
     -- it arrives at that node
-    fetched_by : (who : Serving) → Serves w (highest w.nodes) who → MayReceive who → (k a : ℕ) →
+    fetched_by : (who : ServingNodes) → Serves w (highest w.nodes) who → MayReceive who → (k a : ℕ) →
         MayCome who (Fetched k a) → k ≡ m → refusal M C w (Fetched k a) ≡ None
     fetched_by who serves receives k a comes is =
         let here = repeats who serves receives k a comes in
@@ -381,7 +381,7 @@ module _ {S : Type 0} (M : Machine S) (C : Copying S) (laws : Lawful M) (copies 
         does.address here (subst (Wants M does.address) same does.node.said)
         (ap (λ (v : World S). (sector_record M v.puts does.address).number) (sym does.after)) answer
 
-    read_arrives : (found : Message) (e : Event) (o : Option protocol.Message) → (who : Serving) →
+    read_arrives : (found : Message) (e : Event) (o : Option protocol.Message) → (who : ServingNodes) →
         Serves w (highest w.nodes) who → MayReceive who → MayCome who e → ArrivesAs found m e →
         o ≡ Some (SectorRead does.address (sector_record M before.puts does.address).number
         (sector_record M before.puts does.address).bytes) → Agree IsMessage (Some found) o → refusal M C w e ≡ None
@@ -393,7 +393,7 @@ module _ {S : Type 0} (M : Machine S) (C : Copying S) (laws : Lawful M) (copies 
 
 -- what was just sent arrives
 pub delivered : {S : Type 0} (M : Machine S) (C : Copying S) → Lawful M → IsCopying M C → (w : World S) → Reached M C w →
-    (who : Serving) → Serves w (highest w.nodes) who → MayReceive who → (m : ℕ) (found : Message) (e : Event) →
+    (who : ServingNodes) → Serves w (highest w.nodes) who → MayReceive who → (m : ℕ) (found : Message) (e : Event) →
     MayCome who e → ArrivesAs found m e → Agree IsMessage (Some found) (slice_get w.messages m) →
     HasJustSent M C w m → refusal M C w e ≡ None
 delivered {S} M C laws copies w r who serves receives m found e comes is there sent =

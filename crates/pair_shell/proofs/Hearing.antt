@@ -8,7 +8,7 @@ use Rattle.guest_parts.specs.Guest.{Guest}
 use Rattle.shared_disk.specs.Failing.{Disk}
 use Rattle.ft_world.specs.Running.{Running}
 use Rattle.shell_language.specs.Openings.{IsDefault}
-use Rattle.shell_language.specs.declared.opening.Opening.{Opening}
+use Rattle.shell_language.specs.declared.opening.SessionSetup.{SessionSetup}
 use Rattle.pair_shell.specs.Lines.{ends_in, heard, heard_at, heard_in, kept_in, last_line}
 use Rattle.pair_shell.specs.Running.{AnswersAll, AnswersEach, Desk, HearsAllFrom, HearsFrom, PairShows, desk, sitting}
 use Rattle.pair_shell.specs.Hearing.{Answers, AnswersTo, Hears, HearsAll, Writes}
@@ -186,7 +186,7 @@ module _ {B H : Type 0} (guest : B → Guest) where
   new_shows : (world : Option (Running B H Disk)) → world ≡ None → PairShows guest world None
   new_shows world none = subst (λ w. PairShows guest w None) (sym none) tt
 
-  hears_new : (opening : Opening) (world : Option (Running B H Disk)) (is_traced : Bool) (first old new : Option (List ℕ))
+  hears_new : (opening : SessionSetup) (world : Option (Running B H Disk)) (is_traced : Bool) (first old new : Option (List ℕ))
       → IsDefault opening → world ≡ None → is_traced ≡ false
       → HearsAllFrom guest (desk opening world is_traced) first old new → HearsAll first old new
   hears_new opening world is_traced None old new set none untraced h = (h.written, tt)
@@ -199,7 +199,7 @@ module _ {B H : Type 0} (guest : B → Guest) where
     },
   )
 
-  pub hears_first : (opening : Opening) (world : Option (Running B H Disk)) (is_traced : Bool) (first : Option (List ℕ))
+  pub hears_first : (opening : SessionSetup) (world : Option (Running B H Disk)) (is_traced : Bool) (first : Option (List ℕ))
       (result : Result (Unit {0}) Failure) (old new : Option (List ℕ)) → IsDefault opening → world ≡ None → is_traced ≡ false
       → HearsFrom guest (desk opening world is_traced) first result old new → Hears first result old new
   hears_first opening world is_traced first (Ok done) old new set none untraced h =

@@ -15,8 +15,8 @@ use Rattle.pair_protocol.proofs.Invariant.{AsAlone, AsBackup, AsDraining, AsJoin
 use Rattle.pair_protocol.proofs.Invariant.Acting.{Acting, ActingBackup, ActingPrimary, BackupActs, PrimaryActs, acting, acting_backup, acting_primary}
 use Rattle.pair_protocol.proofs.Traces.Lists.{same_some}
 use Rattle.pair_shell.specs.Serves.{AreAll, HasOtherRole, HaveOtherRoles, IsOneOf, IsRoleIn, NobodyServes, NoneJoins, Serves, SomebodyServes, node_in, undecided_as, won_as}
-use Rattle.pair_shell.specs.declared.serving.Serving.{Serving}
-use Rattle.pair_shell.specs.declared.serving.Serving.TheVariants as serving
+use Rattle.pair_shell.specs.declared.serving.ServingNodes.{ServingNodes}
+use Rattle.pair_shell.specs.declared.serving.ServingNodes.TheVariants as serving
 
 -- ---- what a node shows
 
@@ -223,7 +223,7 @@ module _ {S : Type 0} (M : Machine S) (C : Copying S) (w : World S) (i : Inv M C
     }
 
     -- of the highest generation
-    module _ (top : generation ≡ highest w.nodes) (who : Serving) where
+    module _ (top : generation ≡ highest w.nodes) (who : ServingNodes) where
       pub winner_is_all : (n : ℕ) (shows : Option shown.Role) → Some n ≡ winner_in w.winners generation →
           IsRoleIn w n generation shows → who ≡ won_as n shows → AreAll w hosts (highest w.nodes) who
       winner_is_all n shows won is same =
@@ -244,7 +244,7 @@ module _ {S : Type 0} (M : Machine S) (C : Copying S) (w : World S) (i : Inv M C
 
 -- ---- whether somebody serves
 
-pub somebody : {S : Type 0} (w : World S) (generation : ℕ) (who : Serving) → Serves w generation who →
+pub somebody : {S : Type 0} (w : World S) (generation : ℕ) (who : ServingNodes) → Serves w generation who →
     (who ≡ serving.Nobody → ⊥) → SomebodyServes w generation
 somebody w generation serving.Nobody is not = absurd (not refl)
 somebody w generation (serving.Primary n) is not =
@@ -276,14 +276,14 @@ somebody w generation (serving.Pair n backup) is not = record {
   };
 }
 
-pub nobody : {S : Type 0} (w : World S) (hosts generation : ℕ) (who : Serving) → AreAll w hosts generation who →
+pub nobody : {S : Type 0} (w : World S) (hosts generation : ℕ) (who : ServingNodes) → AreAll w hosts generation who →
     who ≡ serving.Nobody → NobodyServes w hosts generation
 nobody w hosts generation who all none n x lt same may = subst (IsOneOf n) none (all.each n x lt same may)
 
-pub some_node : (who : Serving) → is_some (node_in who) ≡ true → who ≡ serving.Nobody → ⊥
+pub some_node : (who : ServingNodes) → is_some (node_in who) ≡ true → who ≡ serving.Nobody → ⊥
 some_node who is none = let no : is_some (node_in serving.Nobody) ≡ true = subst (λ k. is_some (node_in k) ≡ true) none is in (cc)
 
-pub no_node : (who : Serving) → is_some (node_in who) ≡ false → who ≡ serving.Nobody
+pub no_node : (who : ServingNodes) → is_some (node_in who) ≡ false → who ≡ serving.Nobody
 no_node serving.Nobody is = refl
 no_node (serving.Primary n) is = absurd (cc)
 no_node (serving.Backup n) is = absurd (cc)

@@ -37,8 +37,8 @@ use Rattle.pair_shell.specs.Allowed.{HasIndexes, IsPartOf, IsStage, going_on}
 use Rattle.pair_shell.specs.First.{IsDueOrOut}
 use Rattle.pair_shell.specs.Serves.{IsJoined}
 use Rattle.pair_shell.specs.Shown.{shown_at}
-use Rattle.pair_shell.specs.declared.completing.Stage.{Stage}
-use Rattle.pair_shell.specs.declared.completing.Stage.TheVariants as stage
+use Rattle.pair_shell.specs.declared.completing.OperationStage.{OperationStage}
+use Rattle.pair_shell.specs.declared.completing.OperationStage.TheVariants as stage
 use Rattle.pair_shell.proofs.Allowed.{not_zero}
 
 abbrev nothing_shown : Standing
@@ -147,7 +147,7 @@ module _ {S : Type 0} (M : Machine S) (C : Copying S) (laws : Lawful M) (copies 
       (let t = two_terminals M C w r in not_up_to (length w.terminals) port (omega (arith, t, lt)))
 
   -- the operation that is completed first goes on, unless it is held
-  pub goes_in_pair : (name : OpId) (s : Stage) → IsDueOrOut M p.x.machine name → IsStage M w n name s →
+  pub goes_in_pair : (name : OpId) (s : OperationStage) → IsDueOrOut M p.x.machine name → IsStage M w n name s →
       (s ≡ stage.Held → ⊥) → refusal M C w (going_on n name s) ≡ None
   goes_in_pair (id.Byte port number) stage.Held due is held = absurd (held refl)
   goes_in_pair (id.Byte port number) stage.Covered due is held =

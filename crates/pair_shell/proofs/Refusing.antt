@@ -8,10 +8,10 @@ use Rattle.shared_disk.specs.Records.{AreOnDrives}
 use Rattle.pair_shell.specs.Sessions.{CannotBoot, ComesLate, IsWrong, MayRefuse, NoneBoots, SaysNothing, is_setup}
 use Rattle.shell_language.specs.declared.line.ShellLine.{ShellLine}
 use Rattle.shell_language.specs.Openings.{CannotSet}
-use Rattle.shell_language.specs.declared.opening.Opening.{Opening}
+use Rattle.shell_language.specs.declared.opening.SessionSetup.{SessionSetup}
 
 -- one at which no pair boots
-pub none_boots : {X : Type 0} (opening : Opening) (world : Option X) (line : ShellLine) → world ≡ None → CannotBoot opening
+pub none_boots : {X : Type 0} (opening : SessionSetup) (world : Option X) (line : ShellLine) → world ≡ None → CannotBoot opening
     → MayRefuse opening (is_some world) (Some line)
 none_boots opening world line none cannot = NoneBoots (ap is_some none) cannot
 
@@ -20,7 +20,7 @@ pub cannot_boot : (fault : Fault) (drives : ℕ) (sectors : List SectorWrite) �
     → (fault ≡ OutOfMemory) ⊎ ((fault ≡ Unknown) × (AreOnDrives drives sectors → ⊥)) → AreOnDrives drives sectors → ⊥
 cannot_boot fault drives sectors not why = ⊎_elim (λ full. absurd (not full)) (λ h. h.1) why
 
-module _ (opening : Opening) (has_booted : Bool) where
+module _ (opening : SessionSetup) (has_booted : Bool) where
   -- a line of the setup, after the pair has booted
   pub comes_late : (line : ShellLine) → has_booted ≡ true → is_setup (Some line) ≡ true → MayRefuse opening has_booted (Some line)
   comes_late line booted is = ComesLate is booted

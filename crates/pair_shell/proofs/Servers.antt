@@ -10,7 +10,7 @@ use Rattle.pair_protocol.specs.World.{World, winner_in}
 use Rattle.ft_world.specs.Shows.{IsStatusAt}
 use Rattle.ft_world.specs.declared.hosts.NodeStatus.{NodeStatus}
 use Rattle.pair_shell.specs.Serves.{Acts, ActsAndMayServe, IsRoleIn, Serves, undecided_as, won_as}
-use Rattle.pair_shell.specs.declared.serving.Serving.{Serving}
+use Rattle.pair_shell.specs.declared.serving.ServingNodes.{ServingNodes}
 
 -- what a node shows of itself
 pub shows_role : {S : Type 0} (M : Machine S) (w : World S) (n generation : ℕ) (status : NodeStatus) →
@@ -82,7 +82,7 @@ module _ {S : Type 0} (w : World S) (generation : ℕ) where
     serves_undecided None None j p b q = tt
 
 -- of the highest generation
-module _ {S : Type 0} (w : World S) (generation : ℕ) (top : generation ≡ highest w.nodes) (who : Serving) where
+module _ {S : Type 0} (w : World S) (generation : ℕ) (top : generation ≡ highest w.nodes) (who : ServingNodes) where
   pub winner_serves : (n : ℕ) (role : Option shown.Role) → IsRoleIn w n generation role → who ≡ won_as n role →
       Serves w (highest w.nodes) who
   winner_serves n role is same =

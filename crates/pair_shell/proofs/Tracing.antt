@@ -9,11 +9,11 @@ use Rattle.shell_language.specs.declared.line.ShellLine.{ShellLine}
 use Rattle.shell_language.specs.Openings.{SetsUp, SetsUpSaid}
 use Rattle.pair_shell.specs.Sessions.{HeedsSaid, IsHeeded, is_quit, is_setup, trace_after}
 use Rattle.shell_language.specs.Outcomes.{is_ended}
-use Rattle.shell_language.specs.declared.outcome.Outcome.{Outcome}
-use Rattle.shell_language.specs.declared.outcome.Outcome.TheVariants as outcome
+use Rattle.shell_language.specs.declared.outcome.LineOutcome.{LineOutcome}
+use Rattle.shell_language.specs.declared.outcome.LineOutcome.TheVariants as outcome
 use Rattle.shell_language.specs.Tapes.{Begins, IsAnswered, Traces, event_lines, played, told_text, trace_text}
 use Rattle.shell_language.specs.Texts.{AddsLine, AddsSome, mark}
-use Rattle.shell_language.specs.declared.opening.Opening.{Opening}
+use Rattle.shell_language.specs.declared.opening.SessionSetup.{SessionSetup}
 use Rattle.shell_language.specs.declared.printing.Printed.{Printed}
 use Rattle.shell_language.specs.declared.tape.Played.{Played}
 
@@ -92,15 +92,15 @@ pub heeds_said : (line : ShellLine) (said : Option ShellLine) (tape : List Playe
 heeds_said line said tape traced text is heeded = subst (λ s. HeedsSaid s tape traced [] text) is heeded
 
 -- so is whether the session ends with it
-pub ends_said : (line : ShellLine) (said : Option ShellLine) (told : Outcome) → Some line ≡ said
+pub ends_said : (line : ShellLine) (said : Option ShellLine) (told : LineOutcome) → Some line ≡ said
     → is_ended told ≡ is_quit (Some line) → is_ended told ≡ is_quit said
 ends_said line said told is ends = ends ∙ ap is_quit is
 
-pub ends_not : (said : Option ShellLine) (told : Outcome) → None ≡ said → is_ended told ≡ false → is_ended told ≡ is_quit said
+pub ends_not : (said : Option ShellLine) (told : LineOutcome) → None ≡ said → is_ended told ≡ false → is_ended told ≡ is_quit said
 ends_not said told is ends = ends ∙ ap is_quit is
 
 -- so is what it changes in the setup
-pub sets_up_said : (line : ShellLine) (said : Option ShellLine) (old new : Opening) → Some line ≡ said → SetsUp line old new
+pub sets_up_said : (line : ShellLine) (said : Option ShellLine) (old new : SessionSetup) → Some line ≡ said → SetsUp line old new
     → SetsUpSaid said old new
 sets_up_said line said old new is sets = subst (λ s. SetsUpSaid s old new) is sets
 
@@ -113,7 +113,7 @@ pub switches_not : (said : Option ShellLine) (old new : Bool) → None ≡ said 
 switches_not said old new is same = same ∙ ap (λ s. trace_after s old) is
 
 -- and that it comes too late
-pub late_said : (line : ShellLine) (said : Option ShellLine) (has_booted : Bool) (told : Outcome) → Some line ≡ said
+pub late_said : (line : ShellLine) (said : Option ShellLine) (has_booted : Bool) (told : LineOutcome) → Some line ≡ said
     → (is_setup (Some line) ≡ true → has_booted ≡ true → told ≡ outcome.Refused)
     → is_setup said ≡ true → has_booted ≡ true → told ≡ outcome.Refused
 late_said line said has_booted told is late =

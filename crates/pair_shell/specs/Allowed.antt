@@ -11,11 +11,11 @@ use Rattle.pair_protocol.specs.Refusals.{at_node, refusal, release_refusal}
 use Rattle.pair_protocol.specs.World.{World, accepted}
 use Rattle.pair_progress.specs.Completion.{Responds}
 use Rattle.ft_world.specs.Standing.{Course, machine_of}
-use Rattle.pair_shell.specs.declared.completing.Stage.{Stage}
-use Rattle.pair_shell.specs.declared.completing.Stage.TheVariants as stage
+use Rattle.pair_shell.specs.declared.completing.OperationStage.{OperationStage}
+use Rattle.pair_shell.specs.declared.completing.OperationStage.TheVariants as stage
 
 -- how an operation goes on: a node is told of a byte that was accepted, and releases any other operation
-abbrev pub going_on : ℕ → OpId → Stage → Event
+abbrev pub going_on : ℕ → OpId → OperationStage → Event
 going_on n (id.Byte port number) stage.Accepted = TellSent n port number
 going_on n name s = Release n name
 
@@ -25,7 +25,7 @@ IsAccepted w (id.Byte port number) = number ≤ length (accepted w port)
 IsAccepted w (id.Write number) = ⊥
 
 -- how far an operation of a node is: it may be released if it is covered
-abbrev pub IsStage : {S : Type 0} → Machine S → World S → ℕ → OpId → Stage → Type 0
+abbrev pub IsStage : {S : Type 0} → Machine S → World S → ℕ → OpId → OperationStage → Type 0
 IsStage M w n name stage.Held = Unit {0}
 IsStage M w n name stage.Covered = at_node (slice_get w.nodes n) (release_refusal M name) ≡ None
 IsStage M w n name stage.Accepted = IsAccepted w name

@@ -19,20 +19,20 @@ use Rattle.shared_disk.specs.Records.{HasDrives, IsAtBoot, IsUnwritten}
 use Rattle.shared_disk.specs.declared.store.Record.{Record}
 use Rattle.shell_language.specs.Outcomes.{is_ended}
 use Rattle.shell_language.specs.Tapes.{Begins, trace_text}
-use Rattle.shell_language.specs.declared.outcome.Outcome.{Outcome}
-use Rattle.shell_language.specs.declared.outcome.Outcome.TheVariants.{Done, Refused}
+use Rattle.shell_language.specs.declared.outcome.LineOutcome.{LineOutcome}
+use Rattle.shell_language.specs.declared.outcome.LineOutcome.TheVariants.{Done, Refused}
 use Rattle.shell_language.specs.declared.printing.Printed.{Printed}
 use Rattle.shell_language.specs.declared.tape.Played.{Played}
 use Rattle.shell_language.specs.Saying.{said}
 use Rattle.shell_language.specs.declared.line.ShellLine.{ShellLine}
 use Rattle.shell_language.specs.declared.line.ShellLine.TheVariants as shell
 use Rattle.shell_language.specs.Openings.{IsDefault, IsSame, SetsUpSaid}
-use Rattle.shell_language.specs.declared.opening.Opening.{Opening}
+use Rattle.shell_language.specs.declared.opening.SessionSetup.{SessionSetup}
 use Rattle.pair_shell.specs.Lines.{without_cr}
 
 -- a session between two lines: its setup, a world of the protocol if its pair has booted, and whether events are traced
 pub record Sitting : Type 0 where
-  pub opening : Opening
+  pub opening : SessionSetup
   pub pair : Option (Course Guest)
   pub is_traced : Bool
 
@@ -43,13 +43,13 @@ pub record IsNew (s : Sitting) : Type 0 where
   pub is_traced : s.is_traced ≡ false
 
 -- the pair of a setup, with these records on its disk
-abbrev pub begun : Opening → List Record → Course Guest
+abbrev pub begun : SessionSetup → List Record → Course Guest
 begun opening records = beginning some_altair (image_copy opening.setup.guest.drives) opening.setup.guest.reads
     (guest_at_boot opening.setup.guest) records
 
 -- a pair has booted as a session's setup says: the setup's sectors are on its disk, nothing is written on it, and it has as many
 -- hosts
-pub record Boots (opening : Opening) (booted : Course Guest) : Type 0 where
+pub record Boots (opening : SessionSetup) (booted : Course Guest) : Type 0 where
   pub records : List Record
   pub has_drives : HasDrives records opening.setup.guest.drives
   pub unwritten : IsUnwritten records
@@ -65,7 +65,7 @@ pub record Passes (old : Course Guest) (tape : List Played) (new : Course Guest)
   pub is : new ≡ record old { world = after }
 
 -- the same in a session, whose pair boots as its setup says if it has not yet
-abbrev pub PairPasses : Opening → Option (Course Guest) → List Played → Option (Course Guest) → Type 0
+abbrev pub PairPasses : SessionSetup → Option (Course Guest) → List Played → Option (Course Guest) → Type 0
 PairPasses opening (Some old) tape (Some new) = Passes old tape new
 PairPasses opening None tape (Some new) = (booted : Course Guest) × (Boots opening booted × Passes booted tape new)
 PairPasses opening None tape None = tape ≡ []
@@ -104,7 +104,7 @@ pub record IsLeft (tape : List Played) (old new : Sitting) : Type 0 where
 -- that event alone, and is answered as in a script; one that looks at what the pair has is told what is there. A line that says nothing
 -- is refused, and one that says something only for one of the reasons that there are.
 pub record IsAnswer (line : List ℕ) (old : Sitting) (answer : List ℕ) (new : Sitting) : Type 0 where
-  pub outcome : Outcome
+  pub outcome : LineOutcome
   pub tape : List Played
   pub played : PairPasses old.opening old.pair tape new.pair
   pub traced : old.is_traced ≡ true → Begins (trace_text tape) answer

@@ -15,8 +15,8 @@ use Rattle.pair_protocol.specs.Rows.{Does}
 use Rattle.pair_protocol.specs.Settled.{highest}
 use Rattle.pair_protocol.specs.World.{World}
 use Rattle.pair_shell.specs.Serves.{AreAll, IsOfALaw, Serves}
-use Rattle.pair_shell.specs.declared.serving.Serving.{Serving}
-use Rattle.pair_shell.specs.declared.serving.Serving.TheVariants as serving
+use Rattle.pair_shell.specs.declared.serving.ServingNodes.{ServingNodes}
+use Rattle.pair_shell.specs.declared.serving.ServingNodes.TheVariants as serving
 
 -- a message arrives at a node
 abbrev pub ComesToNode : Event → Type 0
@@ -39,7 +39,7 @@ ArrivesAs (message.Sector read) m (Fetched k n) = k ≡ m
 ArrivesAs found m e = ⊥
 
 -- who takes what was sent: a live node what goes to a device, or comes from the disk; a pair also what its nodes send each other
-abbrev pub IsTakenBy : Serving → Message → Type 0
+abbrev pub IsTakenBy : ServingNodes → Message → Type 0
 IsTakenBy (serving.Draining n) (message.Sector read) = Unit {0}
 IsTakenBy (serving.Alone n) (message.Byte port number byte) = Unit {0}
 IsTakenBy (serving.Alone n) (message.Write write) = Unit {0}
@@ -50,20 +50,20 @@ IsTakenBy (serving.Pair n backup) found = Unit {0}
 IsTakenBy who found = ⊥
 
 -- the message of this number comes next, if those who serve take it
-pub record ComesNext {S : Type 0} (w : World S) (who : Serving) (m : ℕ) (next : Option Event) : Type 0 where
+pub record ComesNext {S : Type 0} (w : World S) (who : ServingNodes) (m : ℕ) (next : Option Event) : Type 0 where
   pub found : Option Message
   pub shown : Agree IsMessage found (slice_get w.messages m)
   pub comes : IfSome found (λ sent. IsTakenBy who sent → IsSomeAnd next (ArrivesAs sent m))
 
 -- those are the ones of so many hosts who serve
 pub record SentComesNext {S : Type 0} (w : World S) (hosts generation m : ℕ) (next : Option Event) : Type 0 where
-  pub who : Serving
+  pub who : ServingNodes
   pub serves : Serves w generation who
   pub all : AreAll w hosts generation who
   pub comes : ComesNext w who m next
 
 -- those who serve get messages, unless they are to ask the arbiter
-abbrev pub MayReceive : Serving → Type 0
+abbrev pub MayReceive : ServingNodes → Type 0
 MayReceive serving.Nobody = ⊥
 MayReceive (serving.Primary n) = ⊥
 MayReceive (serving.Backup n) = ⊥

@@ -9,8 +9,8 @@ use Rattle.pair_protocol.specs.World.{World}
 use Rattle.pair_shell.specs.Outstanding.{AreOut}
 use Rattle.pair_shell.specs.Serves.{AreAll, Serves}
 use Rattle.pair_shell.specs.Shown.{shown_at}
-use Rattle.pair_shell.specs.declared.serving.Serving.{Serving}
-use Rattle.pair_shell.specs.declared.serving.Serving.TheVariants as serving
+use Rattle.pair_shell.specs.declared.serving.ServingNodes.{ServingNodes}
+use Rattle.pair_shell.specs.declared.serving.ServingNodes.TheVariants as serving
 
 -- 3 for each outstanding operation
 abbrev pub completions : ℕ → ℕ
@@ -33,7 +33,7 @@ abbrev pub nothing_held : Standing
 nothing_held = record { entries = 0; done = 0 }
 
 -- a primary asks the arbiter by 1; a backup by 1, and drains by 1; a winner drains by 1; a host that joins gets each part by 2
-abbrev pub events_for : {S : Type 0} → List (Node S) → ℕ → ℕ → Serving → ℕ
+abbrev pub events_for : {S : Type 0} → List (Node S) → ℕ → ℕ → ServingNodes → ℕ
 events_for nodes parts count serving.Nobody = 0
 events_for nodes parts count (serving.Primary n) = 1 + completions count
 events_for nodes parts count (serving.Backup n) = 2 + fetches (left (shown_at nodes n)) + completions count
@@ -43,7 +43,7 @@ events_for nodes parts count (serving.Joining n host) = 2 * parts + settling (sh
 events_for nodes parts count (serving.Pair n backup) = settling (shown_at nodes n) (shown_at nodes backup) count
 
 -- so many operations are outstanding where the guest runs; at a node that repeats, forty may be once it is live
-abbrev pub IsCount : {B S : Type 0} → (B → S) → (B → List Place) → Machine S → World S → ℕ → Serving → Type 0
+abbrev pub IsCount : {B S : Type 0} → (B → S) → (B → List Place) → Machine S → World S → ℕ → ServingNodes → Type 0
 IsCount state writes M w count serving.Nobody = count ≡ 0
 IsCount state writes M w count (serving.Primary n) = AreOut state writes M w n count
 IsCount state writes M w count (serving.Backup n) = count ≡ 40
@@ -59,7 +59,7 @@ up_to_greatest count = min count (2 ^ 64 - 1)
 -- so many for those of so many hosts who serve
 pub record IsBound {B S : Type 0} (state : B → S) (writes : B → List Place) (M : Machine S) (w : World S)
     (hosts parts generation most : ℕ) : Type 0 where
-  pub who : Serving
+  pub who : ServingNodes
   pub serves : Serves w generation who
   pub all : AreAll w hosts generation who
   pub count : ℕ

@@ -10,7 +10,7 @@ use Rattle.shell_language.specs.declared.tape.Played.{Played}
 use Rattle.shell_language.specs.Texts.{Row, Text}
 use Rattle.shell_picture.specs.Endings.{ending_text}
 use Rattle.shell_picture.specs.declared.day.Day.{Day}
-use Rattle.shell_picture.specs.declared.ending.Ending.TheVariants.{Turns}
+use Rattle.shell_picture.specs.declared.ending.DayEnd.TheVariants.{Turns}
 
 -- `ran I count C W`: the steps that the day has made, those that the node has made, and why the day ended
 abbrev pub ran_text : Day → ℕ → List ℕ

@@ -7,8 +7,8 @@ use Rattle.pair_protocol.specs.World.{World}
 use Rattle.pair_progress.specs.CatchingUp.{IsPair}
 use Rattle.pair_shell.specs.First.{IsFirst}
 use Rattle.pair_shell.specs.Serves.{AreAll, Serves}
-use Rattle.pair_shell.specs.declared.serving.Serving.{Serving}
-use Rattle.pair_shell.specs.declared.serving.Serving.TheVariants as serving
+use Rattle.pair_shell.specs.declared.serving.ServingNodes.{ServingNodes}
+use Rattle.pair_shell.specs.declared.serving.ServingNodes.TheVariants as serving
 
 -- no operation of a node is found that would be completed first: no byte is due
 abbrev pub IsStill : {S : Type 0} → Machine S → World S → ℕ → Type 0
@@ -19,7 +19,7 @@ abbrev pub IsThrough : {S : Type 0} → Node S → Node S → Type 0
 IsThrough x y = (length x.log ≤ length y.held) × (length x.log ≤ x.covered)
 
 -- a node that is to go live has an event left; one that a host joins has one until as many parts have come as an image has
-abbrev pub MayRest : {S : Type 0} → Machine S → World S → ℕ → ℕ → ℕ → Serving → Type 0
+abbrev pub MayRest : {S : Type 0} → Machine S → World S → ℕ → ℕ → ℕ → ServingNodes → Type 0
 MayRest M w parts arrived generation serving.Nobody = Unit {0}
 MayRest M w parts arrived generation (serving.Primary n) = ⊥
 MayRest M w parts arrived generation (serving.Backup n) = ⊥
@@ -31,7 +31,7 @@ MayRest M w parts arrived generation (serving.Pair n backup) =
 
 -- those of so many hosts who serve in this generation may rest, and no other serves
 pub record Rests {S : Type 0} (M : Machine S) (w : World S) (hosts parts arrived generation : ℕ) : Type 0 where
-  pub who : Serving
+  pub who : ServingNodes
   pub serves : Serves w generation who
   pub all : AreAll w hosts generation who
   pub rests : MayRest M w parts arrived generation who

@@ -8,7 +8,7 @@ use Rattle.ft_world.specs.Standing.{Course}
 use Rattle.guest_board.specs.Inputs.{some_altair}
 use Rattle.guest_parts.specs.Guest.{Guest}
 use Rattle.shared_disk.specs.Failing.{Disk, records_in}
-use Rattle.shell_language.specs.declared.opening.Opening.{Opening}
+use Rattle.shell_language.specs.declared.opening.SessionSetup.{SessionSetup}
 use Rattle.command_io.specs.declared.failure.Failure.{Failure}
 use Rattle.pair_shell.specs.Answering.{AreAnswers, HaveAnswers, Sitting}
 use Rattle.pair_shell.specs.Lines.{heard, without_cr}
@@ -16,11 +16,11 @@ use Rattle.pair_shell.specs.Hearing.{AnswersTo, Writes}
 
 -- what of a session its answers are about
 pub record Desk (B H : Type 0) : Type 0 where
-  pub opening : Opening
+  pub opening : SessionSetup
   pub world : Option (Running B H Disk)
   pub is_traced : Bool
 
-abbrev pub desk : {B H : Type 0} → Opening → Option (Running B H Disk) → Bool → Desk B H
+abbrev pub desk : {B H : Type 0} → SessionSetup → Option (Running B H Disk) → Bool → Desk B H
 desk opening world is_traced = record { opening = opening; world = world; is_traced = is_traced }
 
 -- its pair shows this world, or has not booted

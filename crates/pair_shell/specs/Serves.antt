@@ -11,8 +11,8 @@ use Rattle.pair_progress.specs.Completion.{IsCompletion}
 use Rattle.pair_progress.specs.Renewal.{IsOfParts}
 use Rattle.pair_progress.specs.Settling.{IsPairing}
 use Rattle.pair_progress.specs.Takeover.{IsItsOwn, IsLive, MayServe}
-use Rattle.pair_shell.specs.declared.serving.Serving.{Serving}
-use Rattle.pair_shell.specs.declared.serving.Serving.TheVariants as serving
+use Rattle.pair_shell.specs.declared.serving.ServingNodes.{ServingNodes}
+use Rattle.pair_shell.specs.declared.serving.ServingNodes.TheVariants as serving
 
 -- a node that is up, in this role of this generation
 pub record Acts {S : Type 0} (w : World S) (n : ℕ) (role : Role) (generation : ℕ) : Type 0 where
@@ -33,7 +33,7 @@ pub record IsJoined {S : Type 0} (w : World S) (n host generation : ℕ) : Type 
   pub joining : Acts w host Joining generation
 
 -- what is said of the nodes of a generation that may serve; that there are none says nothing here
-abbrev pub Serves : {S : Type 0} → World S → ℕ → Serving → Type 0
+abbrev pub Serves : {S : Type 0} → World S → ℕ → ServingNodes → Type 0
 Serves w generation serving.Nobody = Unit {0}
 Serves w generation (serving.Primary n) = ActsAndMayServe w n Primary generation
 Serves w generation (serving.Backup n) = ActsAndMayServe w n Backup generation
@@ -43,7 +43,7 @@ Serves w generation (serving.Joining n host) = IsJoined w n host generation
 Serves w generation (serving.Pair n backup) = IsPair w n backup generation
 
 -- a node is one of these
-abbrev pub IsOneOf : ℕ → Serving → Type 0
+abbrev pub IsOneOf : ℕ → ServingNodes → Type 0
 IsOneOf m serving.Nobody = ⊥
 IsOneOf m (serving.Primary n) = m ≡ n
 IsOneOf m (serving.Backup n) = m ≡ n
@@ -53,12 +53,12 @@ IsOneOf m (serving.Joining n host) = m ≡ n
 IsOneOf m (serving.Pair n backup) = (m ≡ n) ⊎ (m ≡ backup)
 
 -- if a primary serves by itself, none of so many hosts joins it
-abbrev pub NoneJoins : {S : Type 0} → World S → ℕ → ℕ → Serving → Type 0
+abbrev pub NoneJoins : {S : Type 0} → World S → ℕ → ℕ → ServingNodes → Type 0
 NoneJoins w hosts generation (serving.Primary n) = (host : ℕ) → host < hosts → Acts w host Joining generation → ⊥
 NoneJoins w hosts generation who = Unit {0}
 
 -- of so many hosts, each that may serve in a generation is one of these; so if there are none, nobody may
-pub record AreAll {S : Type 0} (w : World S) (hosts generation : ℕ) (who : Serving) : Type 0 where
+pub record AreAll {S : Type 0} (w : World S) (hosts generation : ℕ) (who : ServingNodes) : Type 0 where
   pub each : (n : ℕ) (x : Node S) → n < hosts → x.generation ≡ generation → MayServe w n x → IsOneOf n who
   pub joins : NoneJoins w hosts generation who
 
@@ -75,12 +75,12 @@ pub record SomebodyServes {S : Type 0} (w : World S) (generation : ℕ) : Type 0
 
 -- who serves by the role that the winner of a generation shows there; and, of a generation that nobody has won, by its primary, its
 -- backup, and the host that joins it
-abbrev pub won_as : ℕ → Option shown.Role → Serving
+abbrev pub won_as : ℕ → Option shown.Role → ServingNodes
 won_as n (Some role.Draining) = serving.Draining n
 won_as n (Some role.Alone) = serving.Alone n
 won_as n _ = serving.Nobody
 
-abbrev pub undecided_as : Option ℕ → Option ℕ → Option ℕ → Serving
+abbrev pub undecided_as : Option ℕ → Option ℕ → Option ℕ → ServingNodes
 undecided_as (Some n) (Some backup) joining = serving.Pair n backup
 undecided_as (Some n) None (Some host) = serving.Joining n host
 undecided_as (Some n) None None = serving.Primary n
@@ -88,7 +88,7 @@ undecided_as None (Some n) joining = serving.Backup n
 undecided_as None None joining = serving.Nobody
 
 -- the node that runs the guest, or will
-abbrev pub node_in : Serving → Option ℕ
+abbrev pub node_in : ServingNodes → Option ℕ
 node_in serving.Nobody = None
 node_in (serving.Primary n) = Some n
 node_in (serving.Backup n) = Some n
@@ -99,7 +99,7 @@ node_in (serving.Pair n backup) = Some n
 
 -- the events of the laws by which they come to rest: a node goes live by its own; what is outstanding is completed; parts of an
 -- image arrive; and a pair logs, repeats and completes
-abbrev pub MayCome : Serving → Event → Type 0
+abbrev pub MayCome : ServingNodes → Event → Type 0
 MayCome serving.Nobody e = ⊥
 MayCome (serving.Primary n) e = IsItsOwn n e
 MayCome (serving.Backup n) e = IsItsOwn n e
@@ -110,7 +110,7 @@ MayCome (serving.Pair n backup) e = IsPairing n backup e
 
 -- an event is one of those, for the nodes of this generation that may serve
 pub record IsOfALaw {S : Type 0} (w : World S) (generation : ℕ) (e : Event) : Type 0 where
-  pub who : Serving
+  pub who : ServingNodes
   pub serves : Serves w generation who
   pub comes : MayCome who e
 

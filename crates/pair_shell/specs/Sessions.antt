@@ -15,11 +15,11 @@ use Rattle.shell_language.specs.Openings.{CannotSet, IsSame}
 use Rattle.pair_shell.specs.Playing.{Plays}
 use Rattle.shell_language.specs.Tapes.{IsAnswered}
 use Rattle.pair_shell.specs.declared.notes.Notes.{Notes}
-use Rattle.shell_language.specs.declared.opening.Opening.{Opening}
+use Rattle.shell_language.specs.declared.opening.SessionSetup.{SessionSetup}
 use Rattle.shell_language.specs.declared.tape.Played.{Played}
 
 -- a pair has just booted as a session's setup says
-abbrev pub BootsBy : {B H : Type 0} → (B → Guest) → Opening → Running B H Disk → Type 0
+abbrev pub BootsBy : {B H : Type 0} → (B → Guest) → SessionSetup → Running B H Disk → Type 0
 BootsBy state opening v = IsBooted state state some_altair (image_copy opening.setup.guest.drives)
     opening.setup.guest.reads (guest_at_boot opening.setup.guest) opening.setup.guest.drives opening.setup.failing_access
     opening.setup.hosts opening.sectors.items v
@@ -35,7 +35,7 @@ LinePlays state copied M Boots (Some old) tape None = ⊥
 LinePlays state copied M Boots None tape None = tape ≡ []
 
 -- the same of a pair of Altairs, of which each board shows its guest
-abbrev pub AltairsPlay : {B H : Type 0} → (B → Guest) → Opening → Option (Running B H Disk) → List Played
+abbrev pub AltairsPlay : {B H : Type 0} → (B → Guest) → SessionSetup → Option (Running B H Disk) → List Played
     → Option (Running B H Disk) → Type 0
 AltairsPlay guest opening old tape new = LinePlays guest guest some_altair (BootsBy guest opening) old tape new
 
@@ -72,12 +72,12 @@ is_setup (Some (shell.Load loaded)) = true
 is_setup _ = false
 
 -- no pair can boot: a sector of the setup is on a drive that is not attached
-abbrev pub CannotBoot : Opening → Type 0
+abbrev pub CannotBoot : SessionSetup → Type 0
 CannotBoot opening = AreOnDrives opening.setup.guest.drives opening.sectors.items → ⊥
 
 -- Why a line may be refused. It says nothing; or it is one of the setup and comes too late, or its words are none that may come
 -- there; or it would be the first at which a pair boots, and none can.
-pub data MayRefuse (opening : Opening) (has_booted : Bool) : Option ShellLine → Type 0 where
+pub data MayRefuse (opening : SessionSetup) (has_booted : Bool) : Option ShellLine → Type 0 where
   SaysNothing : MayRefuse opening has_booted None
   ComesLate : {line : ShellLine} → is_setup (Some line) ≡ true → has_booted ≡ true → MayRefuse opening has_booted (Some line)
   IsWrong : {line : ShellLine} → CannotSet line opening → MayRefuse opening has_booted (Some line)
@@ -90,7 +90,7 @@ shown_at shown (suc zero) count = slice_set shown 1 count
 shown_at shown (suc (suc n)) count = shown
 
 -- nothing has changed but the tape, which is that of the last line: neither the setup, nor the pair, nor what was noted
-pub record IsAsBefore {X : Type 0} (setup setup' : Opening) (pair pair' : Option X) (noted noted' : Notes)
+pub record IsAsBefore {X : Type 0} (setup setup' : SessionSetup) (pair pair' : Option X) (noted noted' : Notes)
     (traced traced' : Bool) : Type 0 where
   pub opening : IsSame setup setup'
   pub world : pair' ≡ pair

@@ -5,8 +5,8 @@ use Rattle.event_callbacks.specs.declared.operations.OpId.{OpId}
 use Rattle.event_callbacks.specs.declared.operations.OpId.TheVariants as id
 use Rattle.ft_node.specs.declared.ran.Standing.{Standing}
 use Rattle.pair_events.specs.declared.event.Event.{Event}
-use Rattle.pair_shell.specs.declared.serving.Serving.{Serving}
-use Rattle.pair_shell.specs.declared.serving.Serving.TheVariants as serving
+use Rattle.pair_shell.specs.declared.serving.ServingNodes.{ServingNodes}
+use Rattle.pair_shell.specs.declared.serving.ServingNodes.TheVariants as serving
 use Rattle.shell_language.specs.Texts.{Row, Text}
 use Rattle.shell_language.specs.Spelling as spelling
 use Rattle.pair_shell.specs.declared.why.Wait.{Wait}
@@ -17,7 +17,7 @@ use Rattle.pair_shell.specs.declared.why.Waiting.{Waiting}
 abbrev pub node_text : ℕ → List ℕ → List ℕ
 node_text node rest = codes "node " ++ (decimal node ++ rest)
 
-abbrev pub serving_text : Serving → List ℕ
+abbrev pub serving_text : ServingNodes → List ℕ
 serving_text serving.Nobody = codes "no node may serve"
 serving_text (serving.Primary node) = node_text node (codes " is a primary without a backup")
 serving_text (serving.Backup node) = node_text node (codes " is a backup without a primary")
@@ -54,7 +54,7 @@ abbrev pub held_by : Option Standing → Wait
 held_by None = wait.Acknowledgement
 held_by (Some standing) = if nat_le standing.entries standing.done then wait.Report else wait.Acknowledgement
 
-abbrev pub held_for : Serving → Option Standing → Wait
+abbrev pub held_for : ServingNodes → Option Standing → Wait
 held_for (serving.Pair n backup) standing = held_by standing
 held_for (serving.Joining n host) standing = held_by standing
 held_for other standing = wait.Live

@@ -4,7 +4,7 @@ ghost use Rattle.clone_state.specs.Parts.{part_count};
 ghost use Rattle.pair_shell.specs.Asked.{keys_of, left_of};
 
 use pair_events::Event;
-use shell_language::{Book, Opening, Quoted, ShellLine};
+use shell_language::{Book, Quoted, SessionSetup, ShellLine};
 use shell_picture::{
     bytes_to_arrive, entries_to_deliver, entries_to_send, parts_to_deliver, parts_to_send,
 };
@@ -13,7 +13,7 @@ use std::alloc::{AllocError, Global};
 /// The events that a line with `all` asks for; other lines ask for none.
 pub fn left(
     alloc: Global,
-    opening: &Opening,
+    opening: &SessionSetup,
     book: &Book,
     line: ShellLine<'_>,
 ) -> Result<Vec<Event>, AllocError>

@@ -7,14 +7,14 @@ ghost use Rattle.pair_shell.specs.Sessions.{BootsBy, CannotBoot};
 use altair_pair::{Altairs, boot};
 use event_callbacks::Completes;
 use i8080_words::Fault;
-use shell_language::Opening;
+use shell_language::SessionSetup;
 use std::alloc::{AllocError, Global};
 
 /// A pair that boots as a session's setup says; none if a sector of the setup is on a drive that is not attached.
 #[tactic(auto, using(crate::proofs::Refusing::cannot_boot))]
 pub fn booted<T: Completes + Drop + Copy, S: Completes + Drop + Copy, W: Completes + Drop + Copy>(
     alloc: Global,
-    opening: &Opening,
+    opening: &SessionSetup,
     sent: T,
     sector: S,
     written: W,

@@ -8,7 +8,7 @@ ghost use Rattle.pair_shell.specs.Outstanding.{AreOut};
 
 use crate::plan::names_of;
 use crate::repeating::standing_of;
-use crate::serving::{Serving, who_serves};
+use crate::serving::{ServingNodes, who_serves};
 use board_image::OutstandingWrites;
 use clone_state::Copies;
 use ft_node::Standing;
@@ -37,16 +37,18 @@ pub fn most_events<B: Copies<H> + OutstandingWrites + Drop, D: SectorStore, H: D
         → IsBound B.state B.OutstandingWrites.writes B.machine c.world hosts parts (highest c.world.nodes) most) }
 {
     match who_serves(world, hosts) {
-        Serving::Nobody => Ok(0),
-        Serving::Primary { node } => Ok(completed(count_of(alloc, world, node)?).saturating_add(1)),
-        Serving::Alone { node } => Ok(completed(count_of(alloc, world, node)?)),
-        Serving::Backup { node } => Ok(drained(2, standing_of(world, node))),
-        Serving::Draining { node } => Ok(drained(1, standing_of(world, node))),
-        Serving::Joining { node, .. } => {
+        ServingNodes::Nobody => Ok(0),
+        ServingNodes::Primary { node } => Ok(completed(count_of(
+            alloc, world, node,
+        )?).saturating_add(1)),
+        ServingNodes::Alone { node } => Ok(completed(count_of(alloc, world, node)?)),
+        ServingNodes::Backup { node } => Ok(drained(2, standing_of(world, node))),
+        ServingNodes::Draining { node } => Ok(drained(1, standing_of(world, node))),
+        ServingNodes::Joining { node, .. } => {
             let names = count_of(alloc, world, node)?;
             Ok(joined(parts, paired(standing_of(world, node), NOTHING_HELD, names)))
         }
-        Serving::Pair { node, backup } => {
+        ServingNodes::Pair { node, backup } => {
             let names = count_of(alloc, world, node)?;
             Ok(paired(standing_of(world, node), standing_of(world, backup), names))
         }

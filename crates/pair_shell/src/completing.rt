@@ -13,7 +13,7 @@ use shared_disk::SectorStore;
 
 /// How far an outstanding operation is.
 #[derive(Clone, Copy)]
-pub enum Stage {
+pub enum OperationStage {
     /// Its mark is not acknowledged, or a read before it is not reported as replayed.
     Held,
     /// It may be released.
@@ -27,17 +27,17 @@ pub fn stage_of<B: Copies<H> + Drop, D: SectorStore, H: Drop>(
     world: &World<B, D, H>,
     node: u64,
     id: OpId,
-) -> Stage
+) -> OperationStage
     ensures { (c : Course B.State) → Shows B.state B.copied B.machine D.records world.now c
         → IsStage (machine_of B.machine c) c.world node id result }
 {
     if is_accepted(world, id) {
-        return Stage::Accepted;
+        return OperationStage::Accepted;
     }
     if world.may_release(node, id) {
-        Stage::Covered
+        OperationStage::Covered
     } else {
-        Stage::Held
+        OperationStage::Held
     }
 }
 
@@ -56,12 +56,16 @@ fn is_accepted<B: Copies<H> + Drop, D: SectorStore, H: Drop>(
 }
 
 // The event by which an operation goes on that is not held: a node is told of a byte that was accepted, and releases any other operation.
-pub(crate) fn going_on(node: u64, id: OpId, stage: Stage) -> Event
+pub(crate) fn going_on(node: u64, id: OpId, stage: OperationStage) -> Event
     ensures kind { IsCompletion node result }
     ensures is { result ≡ going_on node id stage }
 {
     match (id, stage) {
-        (OpId::Byte(port, number), Stage::Accepted) => Event::TellSent { node, port, number },
+        (OpId::Byte(port, number), OperationStage::Accepted) => Event::TellSent {
+            node,
+            port,
+            number,
+        },
         _ => Event::Release { node, id },
     }
 }
@@ -80,6 +84,6 @@ pub(crate) fn is_any_held<B: Copies<H> + Drop, D: SectorStore, H: Drop>(
     false
 }
 
-fn is_held(stage: Stage) -> bool {
-    matches!(stage, Stage::Held)
+fn is_held(stage: OperationStage) -> bool {
+    matches!(stage, OperationStage::Held)
 }

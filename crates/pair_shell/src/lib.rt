@@ -23,8 +23,8 @@ mod showing;
 mod why;
 
 pub use bound::most_events;
-pub use completing::{Stage, stage_of};
+pub use completing::{OperationStage, stage_of};
 pub use names::outstanding;
-pub use plan::Plan;
-pub use serving::{Serving, who_serves};
+pub use plan::RestPlan;
+pub use serving::{ServingNodes, who_serves};
 pub use shell::run_shell;

@@ -14,7 +14,7 @@ use altair_pair::Altairs;
 use event_callbacks::Completes;
 use guest_board::Board;
 use i8080_words::Fault;
-use shell_language::{Look, Opening, Printed, ShellLine, Span, View};
+use shell_language::{Look, Printed, SessionSetup, ShellLine, Span, View};
 use shell_picture::{print_listing, print_memory, print_refusal, print_registers};
 use std::alloc::{AllocError, Global};
 
@@ -23,7 +23,7 @@ use std::alloc::{AllocError, Global};
 pub fn take_line<T: Completes + Drop, S: Completes + Drop, W: Completes + Drop>(
     alloc: Global,
     notes: &mut Notes,
-    opening: &Opening,
+    opening: &SessionSetup,
     world: &mut Altairs<T, S, W>,
     line: ShellLine<'_>,
     printed: &mut Printed,

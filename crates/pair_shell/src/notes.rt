@@ -14,7 +14,7 @@ ghost use Rattle.shell_language.specs.Tapes.{Begins, IsAnswered, Traces, trace_t
 use crate::asked::{keys_of, left};
 use crate::play::{KEPT, play, play_one};
 use crate::polling::MayPoll;
-use crate::running::Left;
+use crate::running::PausedDay;
 use crate::showing::check;
 use clone_state::Copies;
 use event_callbacks::PORTS;
@@ -22,8 +22,8 @@ use ft_world::World;
 use pair_events::Event;
 use sequence_diagram::Moment;
 use shared_disk::Disk;
-use shell_language::{Book, Opening, Played, Printed, Quoted, ShellLine, Stretch};
-use shell_picture::{Plan, print_last, print_picture, print_screen, print_sum};
+use shell_language::{Book, Played, Printed, Quoted, SessionSetup, ShellLine, Stretch};
+use shell_picture::{EventQueue, print_last, print_picture, print_screen, print_sum};
 use std::alloc::{AllocError, Global};
 
 /// What was noted since the pair has booted: the book, the events of the last line, and all events with what was seen of them.
@@ -33,7 +33,7 @@ pub struct Notes {
     pub tape: Vec<Played>,
     pub past: Vec<Moment>,
     // A day that has paused.
-    pub left: Option<Left>,
+    pub left: Option<PausedDay>,
     // How many bytes of each terminal were shown as text.
     shown: [usize; PORTS],
 }
@@ -54,7 +54,7 @@ impl Notes {
     pub fn take<B: Copies<H> + MayPoll + Drop, H: Drop>(
         &mut self,
         alloc: Global,
-        opening: &Opening,
+        opening: &SessionSetup,
         world: &mut World<B, Disk, H>,
         line: ShellLine<'_>,
         printed: &mut Printed,
@@ -81,7 +81,7 @@ impl Notes {
     fn take_all<B: Copies<H> + MayPoll + Drop, H: Drop>(
         &mut self,
         alloc: Global,
-        opening: &Opening,
+        opening: &SessionSetup,
         world: &mut World<B, Disk, H>,
         line: ShellLine<'_>,
         printed: &mut Printed,
@@ -108,7 +108,7 @@ impl Notes {
     fn show<B: Copies<H> + Drop, H: Drop>(
         &mut self,
         alloc: Global,
-        opening: &Opening,
+        opening: &SessionSetup,
         world: &mut World<B, Disk, H>,
         line: ShellLine<'_>,
         printed: &mut Printed,
@@ -238,7 +238,7 @@ impl Notes {
         ensures traced { IfOk result (λ _. printed.old.is_traced ≡ true → string_bytes printed.old.text ≡ []
             → Begins (trace_text self.new.tape.items) (string_bytes printed.new.text)) }
     {
-        let mut plan = Plan::of(events);
+        let mut plan = EventQueue::of(events);
         self.play(alloc, world, &mut plan, printed)?;
         print_sum(&self.tape, printed)
     }
@@ -248,7 +248,7 @@ impl Notes {
         &mut self,
         alloc: Global,
         world: &mut World<B, Disk, H>,
-        plan: &mut Plan,
+        plan: &mut EventQueue,
         printed: &mut Printed,
     ) -> Result<bool, AllocError>
         ensures played { Plays B.state B.copied B.machine world.old self.new.tape.items world.new }

@@ -16,13 +16,13 @@ ghost use Rattle.pair_shell.specs.Arriving.{ArrivesAs, ComesNext, ComesToNode, H
 ghost use Rattle.pair_shell.specs.Ending.{IsStill, IsThrough, MayRest, Rests};
 ghost use Rattle.pair_shell.specs.Outstanding.{AreNames};
 ghost use Rattle.pair_shell.specs.PlanHearing.{arrived_after, has_come, sent_by};
-ghost use Rattle.pair_shell.specs.declared.serving.Serving.TheVariants as who;
+ghost use Rattle.pair_shell.specs.declared.serving.ServingNodes.TheVariants as who;
 ghost use Rattle.pair_shell.specs.Serves.{IsOfALaw, MayCome, NobodyServes, Serves, SomebodyServes};
 
-use crate::completing::{Stage, going_on, is_any_held, stage_of};
+use crate::completing::{OperationStage, going_on, is_any_held, stage_of};
 use crate::names::{first_outstanding, outstanding};
 use crate::repeating::{count_of, draining, replaying, standing_of};
-use crate::serving::{Serving, who_serves};
+use crate::serving::{ServingNodes, who_serves};
 use board_image::OutstandingWrites;
 use clone_state::Copies;
 use event_callbacks::OpId;
@@ -38,19 +38,19 @@ const LOG_ENTRIES: u64 = 256;
 /// A pair among so many hosts, whose image has so many parts; the message that the last event of the plan sent, if it sent one; and
 /// how many parts of an image have arrived.
 #[derive(Clone, Copy)]
-pub struct Plan {
+pub struct RestPlan {
     hosts: u64,
     parts: u64,
     sent: Option<u64>,
     arrived: u64,
 }
 
-impl Plan {
+impl RestPlan {
     /// A plan for a pair among so many hosts, whose image has so many parts. No event was made so far.
-    pub fn new(hosts: u64, parts: u64) -> Plan
+    pub fn new(hosts: u64, parts: u64) -> RestPlan
         ensures { result ≡ record { hosts = hosts; parts = parts; sent = None; arrived = 0 } }
     {
-        Plan {
+        RestPlan {
             hosts,
             parts,
             sent: None,
@@ -119,7 +119,7 @@ impl Plan {
         &self,
         alloc: Global,
         world: &World<B, D, H>,
-        serving: Serving,
+        serving: ServingNodes,
     ) -> Result<Option<Event>, AllocError>
         ensures kind { IfOk result (λ next. IfSome next (MayCome serving)) }
         ensures allowed { IfOk result (λ next. IfSome next (λ event. (c : Course B.State)
@@ -130,13 +130,13 @@ impl Plan {
             → MayRest B.machine c.world self.now.parts self.now.arrived generation serving) }
     {
         match serving {
-            Serving::Nobody => Ok(None),
-            Serving::Primary { node } => Ok(Some(Event::Suspect { node })),
-            Serving::Backup { node } => Ok(Some(Event::Suspect { node })),
-            Serving::Draining { node } => Ok(Some(draining(world, node))),
-            Serving::Alone { node } => Ok(completing(world, node)),
-            Serving::Joining { node, .. } => Ok(self.sending_part(node)),
-            Serving::Pair { node, backup } => paired(alloc, world, node, backup),
+            ServingNodes::Nobody => Ok(None),
+            ServingNodes::Primary { node } => Ok(Some(Event::Suspect { node })),
+            ServingNodes::Backup { node } => Ok(Some(Event::Suspect { node })),
+            ServingNodes::Draining { node } => Ok(Some(draining(world, node))),
+            ServingNodes::Alone { node } => Ok(completing(world, node)),
+            ServingNodes::Joining { node, .. } => Ok(self.sending_part(node)),
+            ServingNodes::Pair { node, backup } => paired(alloc, world, node, backup),
         }
     }
 
@@ -144,7 +144,7 @@ impl Plan {
     fn arriving<B: Copies<H> + Drop, D: SectorStore, H: Drop>(
         &self,
         world: &World<B, D, H>,
-        serving: Serving,
+        serving: ServingNodes,
     ) -> Option<Event>
         ensures kind { IfSome result (MayCome serving) }
         ensures none { self.now.sent ≡ None → result ≡ None }
@@ -197,17 +197,17 @@ fn has_come(answer: R<Reply>) -> bool
 }
 
 // The arrival of a message at a device, or at the node that it is for.
-fn arrival(sent: &Message, message: u64, serving: Serving) -> Option<Event>
+fn arrival(sent: &Message, message: u64, serving: ServingNodes) -> Option<Event>
     ensures kind { IfSome result (MayCome serving) }
     ensures received { IfSome result (λ event. MayReceive serving) }
     ensures arrives { IfSome result (ArrivesAs sent.now message) }
     ensures taken { IsTakenBy serving sent.now → IsSome result }
 {
     match serving {
-        Serving::Alone { node } => arrival_alone(sent, message, node),
-        Serving::Pair { node, backup } => arrival_in_pair(sent, message, node, backup),
-        Serving::Joining { host, .. } => arrival_of_part(sent, message, host),
-        Serving::Draining { node } => arrival_of_sector(sent, message, node),
+        ServingNodes::Alone { node } => arrival_alone(sent, message, node),
+        ServingNodes::Pair { node, backup } => arrival_in_pair(sent, message, node, backup),
+        ServingNodes::Joining { host, .. } => arrival_of_part(sent, message, host),
+        ServingNodes::Draining { node } => arrival_of_sector(sent, message, node),
         _ => None,
     }
 }
@@ -310,7 +310,7 @@ fn completing_in_pair<B: Copies<H> + OutstandingWrites + Drop, D: SectorStore, H
     let guest = world.guest(node)?;
     let id = first_outstanding(guest)?;
     match stage_of(world, node, id) {
-        Stage::Held => None,
+        OperationStage::Held => None,
         stage => Some(going_on(node, id, stage)),
     }
 }

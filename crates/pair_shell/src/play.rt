@@ -18,7 +18,7 @@ use pair_events::{Event, Reply};
 use sequence_diagram::Moment;
 use shared_disk::Disk;
 use shell_language::{Book, Brings, Played};
-use shell_picture::Plan;
+use shell_picture::EventQueue;
 use std::alloc::{AllocError, Global};
 
 /// How many events of a session are kept for pictures, from its first one on. With each of them a session that prints would
@@ -36,7 +36,7 @@ pub fn play<B: Copies<H> + MayPoll + Drop, H: Drop>(
     alloc: Global,
     world: &mut World<B, Disk, H>,
     book: &mut Book,
-    plan: &mut Plan,
+    plan: &mut EventQueue,
     tape: &mut Vec<Played>,
     past: &mut Vec<Moment>,
 ) -> Result<bool, AllocError>
@@ -59,7 +59,7 @@ pub fn play<B: Copies<H> + MayPoll + Drop, H: Drop>(
 }
 
 // Whether a day pauses after an event that is the last on its tape.
-fn pauses(tape: &[Played], plan: &Plan, event: Event) -> bool
+fn pauses(tape: &[Played], plan: &EventQueue, event: Event) -> bool
     ensures { result ≡ pauses (length tape.now) event plan.now.day }
 {
     tape.len() >= MOST_TAPED && plan.may_pause(event)
@@ -70,7 +70,7 @@ fn rest_if_polling<B: Copies<H> + MayPoll + Drop, H: Drop>(
     world: &World<B, Disk, H>,
     book: &Book,
     event: Event,
-    plan: &mut Plan,
+    plan: &mut EventQueue,
 )
     ensures busy { option_and_then (λ day. left_waiting event day book.now) plan.old.day ≡ None → plan.new ≡ plan.old }
     ensures rests { (plan.new ≡ plan.old) ⊎ (plan.new ≡ record plan.old { day = option_map rested plan.old.day }) }

@@ -14,7 +14,7 @@ ghost use Rattle.shell_language.specs.Texts.{AddsSome, Prints};
 use crate::asked::parts_of;
 use crate::notes::Notes;
 use crate::play::play_next;
-use crate::{Plan, most_events};
+use crate::{RestPlan, most_events};
 use board_image::OutstandingWrites;
 use clone_state::Copies;
 use ft_world::World;
@@ -23,7 +23,7 @@ use i8080_words::{Fault, R};
 use pair_events::Reply;
 use sequence_diagram::Moment;
 use shared_disk::Disk;
-use shell_language::{Book, Opening, Played, Printed};
+use shell_language::{Book, Played, Printed, SessionSetup};
 use std::alloc::{AllocError, Global};
 
 /// Where the events of a plan have led.
@@ -45,7 +45,7 @@ impl Notes {
     pub(crate) fn rest<B: Copies<H> + OutstandingWrites + Drop, H: Drop>(
         &mut self,
         alloc: Global,
-        opening: &Opening,
+        opening: &SessionSetup,
         world: &mut World<B, Disk, H>,
         printed: &mut Printed,
     ) -> Result<(), AllocError>
@@ -61,7 +61,7 @@ impl Notes {
         let hosts = u64::from(opening.setup.hosts);
         let parts = parts_of(opening.setup.guest.drives);
         let most = most_events(alloc, world, hosts, parts)?;
-        let mut plan = Plan::new(hosts, parts);
+        let mut plan = RestPlan::new(hosts, parts);
         let rested = lead(
             alloc,
             world,
@@ -83,7 +83,7 @@ fn lead<B: Copies<H> + OutstandingWrites + Drop, H: Drop>(
     alloc: Global,
     world: &mut World<B, Disk, H>,
     book: &mut Book,
-    plan: &mut Plan,
+    plan: &mut RestPlan,
     most: u64,
     tape: &mut Vec<Played>,
     past: &mut Vec<Moment>,
@@ -112,7 +112,7 @@ fn lead<B: Copies<H> + OutstandingWrites + Drop, H: Drop>(
 }
 
 // Where a plan has led that has no event left.
-fn ended<B: Copies<H> + Drop, H: Drop>(plan: &Plan, world: &World<B, Disk, H>) -> Rested
+fn ended<B: Copies<H> + Drop, H: Drop>(plan: &RestPlan, world: &World<B, Disk, H>) -> Rested
     ensures { (c : Course B.State) → Shows B.state B.copied B.machine records_in world.now c
         → Rests B.machine c.world plan.now.hosts plan.now.parts plan.now.arrived (highest c.world.nodes)
         → HasLed B.machine c.world plan.now.hosts plan.now.parts plan.now.arrived (highest c.world.nodes) result }

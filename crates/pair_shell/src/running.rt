@@ -18,14 +18,14 @@ use ft_world::{NodeStatus, World};
 use i8080_words::{Fault, R};
 use pair_events::Role;
 use shared_disk::Disk;
-use shell_language::{Book, Opening, Played, Printed, Turns, holds_up, meeting_of};
-use shell_picture::{Day, Plan, print_held_up, print_refusal};
+use shell_language::{Book, Played, Printed, SessionSetup, Turns, holds_up, meeting_of};
+use shell_picture::{Day, EventQueue, print_held_up, print_refusal};
 use std::alloc::{AllocError, Global};
 
 /// A day that has paused: what it is to play, the node that runs the guest, and its backup if it has one.
 #[derive(Drop)]
-pub struct Left {
-    plan: Plan,
+pub struct PausedDay {
+    plan: EventQueue,
     node: u64,
     backup: Option<u64>,
 }
@@ -36,7 +36,7 @@ impl Notes {
     pub(crate) fn run<B: Copies<H> + MayPoll + Drop, H: Drop>(
         &mut self,
         alloc: Global,
-        opening: &Opening,
+        opening: &SessionSetup,
         world: &mut World<B, Disk, H>,
         turns: Turns,
         printed: &mut Printed,
@@ -48,8 +48,8 @@ impl Notes {
     {
         match self.backup_for(alloc, opening, world, turns.node)? {
             Ok(backup) => {
-                let day = Left {
-                    plan: Plan::day(alloc, Day::new(alloc, turns, backup)),
+                let day = PausedDay {
+                    plan: EventQueue::day(alloc, Day::new(alloc, turns, backup)),
                     node: turns.node,
                     backup,
                 };
@@ -91,7 +91,7 @@ impl Notes {
     fn backup_for<B: Copies<H> + Drop, H: Drop>(
         &mut self,
         alloc: Global,
-        opening: &Opening,
+        opening: &SessionSetup,
         world: &World<B, Disk, H>,
         node: u64,
     ) -> Result<R<Option<u64>>, AllocError>
@@ -120,7 +120,7 @@ impl Notes {
         &mut self,
         alloc: Global,
         world: &mut World<B, Disk, H>,
-        mut day: Left,
+        mut day: PausedDay,
         printed: &mut Printed,
     ) -> Result<(), AllocError>
         ensures played { Plays B.state B.copied B.machine world.old self.new.tape.items world.new }
@@ -149,7 +149,7 @@ fn count_of<B: Copies<H> + Drop, H: Drop>(world: &World<B, Disk, H>, node: u64) 
 // How a day has gone, and what is held up after it.
 #[tactic(auto, using(shell_language::proofs::Adding::adds_more, shell_language::proofs::Adding::prints_then))]
 fn print_day(
-    plan: &Plan,
+    plan: &EventQueue,
     count: u64,
     backup: Option<u64>,
     tape: &[Played],
@@ -210,7 +210,7 @@ fn is_held(fault: Fault, tape: &[Played], book: &Book) -> bool
 
 // How many steps a day has made, and why it ended.
 #[tactic(auto, using(shell_language::proofs::Adding::adds_none, crate::proofs::Days::tells_ran, crate::proofs::Days::tells_no_day))]
-fn print_ran(plan: &Plan, count: u64, printed: &mut Printed) -> Result<(), AllocError>
+fn print_ran(plan: &EventQueue, count: u64, printed: &mut Printed) -> Result<(), AllocError>
     ensures some { IfOk result (λ _. AddsSome printed.old printed.new) }
     ensures told { IfOk result (λ _. Prints (ran_rows plan.now.day count) printed.old printed.new) }
 {

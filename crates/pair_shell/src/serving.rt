@@ -12,7 +12,7 @@ use shared_disk::SectorStore;
 
 /// The nodes of the highest generation that may serve.
 #[derive(Clone, Copy)]
-pub enum Serving {
+pub enum ServingNodes {
     /// None: its winner has halted, or nobody has won, and no whole node is up.
     Nobody,
     /// A primary whose backup has halted; nobody has won.
@@ -29,19 +29,19 @@ pub enum Serving {
     Pair { node: u64, backup: u64 },
 }
 
-impl Serving {
+impl ServingNodes {
     /// The node that runs the guest, or that will once it has won and repeated what it holds.
     pub fn node(self) -> Option<u64>
         ensures { result ≡ node_in self }
     {
         match self {
-            Serving::Nobody => None,
-            Serving::Primary { node }
-            | Serving::Backup { node }
-            | Serving::Draining { node }
-            | Serving::Alone { node }
-            | Serving::Joining { node, .. }
-            | Serving::Pair { node, .. } => Some(node),
+            ServingNodes::Nobody => None,
+            ServingNodes::Primary { node }
+            | ServingNodes::Backup { node }
+            | ServingNodes::Draining { node }
+            | ServingNodes::Alone { node }
+            | ServingNodes::Joining { node, .. }
+            | ServingNodes::Pair { node, .. } => Some(node),
         }
     }
 }
@@ -50,7 +50,7 @@ impl Serving {
 pub fn who_serves<B: Copies<H> + Drop, D: SectorStore, H: Drop>(
     world: &World<B, D, H>,
     hosts: u64,
-) -> Serving
+) -> ServingNodes
     ensures serves { (c : Course B.State) → Shows B.state B.copied B.machine D.records world.now c
         → Serves c.world (highest c.world.nodes) result }
     ensures all { (c : Course B.State) → Shows B.state B.copied B.machine D.records world.now c
@@ -68,26 +68,26 @@ pub fn who_serves<B: Copies<H> + Drop, D: SectorStore, H: Drop>(
 }
 
 // What a winner is.
-fn won(node: u64, role: Option<Role>) -> Serving
+fn won(node: u64, role: Option<Role>) -> ServingNodes
     ensures { result ≡ won_as node role }
 {
     match role {
-        Some(Role::Draining) => Serving::Draining { node },
-        Some(Role::Alone) => Serving::Alone { node },
-        _ => Serving::Nobody,
+        Some(Role::Draining) => ServingNodes::Draining { node },
+        Some(Role::Alone) => ServingNodes::Alone { node },
+        _ => ServingNodes::Nobody,
     }
 }
 
 // What the nodes of a generation are that nobody has won.
-fn undecided(primary: Option<u64>, backup: Option<u64>, joining: Option<u64>) -> Serving
+fn undecided(primary: Option<u64>, backup: Option<u64>, joining: Option<u64>) -> ServingNodes
     ensures { result ≡ undecided_as primary backup joining }
 {
     match (primary, backup, joining) {
-        (Some(node), Some(backup), _) => Serving::Pair { node, backup },
-        (Some(node), None, Some(host)) => Serving::Joining { node, host },
-        (Some(node), None, None) => Serving::Primary { node },
-        (None, Some(node), _) => Serving::Backup { node },
-        (None, None, _) => Serving::Nobody,
+        (Some(node), Some(backup), _) => ServingNodes::Pair { node, backup },
+        (Some(node), None, Some(host)) => ServingNodes::Joining { node, host },
+        (Some(node), None, None) => ServingNodes::Primary { node },
+        (None, Some(node), _) => ServingNodes::Backup { node },
+        (None, None, _) => ServingNodes::Nobody,
     }
 }
 

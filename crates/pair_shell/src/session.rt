@@ -8,23 +8,23 @@ use crate::machine::take_line;
 use crate::notes::Notes;
 use altair_pair::Altairs;
 use event_callbacks::Completes;
-use shell_language::{Mistake, Opening, Outcome, Printed, ShellLine, read_line, refuse};
+use shell_language::{LineOutcome, Mistake, Printed, SessionSetup, ShellLine, read_line, refuse};
 use std::alloc::{AllocError, Global};
 
 /// The shell with its pair.
 #[derive(Drop)]
-pub struct Session<T: Completes + Drop, S: Completes + Drop, W: Completes + Drop> {
-    opening: Opening,
+pub struct ShellSession<T: Completes + Drop, S: Completes + Drop, W: Completes + Drop> {
+    opening: SessionSetup,
     world: Option<Altairs<T, S, W>>,
     notes: Notes,
     is_traced: bool,
 }
 
-impl<T: Completes + Drop + Copy, S: Completes + Drop + Copy, W: Completes + Drop + Copy> Session<
-    T,
-    S,
-    W,
-> {
+impl<
+    T: Completes + Drop + Copy,
+    S: Completes + Drop + Copy,
+    W: Completes + Drop + Copy,
+> ShellSession<T, S, W> {
     ghost use Rattle.std.specs.Prelude.{◌≡◌, [], true, false, IfOk, None, Some, string_bytes};
     ghost use Rattle.shell_language.specs.Saying.{said};
     ghost use Rattle.shell_language.specs.Openings.{IsDefault, IsSame, SetsUp, SetsUpSaid};
@@ -32,7 +32,7 @@ impl<T: Completes + Drop + Copy, S: Completes + Drop + Copy, W: Completes + Drop
     ghost use Rattle.pair_shell.specs.Looking.{IsLooked, IsSeenSaid};
     ghost use Rattle.shell_language.specs.Outcomes.{is_ended};
     ghost use Rattle.shell_language.specs.Tapes.{Begins, trace_text};
-    ghost use Rattle.shell_language.specs.declared.outcome.Outcome.TheVariants as outcome;
+    ghost use Rattle.shell_language.specs.declared.outcome.LineOutcome.TheVariants as outcome;
     ghost use Rattle.std.specs.Prelude.{is_some};
     ghost use Rattle.pair_shell.specs.Sessions.{BootsBy, is_setup};
 
@@ -42,8 +42,8 @@ impl<T: Completes + Drop + Copy, S: Completes + Drop + Copy, W: Completes + Drop
         ensures none { IfOk result (λ session. session.world ≡ None) }
         ensures untraced { IfOk result (λ session. session.is_traced ≡ false) }
     {
-        Ok(Session {
-            opening: Opening::new(alloc)?,
+        Ok(ShellSession {
+            opening: SessionSetup::new(alloc)?,
             world: None,
             notes: Notes::new(alloc),
             is_traced: false,
@@ -61,7 +61,7 @@ impl<T: Completes + Drop + Copy, S: Completes + Drop + Copy, W: Completes + Drop
         sector: S,
         written: W,
         text: &[u8],
-    ) -> Result<(Outcome, String), AllocError>
+    ) -> Result<(LineOutcome, String), AllocError>
         requires sent { Keeps (T.may sent) (T.gives sent) SENT }
         requires sector { Keeps (S.may sector) (S.gives sector) SECTOR }
         requires written { Keeps (W.may written) (W.gives written) WRITTEN }
@@ -130,7 +130,7 @@ impl<T: Completes + Drop + Copy, S: Completes + Drop + Copy, W: Completes + Drop
         text: &[u8],
         line: ShellLine<'_>,
         printed: &mut Printed,
-    ) -> Result<Outcome, AllocError>
+    ) -> Result<LineOutcome, AllocError>
         requires sent { Keeps (T.may sent) (T.gives sent) SENT }
         requires sector { Keeps (S.may sector) (S.gives sector) SECTOR }
         requires written { Keeps (W.may written) (W.gives written) WRITTEN }
@@ -156,14 +156,14 @@ impl<T: Completes + Drop + Copy, S: Completes + Drop + Copy, W: Completes + Drop
             → IfOk result (λ told. told ≡ outcome.Refused) }
     {
         match line {
-            ShellLine::Empty => Ok(Outcome::Done),
+            ShellLine::Empty => Ok(LineOutcome::Done),
             ShellLine::Trace(is_traced) => {
                 self.is_traced = is_traced;
-                Ok(Outcome::Done)
+                Ok(LineOutcome::Done)
             }
             ShellLine::Help => list_forms(printed),
             ShellLine::Refusals => list_refusals(printed),
-            ShellLine::Quit => Ok(Outcome::Ended),
+            ShellLine::Quit => Ok(LineOutcome::Ended),
             ShellLine::Setup { .. } | ShellLine::SetSector { .. } | ShellLine::Load(_) => {
                 self.take_setup(alloc, text, line, printed)
             }
@@ -179,7 +179,7 @@ impl<T: Completes + Drop + Copy, S: Completes + Drop + Copy, W: Completes + Drop
         text: &[u8],
         line: ShellLine<'_>,
         printed: &mut Printed,
-    ) -> Result<Outcome, AllocError>
+    ) -> Result<LineOutcome, AllocError>
         ensures set { IfOk result (λ told. told ≡ outcome.Done
             → SetsUp line.entry self.old.opening self.new.opening) }
         ensures refused { IfOk result (λ told. told ≡ outcome.Refused → IsSame self.old.opening self.new.opening) }
@@ -207,7 +207,7 @@ impl<T: Completes + Drop + Copy, S: Completes + Drop + Copy, W: Completes + Drop
         written: W,
         line: ShellLine<'_>,
         printed: &mut Printed,
-    ) -> Result<Outcome, AllocError>
+    ) -> Result<LineOutcome, AllocError>
         requires sent { Keeps (T.may sent) (T.gives sent) SENT }
         requires sector { Keeps (S.may sector) (S.gives sector) SECTOR }
         requires written { Keeps (W.may written) (W.gives written) WRITTEN }
@@ -231,7 +231,7 @@ impl<T: Completes + Drop + Copy, S: Completes + Drop + Copy, W: Completes + Drop
     {
         if let Some(world) = &mut self.world {
             take_line(alloc, &mut self.notes, &self.opening, world, line, printed)?;
-            return Ok(Outcome::Done);
+            return Ok(LineOutcome::Done);
         }
         self.take_first(alloc, sent, sector, written, line, printed)
     }
@@ -246,7 +246,7 @@ impl<T: Completes + Drop + Copy, S: Completes + Drop + Copy, W: Completes + Drop
         written: W,
         line: ShellLine<'_>,
         printed: &mut Printed,
-    ) -> Result<Outcome, AllocError>
+    ) -> Result<LineOutcome, AllocError>
         requires sent { Keeps (T.may sent) (T.gives sent) SENT }
         requires sector { Keeps (S.may sector) (S.gives sector) SECTOR }
         requires written { Keeps (W.may written) (W.gives written) WRITTEN }
@@ -283,7 +283,7 @@ impl<T: Completes + Drop + Copy, S: Completes + Drop + Copy, W: Completes + Drop
         mut world: Altairs<T, S, W>,
         line: ShellLine<'_>,
         printed: &mut Printed,
-    ) -> Result<Outcome, AllocError>
+    ) -> Result<LineOutcome, AllocError>
         requires empty { self.old.notes.tape.items ≡ [] }
         requires blank { string_bytes printed.old.text ≡ [] }
         requires none { self.old.world ≡ None }
@@ -310,6 +310,6 @@ impl<T: Completes + Drop + Copy, S: Completes + Drop + Copy, W: Completes + Drop
         );
         self.world = Some(world);
         taken?;
-        Ok(Outcome::Done)
+        Ok(LineOutcome::Done)
     }
 }

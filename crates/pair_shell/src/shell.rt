@@ -9,10 +9,10 @@ ghost use Rattle.pair_shell.specs.Hearing.{Answers, Hears};
 ghost use Rattle.shell_language.specs.Outcomes.{is_ended};
 ghost use Rattle.command_io.specs.declared.failure.Failure.TheVariants as failure;
 
-use crate::session::Session;
+use crate::session::ShellSession;
 use command_io::Failure;
 use event_callbacks::Completes;
-use shell_language::{LINE_BYTES, Outcome, ShellLine, read_line};
+use shell_language::{LINE_BYTES, LineOutcome, ShellLine, read_line};
 use std::alloc::Global;
 use std::io::{ErrorKind, Read, Write};
 
@@ -43,7 +43,7 @@ pub fn run_shell<
     requires written { Keeps (W.may written) (W.gives written) WRITTEN }
     ensures { Hears (R.remaining reader.old) result (O.contents writer.old) (O.contents writer.new) }
 {
-    let mut session = Session::new(alloc)?;
+    let mut session = ShellSession::new(alloc)?;
     hear(alloc, &mut session, reader, writer, sent, sector, written)
 }
 
@@ -57,7 +57,7 @@ fn hear<
     O: Write + Drop,
 >(
     alloc: Global,
-    session: &mut Session<T, S, W>,
+    session: &mut ShellSession<T, S, W>,
     reader: &mut R,
     writer: &mut O,
     sent: T,
@@ -88,10 +88,10 @@ fn hear<
 }
 
 // Whether the session has ended with a line.
-fn has_ended(outcome: Outcome) -> bool
+fn has_ended(outcome: LineOutcome) -> bool
     ensures { result ≡ is_ended outcome }
 {
-    matches!(outcome, Outcome::Ended)
+    matches!(outcome, LineOutcome::Ended)
 }
 
 // Reads once. None at the reader's end; no bytes if the read was interrupted.
@@ -123,14 +123,14 @@ fn take_block<
     O: Write + Drop,
 >(
     alloc: Global,
-    session: &mut Session<T, S, W>,
+    session: &mut ShellSession<T, S, W>,
     line: &mut Vec<u8>,
     block: &[u8],
     writer: &mut O,
     sent: T,
     sector: S,
     written: W,
-) -> Result<Outcome, Failure>
+) -> Result<LineOutcome, Failure>
     requires sent { Keeps (T.may sent) (T.gives sent) SENT }
     requires sector { Keeps (S.may sector) (S.gives sector) SECTOR }
     requires written { Keeps (W.may written) (W.gives written) WRITTEN }
@@ -146,11 +146,11 @@ fn take_block<
     'bytes: while let Some((byte, after)) = rest.split_first() {
         let outcome = take_byte(alloc, session, line, *byte, writer, sent, sector, written)?;
         if has_ended(outcome) {
-            return Ok(Outcome::Ended);
+            return Ok(LineOutcome::Ended);
         }
         rest = after;
     }
-    Ok(Outcome::Done)
+    Ok(LineOutcome::Done)
 }
 
 // Keeps a byte of a line, or answers the line that it ends.
@@ -162,14 +162,14 @@ fn take_byte<
     O: Write + Drop,
 >(
     alloc: Global,
-    session: &mut Session<T, S, W>,
+    session: &mut ShellSession<T, S, W>,
     line: &mut Vec<u8>,
     byte: u8,
     writer: &mut O,
     sent: T,
     sector: S,
     written: W,
-) -> Result<Outcome, Failure>
+) -> Result<LineOutcome, Failure>
     requires sent { Keeps (T.may sent) (T.gives sent) SENT }
     requires sector { Keeps (S.may sector) (S.gives sector) SECTOR }
     requires written { Keeps (W.may written) (W.gives written) WRITTEN }
@@ -190,7 +190,7 @@ fn take_byte<
 }
 
 // Keeps a byte that ends no line.
-fn keep(line: &mut Vec<u8>, byte: u8) -> Result<Outcome, Failure>
+fn keep(line: &mut Vec<u8>, byte: u8) -> Result<LineOutcome, Failure>
     ensures goes_on { IfOk result (λ told. is_ended told ≡ false) }
     ensures kept { IfOk result (λ _. line.new.items ≡ kept_with line.old.items byte) }
     ensures full { IfErr result (λ e. e ≡ failure.OutOfMemory) }
@@ -198,7 +198,7 @@ fn keep(line: &mut Vec<u8>, byte: u8) -> Result<Outcome, Failure>
     if line.len() < KEPT_BYTES {
         line.push(byte)?;
     }
-    Ok(Outcome::Done)
+    Ok(LineOutcome::Done)
 }
 
 // Answers what is left at the reader's end, if it is a line.
@@ -210,7 +210,7 @@ fn answer_last<
     O: Write + Drop,
 >(
     alloc: Global,
-    session: &mut Session<T, S, W>,
+    session: &mut ShellSession<T, S, W>,
     line: &[u8],
     writer: &mut O,
     sent: T,
@@ -242,13 +242,13 @@ fn answer<
     O: Write + Drop,
 >(
     alloc: Global,
-    session: &mut Session<T, S, W>,
+    session: &mut ShellSession<T, S, W>,
     line: &[u8],
     writer: &mut O,
     sent: T,
     sector: S,
     written: W,
-) -> Result<Outcome, Failure>
+) -> Result<LineOutcome, Failure>
     requires sent { Keeps (T.may sent) (T.gives sent) SENT }
     requires sector { Keeps (S.may sector) (S.gives sector) SECTOR }
     requires written { Keeps (W.may written) (W.gives written) WRITTEN }
@@ -276,13 +276,13 @@ fn begin<
     O: Write + Drop,
 >(
     alloc: Global,
-    session: &mut Session<T, S, W>,
+    session: &mut ShellSession<T, S, W>,
     line: &[u8],
     writer: &mut O,
     sent: T,
     sector: S,
     written: W,
-) -> Result<Outcome, Failure>
+) -> Result<LineOutcome, Failure>
     requires sent { Keeps (T.may sent) (T.gives sent) SENT }
     requires sector { Keeps (S.may sector) (S.gives sector) SECTOR }
     requires written { Keeps (W.may written) (W.gives written) WRITTEN }
@@ -305,7 +305,12 @@ fn go_on<
     S: Completes + Drop + Copy,
     W: Completes + Drop + Copy,
     O: Write + Drop,
->(alloc: Global, session: &mut Session<T, S, W>, line: &[u8], writer: &mut O) -> Result<(), Failure>
+>(
+    alloc: Global,
+    session: &mut ShellSession<T, S, W>,
+    line: &[u8],
+    writer: &mut O,
+) -> Result<(), Failure>
     requires { is_run_line line.now ≡ true }
     ensures written { Answers result (O.contents writer.old) (O.contents writer.new) }
     ensures further { IfOk result (λ _. AnswersFurther (λ d. d.board.guest) line.now

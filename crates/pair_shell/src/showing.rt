@@ -10,7 +10,7 @@ use ft_world::World;
 use guest_lockstep::Timed;
 use script_language::Query;
 use shared_disk::Disk;
-use shell_language::{Opening, Printed};
+use shell_language::{Printed, SessionSetup};
 use shell_picture::{print_refusal, print_sector};
 use std::alloc::{AllocError, Global};
 
@@ -42,7 +42,7 @@ pub fn show_sector<B: Copies<H> + Drop, H: Drop>(
 /// Compares what is settled with the single machine.
 pub fn check<B: Copies<H> + Drop, H: Drop>(
     alloc: Global,
-    opening: &Opening,
+    opening: &SessionSetup,
     world: &mut World<B, Disk, H>,
     printed: &mut Printed,
 ) -> Result<(), AllocError>

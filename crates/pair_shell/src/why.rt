@@ -5,7 +5,7 @@ ghost use Rattle.pair_shell.specs.Waits.{held_for, name_text, next_rows, serving
 ghost use Rattle.shell_language.specs.Texts.{AddsSome, Prints, Text};
 
 use crate::asked::parts_of;
-use crate::{Plan, Serving, Stage, outstanding, stage_of, who_serves};
+use crate::{OperationStage, RestPlan, ServingNodes, outstanding, stage_of, who_serves};
 use board_image::OutstandingWrites;
 use clone_state::Copies;
 use event_callbacks::OpId;
@@ -13,7 +13,7 @@ use ft_node::Standing;
 use ft_world::{Message, World};
 use pair_events::Event;
 use shared_disk::Disk;
-use shell_language::{Book, Brings, Opening, Printed, Spelled};
+use shell_language::{Book, Brings, Printed, SessionSetup, Spelled};
 use std::alloc::{AllocError, Global};
 use std::fmt;
 
@@ -83,13 +83,13 @@ fn words_of(wait: Wait) -> &'static str
 /// What is outstanding in a pair, what it waits for, and what would bring it on; nothing happens.
 pub(crate) fn print_why<B: Copies<H> + OutstandingWrites + Drop, H: Drop>(
     alloc: Global,
-    opening: &Opening,
+    opening: &SessionSetup,
     world: &World<B, Disk, H>,
     book: &Book,
     printed: &mut Printed,
 ) -> Result<(), AllocError> {
     let hosts = u64::from(opening.setup.hosts);
-    let plan = Plan::new(hosts, parts_of(opening.setup.guest.drives));
+    let plan = RestPlan::new(hosts, parts_of(opening.setup.guest.drives));
     let serving = who_serves(world, hosts);
     print_serving(serving, printed)?;
     let Some(node) = serving.node() else {
@@ -102,25 +102,25 @@ pub(crate) fn print_why<B: Copies<H> + OutstandingWrites + Drop, H: Drop>(
 
 // Which nodes may serve.
 #[tactic(auto, using(shell_language::proofs::Adding::prints_text))]
-fn print_serving(serving: Serving, printed: &mut Printed) -> Result<(), AllocError>
+fn print_serving(serving: ServingNodes, printed: &mut Printed) -> Result<(), AllocError>
     ensures { IfOk result (λ _. Prints (Text (serving_text serving) ∷ []) printed.old printed.new) }
 {
     match serving {
-        Serving::Nobody => printed.line(&"no node may serve")?,
-        Serving::Primary { node } => {
+        ServingNodes::Nobody => printed.line(&"no node may serve")?,
+        ServingNodes::Primary { node } => {
             printed.line(&format_args!("node {node} is a primary without a backup"))?
         }
-        Serving::Backup { node } => {
+        ServingNodes::Backup { node } => {
             printed.line(&format_args!("node {node} is a backup without a primary"))?
         }
-        Serving::Draining { node } => {
+        ServingNodes::Draining { node } => {
             printed.line(&format_args!("node {node} has won, and repeats what it holds"))?
         }
-        Serving::Alone { node } => printed.line(&format_args!("node {node} is alone"))?,
-        Serving::Joining { node, host } => {
+        ServingNodes::Alone { node } => printed.line(&format_args!("node {node} is alone"))?,
+        ServingNodes::Joining { node, host } => {
             printed.line(&format_args!("node {node} is a primary, and host {host} joins it"))?
         }
-        Serving::Pair { node, backup } => {
+        ServingNodes::Pair { node, backup } => {
             printed.line(&format_args!("node {node} is a primary, and node {backup} its backup"))?
         }
     }
@@ -155,7 +155,7 @@ fn print_operations<B: Copies<H> + OutstandingWrites + Drop, H: Drop>(
     alloc: Global,
     world: &World<B, Disk, H>,
     book: &Book,
-    serving: Serving,
+    serving: ServingNodes,
     node: u64,
     printed: &mut Printed,
 ) -> Result<(), AllocError> {
@@ -172,17 +172,17 @@ fn print_operations<B: Copies<H> + OutstandingWrites + Drop, H: Drop>(
 fn waiting_of<B: Copies<H> + OutstandingWrites + Drop, H: Drop>(
     world: &World<B, Disk, H>,
     book: &Book,
-    serving: Serving,
+    serving: ServingNodes,
     node: u64,
     id: OpId,
 ) -> Waiting {
     match (stage_of(world, node, id), id) {
-        (Stage::Held, _) => Waiting {
+        (OperationStage::Held, _) => Waiting {
             id,
             wait: held(serving, world.standing(node)),
             event: None,
         },
-        (Stage::Accepted, OpId::Byte(port, number)) => Waiting {
+        (OperationStage::Accepted, OpId::Byte(port, number)) => Waiting {
             id,
             wait: Wait::Hearing,
             event: Some(Event::TellSent { node, port, number }),
@@ -193,11 +193,11 @@ fn waiting_of<B: Copies<H> + OutstandingWrites + Drop, H: Drop>(
 
 // What an operation waits for that is held. The primary of a pair that has an acknowledgement of all that it logged waits for a report;
 // a node without a peer releases nothing until it is live.
-fn held(serving: Serving, standing: Option<Standing>) -> Wait
+fn held(serving: ServingNodes, standing: Option<Standing>) -> Wait
     ensures { result ≡ held_for serving standing }
 {
     match serving {
-        Serving::Pair { .. } | Serving::Joining { .. } => match standing {
+        ServingNodes::Pair { .. } | ServingNodes::Joining { .. } => match standing {
             Some(Standing { entries, done }) if entries <= done => Wait::Report,
             _ => Wait::Acknowledgement,
         },

@@ -11,7 +11,7 @@ use Rattle.replayer.specs.Following.{Follows, Ran, Reaches}
 use Rattle.replayer.specs.declared.following.Followed.{Followed}
 use Rattle.replayer.specs.declared.following.Followed.TheVariants.{Differs, Stepped}
 use Rattle.replayer.proofs.FollowedEntries.{following_is_recording}
-use Rattle.pair_threads.specs.declared.plan.Plan.{Plan}
+use Rattle.pair_threads.specs.declared.plan.Briefing.{Briefing}
 use Rattle.pair_threads.specs.declared.repeater.Repeater.{Repeater}
 
 pub at_first : {S : Type 0} (M : Machine S) (boot : S) → Repeats M boot [] 0 boot
@@ -87,13 +87,13 @@ module _ {B S : Type 0} (state : B → S) (M : Machine S) (first old new : Backu
   -- its seat is as it was
   pub still_asked : new.seat ≡ old.seat → HasAsked new.plan.contests_at new.seat.core.known.backup.winner
   still_asked seat =
-      subst (λ (p : Plan). HasAsked p.contests_at new.seat.core.known.backup.winner) (sym same)
+      subst (λ (p : Briefing). HasAsked p.contests_at new.seat.core.known.backup.winner) (sym same)
       (subst (λ (s : Seat). HasAsked old.plan.contests_at s.core.known.backup.winner) (sym seat) came.1)
 
   -- it asks at its turn
   pub asks_now : (number : ℕ) → old.plan.contests_at ≡ Some number
       → HasAsked new.plan.contests_at new.seat.core.known.backup.winner
-  asks_now number at = inr (subst IsSome (sym (ap (λ (p : Plan). p.contests_at) same ∙ at)) refl)
+  asks_now number at = inr (subst IsSome (sym (ap (λ (p : Briefing). p.contests_at) same ∙ at)) refl)
 
 -- a guest that is as it was goes on
 pub goes_same : {B S : Type 0} (state : B → S) (M : Machine S) (old new : Repeater B) → new ≡ old → GoesOn state M old new

@@ -10,7 +10,7 @@ use Rattle.pair_rule.specs.declared.payload.Payload.TheVariants.{Out, Request, A
 use Rattle.pair_rule.specs.Boxes.{port_box}
 use Rattle.pair_rule.specs.Knowledge as knowledge
 use Rattle.pair_threads.specs.Primary.{MayAsk}
-use Rattle.pair_threads.specs.declared.plan.Plan.{Plan}
+use Rattle.pair_threads.specs.declared.plan.Briefing.{Briefing}
 use Rattle.pair_threads.proofs.KeptCalls.{append_kept, release_kept}
 use Rattle.pair_threads.proofs.Leading as moving
 
@@ -303,7 +303,7 @@ came_on state M first old new came works = (
   works.2 ∙ came.0,
   works.3 ∙ came.1,
   works.4 ∙ came.2,
-  subst (λ (p : Plan). HasAsked p.contests_at new.seat.core.known.primary.winner) (sym works.2)
+  subst (λ (p : Briefing). HasAsked p.contests_at new.seat.core.known.primary.winner) (sym works.2)
       (subst (HasAsked old.plan.contests_at) (sym works.1) came.3),
   λ boot leads. works.5 boot (came.4 boot leads),
   λ boot leads kept. works.6 boot (came.4 boot leads) (came.5 boot leads kept),

@@ -6,13 +6,13 @@ use Rattle.pair_rule.specs.declared.payload.Packet.{Packet}
 use Rattle.pair_rule.specs.declared.payload.Payload.TheVariants.{Log}
 use Rattle.pair_rule.specs.declared.view.Core.{Core}
 use Rattle.pair_rule.specs.Seats.{Empties}
-use Rattle.pair_threads.specs.declared.backup.Chore.{Chore}
-use Rattle.pair_threads.specs.declared.backup.Chore.TheVariants.{Take, Hold, Replay}
+use Rattle.pair_threads.specs.declared.backup.BackupChore.{BackupChore}
+use Rattle.pair_threads.specs.declared.backup.BackupChore.TheVariants.{Take, Hold, Replay}
 use Rattle.pair_threads.specs.declared.worker.Turn.{Turn}
 use Rattle.pair_threads.specs.declared.worker.Turn.TheVariants.{Moved, Looks, Waits, Ends}
 
 -- it takes, acknowledges and repeats, in rotation
-abbrev pub next_chore : Chore → Chore
+abbrev pub next_chore : BackupChore → BackupChore
 next_chore Take = Hold
 next_chore Hold = Replay
 next_chore Replay = Take
@@ -41,7 +41,7 @@ IsLook false old new all turn = TakesPacket old new all turn
 
 -- a turn by its chore, by whether its guest was too far behind, by what was found in the box, and by whether its guest has then
 -- repeated all
-abbrev pub IsTurnOf : Chore → Bool → Core → Core → Bool → Turn → Type 0
+abbrev pub IsTurnOf : BackupChore → Bool → Core → Core → Bool → Turn → Type 0
 IsTurnOf Take far old new all turn = IsLook far old new all turn
 IsTurnOf Hold far old new all turn = turn ≡ turn_of_nothing false all
 IsTurnOf Replay far old new all turn = turn ≡ turn_of_nothing false all

@@ -4,9 +4,9 @@ ghost use Rattle.pair_threads.specs.BackupTurns.{IsTurnOf, LooksSoon, TakesPacke
 ghost use Rattle.pair_threads.specs.Ending.{IsEnding};
 ghost use Rattle.pair_threads.specs.Repeating.{FollowsFor, GoesOn, IsAt, has_all, is_far_behind};
 ghost use Rattle.pair_threads.specs.Turns.{Leaves};
-ghost use Rattle.pair_threads.specs.declared.backup.Chore.TheVariants as task;
+ghost use Rattle.pair_threads.specs.declared.backup.BackupChore.TheVariants as task;
 
-use crate::plan::Plan;
+use crate::plan::Briefing;
 use crate::repeater::Repeater;
 use crate::signals::Told;
 use crate::worker::{Turn, Worker};
@@ -21,21 +21,21 @@ const STEPS: u64 = 1_000;
 
 // What the next turn does.
 #[derive(Clone, Copy, PartialEq, Eq)]
-enum Chore {
+enum BackupChore {
     Take,
     Hold,
     Replay,
 }
 
-impl Chore {
+impl BackupChore {
     // The chore after this one in the rotation.
-    fn next(self) -> Chore
+    fn next(self) -> BackupChore
         ensures { result ≡ next_chore self }
     {
         match self {
-            Chore::Take => Chore::Hold,
-            Chore::Hold => Chore::Replay,
-            Chore::Replay => Chore::Take,
+            BackupChore::Take => BackupChore::Hold,
+            BackupChore::Hold => BackupChore::Replay,
+            BackupChore::Replay => BackupChore::Take,
         }
     }
 }
@@ -47,17 +47,17 @@ pub(crate) struct BackupWorker<B> {
     pub(crate) guest: Repeater<B>,
     held: u64,
     won: bool,
-    chore: Chore,
+    chore: BackupChore,
     // How many steps its guest makes at most before the next look.
     stride: u64,
-    plan: Plan,
+    plan: Briefing,
     ghost same: { guest.list.items ≡ seat.core.known.backup.list },
     ghost strides: { 1000 ≤ stride },
 }
 
 impl<B: Lockstep> BackupWorker<B> {
     /// A backup that has taken nothing yet.
-    pub(crate) fn new(alloc: Global, seat: BackupSeat, board: B, plan: Plan) -> BackupWorker<B>
+    pub(crate) fn new(alloc: Global, seat: BackupSeat, board: B, plan: Briefing) -> BackupWorker<B>
         requires { seat.core.known.backup.list ≡ [] }
         ensures seat { result.seat ≡ seat }
         ensures board { result.guest.board ≡ board }
@@ -69,7 +69,7 @@ impl<B: Lockstep> BackupWorker<B> {
             guest: Repeater::new(alloc, board),
             held: 0,
             won: false,
-            chore: Chore::Take,
+            chore: BackupChore::Take,
             stride: STEPS,
             plan,
         }
@@ -205,13 +205,13 @@ impl<B: Lockstep> BackupWorker<B> {
         let chore = self.chore;
         self.chore = chore.next();
         match chore {
-            Chore::Take if self.guest.is_far_behind() => Ok(Turn::Looks),
-            Chore::Take => self.take(fabric),
-            Chore::Hold => {
+            BackupChore::Take if self.guest.is_far_behind() => Ok(Turn::Looks),
+            BackupChore::Take => self.take(fabric),
+            BackupChore::Hold => {
                 self.hold(fabric);
                 Ok(self.pace(false))
             }
-            Chore::Replay => self.repeat(),
+            BackupChore::Replay => self.repeat(),
         }
     }
 }

@@ -21,7 +21,7 @@ pub(crate) struct Five<P, L, B, T, D> {
 }
 
 /// A worker after its turns, and its result.
-pub(crate) type Served<W> = (W, R<()>);
+pub(crate) type WorkerEnd<W> = (W, R<()>);
 
 // Runs two workers, each on its own thread.
 fn serve_both<
@@ -40,7 +40,7 @@ fn serve_both<
     signals: &Signals,
     turns: u64,
     contested: bool,
-) -> (Served<P>, Served<Q>)
+) -> (WorkerEnd<P>, WorkerEnd<Q>)
     requires first { MayBegin P.table P.ready P.came fabric.now first }
     requires second { MayBegin Q.table Q.ready Q.came fabric.now second }
     ensures first { HasServed P.table P.came P.ended fabric.now first result.0 }
@@ -84,7 +84,7 @@ pub(crate) fn work<
     gate: &G,
     turns: u64,
     contested: bool,
-) -> Five<Served<P>, Served<L>, Served<B>, Served<T>, Served<D>>
+) -> Five<WorkerEnd<P>, WorkerEnd<L>, WorkerEnd<B>, WorkerEnd<T>, WorkerEnd<D>>
     requires primary { MayBegin P.table P.ready P.came fabric.now five.primary }
     requires link { MayBegin L.table L.ready L.came fabric.now five.link }
     requires backup { MayBegin B.table B.ready B.came fabric.now five.backup }

@@ -3,7 +3,7 @@ ghost use Rattle.std.specs.Prelude.{◌≡◌, ◌↔◌, Some, true, max, IsSom
 
 /// When a worker asks to go on alone, and how far its guest moves in one turn.
 #[derive(Clone, Copy)]
-pub(crate) struct Plan {
+pub(crate) struct Briefing {
     /// The turn at which it asks to go on alone, if it does.
     pub(crate) contests_at: Option<u64>,
     /// Whether it or the other one asks.
@@ -13,14 +13,14 @@ pub(crate) struct Plan {
     ghost told: { IsSome contests_at → contested ≡ true },
 }
 
-impl Plan {
+impl Briefing {
     /// A plan; `contested` says whether this worker or the other one asks.
-    pub(crate) fn new(contests_at: Option<u64>, contested: bool, steps: u64) -> Plan
+    pub(crate) fn new(contests_at: Option<u64>, contested: bool, steps: u64) -> Briefing
         requires told { IsSome contests_at → contested ≡ true }
         ensures asks { (result.contests_at ≡ contests_at) × (result.contested ≡ contested) }
         ensures steps { result.steps ≡ max steps 1 }
     {
-        Plan {
+        Briefing {
             contests_at,
             contested,
             steps: steps.max(1),

@@ -8,7 +8,7 @@ mod requests;
 mod turns;
 
 use crate::chore::Chore;
-use crate::plan::Plan;
+use crate::plan::Briefing;
 use crate::port_inputs::PortInputs;
 use crate::recording::Recording;
 use log_entry::Entry;
@@ -50,7 +50,7 @@ pub(crate) struct PrimaryWorker<B> {
     fruitless: u8,
     // Whether its guest was held up after its last run.
     held_up: bool,
-    plan: Plan,
+    plan: Briefing,
     ghost same: { list.items ≡ seat.core.known.primary.list },
     ghost few: { length list.items ≤ seen + 256 },
     ghost saw: { seen ≡ seat.core.known.primary.seen },

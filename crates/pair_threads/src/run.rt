@@ -18,9 +18,9 @@ ghost use Rattle.shared_disk.specs.declared.store.Record.{Record};
 use crate::backup::BackupWorker;
 use crate::disk::DiskWorker;
 use crate::gate::{Gate, Who};
-use crate::join::{Five, Served, work};
+use crate::join::{Five, WorkerEnd, work};
 use crate::link::LinkWorker;
-use crate::plan::Plan;
+use crate::plan::Briefing;
 use crate::port_inputs::PortInputs;
 use crate::primary::PrimaryWorker;
 use crate::recording::Recording;
@@ -156,11 +156,11 @@ fn take_apart<B: Lockstep + Drop, D: SectorStore>(
 
 // The workers of a generation after their turns.
 pub(crate) type AllServed<B, D> = Five<
-    Served<PrimaryWorker<B>>,
-    Served<LinkWorker>,
-    Served<BackupWorker<B>>,
-    Served<TerminalWorker>,
-    Served<DiskWorker<D>>,
+    WorkerEnd<PrimaryWorker<B>>,
+    WorkerEnd<LinkWorker>,
+    WorkerEnd<BackupWorker<B>>,
+    WorkerEnd<TerminalWorker>,
+    WorkerEnd<DiskWorker<D>>,
 >;
 
 // What workers that are all at their ends leave.
@@ -359,8 +359,8 @@ pub fn run_generation<
         steps,
     } = workers;
     let contested = primary_contests.is_some() || backup_contests.is_some();
-    let lead = Plan::new(primary_contests, contested, steps);
-    let follow = Plan::new(backup_contests, contested, steps);
+    let lead = Briefing::new(primary_contests, contested, steps);
+    let follow = Briefing::new(backup_contests, contested, steps);
     let ports = (PortInputs::new(typed0), PortInputs::new(typed1));
     let five = Five {
         primary: PrimaryWorker::new(alloc, seats.primary, primary, ports, lead),

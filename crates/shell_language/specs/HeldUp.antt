@@ -11,7 +11,7 @@ use Rattle.pair_events.specs.declared.event.Event.TheVariants as event
 use Rattle.pair_events.specs.declared.reply.Reply.{Reply}
 use Rattle.pair_events.specs.declared.reply.Reply.TheVariants as reply
 use Rattle.shell_language.specs.Notes.{next}
-use Rattle.shell_language.specs.declared.book.Waiting.{Waiting}
+use Rattle.shell_language.specs.declared.book.OutstandingOutput.{OutstandingOutput}
 use Rattle.shell_language.specs.declared.held_up.Meeting.{Meeting}
 use Rattle.shell_language.specs.declared.tape.Played.{Played}
 
@@ -68,12 +68,12 @@ abbrev pub meeting_of : Fault → List Played → Meeting
 meeting_of fault tape = met_by fault (record { times = 0; last = None }) tape
 
 -- output waits
-abbrev pub waits : Waiting → Bool
+abbrev pub waits : OutstandingOutput → Bool
 waits waiting = nat_lt 0 waiting.bytes || nat_lt 0 waiting.writes
 
 -- Output is held up if it is not covered and waits. Another refusal holds something up if the last event of some kind was
 -- refused with it; but not that nobody waits for an input, nor that the guest idles, which waits for a key.
-abbrev pub holds_up : Fault → Meeting → Waiting → Bool
+abbrev pub holds_up : Fault → Meeting → OutstandingOutput → Bool
 holds_up NotDue m waiting = false
 holds_up Idle m waiting = false
 holds_up NotCovered m waiting = nat_lt 0 m.times && waits waiting

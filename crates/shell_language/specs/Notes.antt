@@ -6,7 +6,7 @@ use Rattle.guest_lockstep.specs.declared.timed.Bare.TheVariants.{Rx, Sent, Secto
 use Rattle.guest_lockstep.specs.declared.timed.Timed.{Timed}
 use Rattle.shell_language.specs.declared.book.Book.{Book}
 use Rattle.shell_language.specs.declared.book.PortNotes.{PortNotes}
-use Rattle.shell_language.specs.declared.book.Waiting.{Waiting}
+use Rattle.shell_language.specs.declared.book.OutstandingOutput.{OutstandingOutput}
 
 -- nothing has come of a port yet
 abbrev pub blank : PortNotes
@@ -55,7 +55,7 @@ pub record IsBlank (book : Book) : Type 0 where
 abbrev pub bytes_out : PortNotes → ℕ
 bytes_out notes = notes.sent - notes.accepted
 
-abbrev pub waiting_in : Book → Waiting
+abbrev pub waiting_in : Book → OutstandingOutput
 waiting_in book = record {
   bytes = min (bytes_out (notes_of book.ports 0) + bytes_out (notes_of book.ports 1)) (2 ^ 64 - 1);
   writes = vec_len book.undone;

@@ -9,15 +9,15 @@ use Rattle.shell_language.specs.Mistakes.{Flaw}
 use Rattle.shell_language.specs.Mistakes.Flaw.{Blank, Detached}
 use Rattle.shell_language.specs.declared.line.ShellLine.{ShellLine}
 use Rattle.shell_language.specs.declared.line.ShellLine.TheVariants as shell
-use Rattle.shell_language.specs.declared.opening.Opening.{Opening}
+use Rattle.shell_language.specs.declared.opening.SessionSetup.{SessionSetup}
 
 -- the setup before the first line: what a script boots that has no setup line
-pub record IsDefault (opening : Opening) : Type 0 where
+pub record IsDefault (opening : SessionSetup) : Type 0 where
   pub boot : boot_of opening.setup ≡ default_boot
   pub sectors : opening.sectors.items ≡ []
 
 -- the machines boot in the same way, from the same sectors
-pub record IsSame (old new : Opening) : Type 0 where
+pub record IsSame (old new : SessionSetup) : Type 0 where
   pub boot : boot_of new.setup ≡ boot_of old.setup
   pub sectors : new.sectors.items ≡ old.sectors.items
 
@@ -41,12 +41,12 @@ sector_of place bytes = record {
 }
 
 -- a line of the setup other than a sector: what it changes in a script
-pub record IsSet (boots : Option Boot) (old new : Opening) : Type 0 where
+pub record IsSet (boots : Option Boot) (old new : SessionSetup) : Type 0 where
   pub boot : Some (boot_of new.setup) ≡ boots
   pub sectors : new.sectors.items ≡ old.sectors.items
 
 -- one more sector
-pub record HasSector (place : SectorAddress) (words : List (List ℕ)) (old new : Opening) : Type 0 where
+pub record HasSector (place : SectorAddress) (words : List (List ℕ)) (old new : SessionSetup) : Type 0 where
   pub boot : boot_of new.setup ≡ boot_of old.setup
   pub bytes : List ℕ
   pub are : bytes_of words ≡ Some bytes
@@ -54,20 +54,20 @@ pub record HasSector (place : SectorAddress) (words : List (List ℕ)) (old new 
 
 -- What a line changes in the setup. A record of Intel HEX puts its bytes into memory; lines that are not of the setup
 -- change nothing of it.
-abbrev pub SetsUp : ShellLine → Opening → Opening → Type 0
+abbrev pub SetsUp : ShellLine → SessionSetup → SessionSetup → Type 0
 SetsUp (shell.Setup word words) old new = IsSet (boot_after word 1 words (boot_of old.setup)) old new
 SetsUp (shell.SetSector place words) old new = HasSector place words old new
 SetsUp (shell.Load loaded) old new = IsSet (Some (memory_from loaded.address loaded.bytes 1 (boot_of old.setup))) old new
 SetsUp _ old new = IsSame old new
 
 -- a line of the setup that it does not take: its words are none of those that may come there
-abbrev pub CannotSet : ShellLine → Opening → Type 0
+abbrev pub CannotSet : ShellLine → SessionSetup → Type 0
 CannotSet (shell.Setup word words) old = boot_after word 1 words (boot_of old.setup) ≡ None
 CannotSet (shell.SetSector place words) old = bytes_of words ≡ None
 CannotSet _ old = ⊥
 
 -- the same of a text that says some line
-abbrev pub SetsUpSaid : Option ShellLine → Opening → Opening → Type 0
+abbrev pub SetsUpSaid : Option ShellLine → SessionSetup → SessionSetup → Type 0
 SetsUpSaid (Some line) old new = SetsUp line old new
 SetsUpSaid None old new = Unit {0}
 

@@ -50,7 +50,7 @@ const BLANK: PortNotes = PortNotes {
 
 /// Output that the guest has given and that is still out.
 #[derive(Clone, Copy)]
-pub struct Waiting {
+pub struct OutstandingOutput {
     pub bytes: u64,
     pub writes: u64,
 }
@@ -134,12 +134,12 @@ impl Book {
     }
 
     /// The bytes that no terminal has accepted, and the writes that the guest has not heard of.
-    pub fn waiting(&self) -> Waiting
+    pub fn waiting(&self) -> OutstandingOutput
         ensures { result ≡ waiting_in self.now }
     {
         let first = bytes_out(self.port(0));
         let second = bytes_out(self.port(1));
-        Waiting {
+        OutstandingOutput {
             bytes: first.saturating_add(second),
             writes: self.undone.len() as u64,
         }

@@ -3,7 +3,7 @@ ghost use Rattle.std.specs.Prelude.{◌≡◌, ◌==◌, bytes_eq};
 ghost use Rattle.i8080_words.specs.Refusals.{number_of};
 ghost use Rattle.shell_language.specs.HeldUp.{fault_in, holds_up, is_met, kept, meeting_of, met, waits, word_of, word_after};
 
-use crate::book::Waiting;
+use crate::book::OutstandingOutput;
 use crate::tape::Played;
 use guest_lockstep::{ReplayEnd, StopReason};
 use i8080_words::{Fault, R};
@@ -99,7 +99,7 @@ fn kept(last: Option<Event>, event: Event) -> Option<Event>
 /// Whether a refusal holds something up, of which the events of a line met so much: output, if it is not covered and waits;
 /// otherwise what an event of some kind would have done, if the last one of that kind was refused. That nobody waits for an
 /// input holds nothing up, and a guest that idles waits for a key.
-pub fn holds_up(fault: Fault, meeting: Meeting, waiting: Waiting) -> bool
+pub fn holds_up(fault: Fault, meeting: Meeting, waiting: OutstandingOutput) -> bool
     ensures { result ≡ holds_up fault meeting waiting }
 {
     match fault {

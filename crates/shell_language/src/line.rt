@@ -1,6 +1,6 @@
 //! What the lines of the shell say.
 
-use crate::loading::Record;
+use crate::loading::HexRecord;
 use crate::look::Look;
 use crate::quoted::Quoted;
 use disk_dcdd::SectorAddress;
@@ -49,7 +49,7 @@ pub enum ShellLine<'a> {
         bytes: Words<'a>,
     },
     /// Bytes that are loaded into memory; none for the last record of a file.
-    Load(Record),
+    Load(HexRecord),
     /// All entries of a node that were not sent yet are sent.
     SendAll {
         node: u64,

@@ -26,14 +26,14 @@ const MEMORY_BYTES: usize = 65_536;
 
 /// Bytes that are put into memory from an address on; none of them is past FFFF. A record that says something else has none.
 #[derive(Drop)]
-pub struct Record {
+pub struct HexRecord {
     address: u16,
     count: u8,
     // The first `count` of these.
     bytes: [u8; RECORD_BYTES],
 }
 
-impl Model for Record {
+impl Model for HexRecord {
     ghost Value = { Loaded };
 
     ghost view = { λ r. record { address = r.address; bytes = take r.count r.bytes } };
@@ -135,9 +135,9 @@ fn write_between<W: fmt::Write>(
     write!(f, "{front}{byte}{back}")
 }
 
-impl Record {
+impl HexRecord {
     // These bytes from this address on.
-    fn of(address: u16, given: &[u8]) -> Record
+    fn of(address: u16, given: &[u8]) -> HexRecord
         requires few { length given.now ≤ 255 }
         requires within { address + length given.now ≤ 65536 }
         ensures address { result.address ≡ address }
@@ -145,7 +145,7 @@ impl Record {
     {
         let mut bytes = [0u8; RECORD_BYTES];
         bytes[..given.len()].copy_from_slice(given);
-        Record {
+        HexRecord {
             address,
             count: given.len() as u8,
             bytes,
@@ -169,7 +169,7 @@ impl Record {
 }
 
 /// What a line says as a record, from its colon to its sum.
-pub fn read_record(line: &[u8]) -> Result<Record, RecordMistake>
+pub fn read_record(line: &[u8]) -> Result<HexRecord, RecordMistake>
     ensures { result ≡ record_of line.now }
 {
     match line {
@@ -179,7 +179,7 @@ pub fn read_record(line: &[u8]) -> Result<Record, RecordMistake>
 }
 
 // What the digits of a record say.
-fn read_digits(digits: &[u8]) -> Result<Record, RecordMistake>
+fn read_digits(digits: &[u8]) -> Result<HexRecord, RecordMistake>
     ensures { result ≡ record_by digits.now }
 {
     let count = digits.len() / 2;
@@ -206,7 +206,7 @@ fn decode(digits: &[u8], out: &mut [u8]) -> bool
 }
 
 // What the bytes of a record say.
-fn read_bytes(bytes: &[u8]) -> Result<Record, RecordMistake>
+fn read_bytes(bytes: &[u8]) -> Result<HexRecord, RecordMistake>
     requires { length bytes.now ≤ 260 }
     ensures { result ≡ record_in bytes.now }
 {
@@ -239,7 +239,7 @@ fn excess(bytes: &[u8]) -> u8
 
 // A record of this type.
 #[tactic(auto, unfolding(crate::specs::Records::by_type))]
-fn by_type(kind: u8, address: u16, given: &[u8]) -> Result<Record, RecordMistake>
+fn by_type(kind: u8, address: u16, given: &[u8]) -> Result<HexRecord, RecordMistake>
     requires { length given.now ≤ 255 }
     ensures { result ≡ by_type kind address given.now }
 {
@@ -247,8 +247,8 @@ fn by_type(kind: u8, address: u16, given: &[u8]) -> Result<Record, RecordMistake
         0 if usize::from(address) + given.len() > MEMORY_BYTES => {
             Err(RecordMistake::Past(address))
         }
-        0 => Ok(Record::of(address, given)),
-        1 => Ok(Record::of(address, &[])),
+        0 => Ok(HexRecord::of(address, given)),
+        1 => Ok(HexRecord::of(address, &[])),
         2 | 4 => extended(kind, address, given),
         3 | 5 => start(kind, address, given),
         _ => Err(RecordMistake::Type(kind)),
@@ -256,22 +256,22 @@ fn by_type(kind: u8, address: u16, given: &[u8]) -> Result<Record, RecordMistake
 }
 
 // An extended address: what follows is in the first 64K.
-fn extended(kind: u8, address: u16, given: &[u8]) -> Result<Record, RecordMistake>
+fn extended(kind: u8, address: u16, given: &[u8]) -> Result<HexRecord, RecordMistake>
     ensures { result ≡ extended kind address given.now }
 {
     match given {
-        [0, 0] => Ok(Record::of(address, &[])),
+        [0, 0] => Ok(HexRecord::of(address, &[])),
         [_, _] => Err(RecordMistake::Extended { kind }),
         _ => Err(RecordMistake::Size { kind, wanted: 2 }),
     }
 }
 
 // A start address, which is skipped.
-fn start(kind: u8, address: u16, given: &[u8]) -> Result<Record, RecordMistake>
+fn start(kind: u8, address: u16, given: &[u8]) -> Result<HexRecord, RecordMistake>
     ensures { result ≡ start kind address given.now }
 {
     match given {
-        [_, _, _, _] => Ok(Record::of(address, &[])),
+        [_, _, _, _] => Ok(HexRecord::of(address, &[])),
         _ => Err(RecordMistake::Size { kind, wanted: 4 }),
     }
 }

@@ -8,7 +8,7 @@ ghost use Rattle.shell_language.specs.Mistakes.{Detached, Late, Misfit, Missing,
 use crate::form::Form;
 use crate::kind::Kind;
 use crate::loading::RecordMistake;
-use crate::shown::Shown;
+use crate::shown::ShownWord;
 use pair_events::Hexadecimal;
 use std::fmt::{self, Display};
 
@@ -165,7 +165,7 @@ fn write_too_long<W: fmt::Write>(f: &mut fmt::Formatter<W>) -> fmt::Result
 fn write_unknown<W: fmt::Write>(f: &mut fmt::Formatter<W>, word: &[u8]) -> fmt::Result
     ensures { WritesOnOk W.write_str_gives f.old result (flaw_text (Unknown word.now)) f.new }
 {
-    Shown(word).fmt(f)?;
+    ShownWord(word).fmt(f)?;
     f.write_str(" begins no line; `help` lists the lines")
 }
 
@@ -206,7 +206,7 @@ fn write_wrong<W: fmt::Write>(
     ensures { WritesOnOk W.write_str_gives f.old result
         (flaw_text (Misfit place word.now (shape_of form.now) (word_of kind))) f.new }
 {
-    let word = Shown(word);
+    let word = ShownWord(word);
     write!(f, "word {place} is {word}: {kind} is expected")?;
     write_usage(f, form)
 }
@@ -220,7 +220,7 @@ fn write_too_many<W: fmt::Write>(
     ensures { WritesOnOk W.write_str_gives f.old result
         (flaw_text (OneTooMany place word.now (shape_of form.now))) f.new }
 {
-    let word = Shown(word);
+    let word = ShownWord(word);
     write!(f, "word {place}, {word}, is one too many")?;
     write_usage(f, form)
 }
@@ -235,7 +235,7 @@ fn write_surplus<W: fmt::Write>(
     ensures { WritesOnOk W.write_str_gives f.old result
         (flaw_text (Surplus place word.now (shape_of form.now) most)) f.new }
 {
-    let word = Shown(word);
+    let word = ShownWord(word);
     write!(
         f,
         "word {place}, {word}, is one too many: at most {most} bytes are expected"
@@ -266,7 +266,7 @@ fn write_late<W: fmt::Write>(f: &mut fmt::Formatter<W>, line: &[u8]) -> fmt::Res
     write!(
         f,
         "{} is a line of the setup, and the pair has booted: it boots at the first event or query",
-        Shown(line)
+        ShownWord(line)
     )
 }
 

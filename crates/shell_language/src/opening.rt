@@ -4,10 +4,10 @@ ghost use Rattle.std.specs.List.{find};
 ghost use Rattle.std.specs.Option.{option_copied};
 ghost use Rattle.disk_dcdd.specs.declared.sector.SectorWrite.{SectorWrite};
 ghost use Rattle.shell_language.specs.Openings.{padded, sector_bytes, sector_of};
-ghost use Rattle.shell_language.specs.declared.outcome.Outcome.TheVariants as outcome;
+ghost use Rattle.shell_language.specs.declared.outcome.LineOutcome.TheVariants as outcome;
 ghost use Rattle.shell_language.specs.declared.line.ShellLine.TheVariants as shell;
 
-use crate::{Mistake, Outcome, Printed, Record, ShellLine, mistake_in, refuse};
+use crate::{HexRecord, LineOutcome, Mistake, Printed, ShellLine, mistake_in, refuse};
 use disk_dcdd::{SECTOR_BYTES, SectorAddress, SectorWrite};
 use guest_memory::BYTES;
 use script_language::{Keyword, ScriptSetup, Words};
@@ -16,12 +16,12 @@ use std::fmt;
 
 /// How the pair of a session will boot, and the sectors that are set.
 #[derive(Drop)]
-pub struct Opening {
+pub struct SessionSetup {
     pub setup: ScriptSetup,
     pub sectors: Vec<SectorWrite>,
 }
 
-impl Opening {
+impl SessionSetup {
     ghost use Rattle.script_language.specs.Booting.{boot_of, memory_from};
     ghost use Rattle.std.specs.Prelude.{false};
     ghost use Rattle.shell_language.specs.Outcomes.{is_ended};
@@ -29,10 +29,10 @@ impl Opening {
     ghost use Rattle.shell_language.specs.Openings.{CannotSet, IsDefault, IsSame, SetsUp, detached_in};
 
     /// The setup if no line says otherwise.
-    pub fn new(alloc: Global) -> Result<Opening, AllocError>
+    pub fn new(alloc: Global) -> Result<SessionSetup, AllocError>
         ensures { IfOk result IsDefault }
     {
-        Ok(Opening {
+        Ok(SessionSetup {
             setup: ScriptSetup::new(alloc)?,
             sectors: Vec::new(alloc),
         })
@@ -45,7 +45,7 @@ impl Opening {
         text: &'a [u8],
         line: ShellLine<'a>,
         printed: &mut Printed,
-    ) -> Result<Outcome, AllocError>
+    ) -> Result<LineOutcome, AllocError>
         ensures refused { IfOk result (λ told. told ≡ outcome.Refused → IsSame self.old self.new) }
         ensures cannot { IfOk result (λ told. told ≡ outcome.Refused → CannotSet line.entry self.old) }
         ensures done { IfOk result (λ told. told ≡ outcome.Done → SetsUp line.entry self.old self.new) }
@@ -59,7 +59,7 @@ impl Opening {
                 self.take_sector(alloc, text, sector, &mut bytes, printed)
             }
             ShellLine::Load(record) => self.load(&record, printed),
-            _ => Ok(Outcome::Done),
+            _ => Ok(LineOutcome::Done),
         }
     }
 
@@ -70,7 +70,7 @@ impl Opening {
         keyword: Keyword,
         words: &mut Words<'a>,
         printed: &mut Printed,
-    ) -> Result<Outcome, AllocError>
+    ) -> Result<LineOutcome, AllocError>
         ensures refused { IfOk result (λ told. told ≡ outcome.Refused → IsSame self.old self.new) }
         ensures cannot { IfOk result (λ told. told ≡ outcome.Refused → CannotSet (shell.Setup keyword words.old) self.old) }
         ensures done { IfOk result (λ told. told ≡ outcome.Done
@@ -81,7 +81,7 @@ impl Opening {
             return refuse(mistake_in(text), printed);
         }
         printed.script_line(&Plain(text))?;
-        Ok(Outcome::Done)
+        Ok(LineOutcome::Done)
     }
 
     fn take_sector<'a>(
@@ -91,7 +91,7 @@ impl Opening {
         address: SectorAddress,
         words: &mut Words<'a>,
         printed: &mut Printed,
-    ) -> Result<Outcome, AllocError>
+    ) -> Result<LineOutcome, AllocError>
         ensures refused { IfOk result (λ told. told ≡ outcome.Refused → IsSame self.old self.new) }
         ensures cannot { IfOk result (λ told. told ≡ outcome.Refused
             → CannotSet (shell.SetSector address words.old) self.old) }
@@ -105,11 +105,11 @@ impl Opening {
         let sector = filled(address, &bytes);
         self.sectors.push(sector)?;
         printed.script_line(&SectorLine(sector))?;
-        Ok(Outcome::Done)
+        Ok(LineOutcome::Done)
     }
 
     // Puts a record's bytes into memory.
-    fn load(&mut self, loaded: &Record, printed: &mut Printed) -> Result<Outcome, AllocError>
+    fn load(&mut self, loaded: &HexRecord, printed: &mut Printed) -> Result<LineOutcome, AllocError>
         ensures refused { IfOk result (λ told. told ≡ outcome.Refused → IsSame self.old self.new) }
         ensures cannot { IfOk result (λ told. told ≡ outcome.Refused → ⊥) }
         ensures done { IfOk result (λ told. told ≡ outcome.Done
@@ -120,7 +120,7 @@ impl Opening {
         let bytes = loaded.bytes();
         self.put(address, bytes);
         printed.script_line(&MemoryLine { address, bytes })?;
-        Ok(Outcome::Done)
+        Ok(LineOutcome::Done)
     }
 
     // Puts bytes into memory from an address on.

@@ -3,7 +3,7 @@ ghost use Rattle.std.specs.Prelude.{◌≡◌, ◌++◌, codes, false, IfOk};
 ghost use Rattle.shell_language.specs.Outcomes.{is_ended};
 ghost use Rattle.shell_language.specs.Texts.{AddsLine};
 ghost use Rattle.shell_language.specs.Mistakes.{flaw_of, flaw_text};
-ghost use Rattle.shell_language.specs.declared.outcome.Outcome.TheVariants as outcome;
+ghost use Rattle.shell_language.specs.declared.outcome.LineOutcome.TheVariants as outcome;
 
 use crate::Mistake;
 use crate::printing::Printed;
@@ -11,7 +11,7 @@ use std::alloc::AllocError;
 
 /// What became of a line.
 #[derive(Clone, Copy)]
-pub enum Outcome {
+pub enum LineOutcome {
     /// It is wrong: this was told, and nothing changed.
     Refused,
     /// It was done.
@@ -21,11 +21,11 @@ pub enum Outcome {
 }
 
 /// Tells what is wrong.
-pub fn refuse(mistake: Mistake<'_>, printed: &mut Printed) -> Result<Outcome, AllocError>
+pub fn refuse(mistake: Mistake<'_>, printed: &mut Printed) -> Result<LineOutcome, AllocError>
     ensures refused { IfOk result (λ told. told ≡ outcome.Refused) }
     ensures goes_on { IfOk result (λ told. is_ended told ≡ false) }
     ensures told { IfOk result (λ _. AddsLine (codes "? " ++ flaw_text (flaw_of mistake.entry)) printed.old printed.new) }
 {
     printed.line(&format_args!("? {mistake}"))?;
-    Ok(Outcome::Refused)
+    Ok(LineOutcome::Refused)
 }

@@ -57,9 +57,9 @@ fn shown_byte(byte: u8) -> u8
 
 /// A word, or its first bytes.
 #[derive(Clone, Copy)]
-pub struct Shown<'a>(pub &'a [u8]);
+pub struct ShownWord<'a>(pub &'a [u8]);
 
-impl fmt::Display for Shown<'_> {
+impl fmt::Display for ShownWord<'_> {
     ghost output = { λ word. Some (shown_text word.0.now) };
 
     fn fmt<W: fmt::Write>(&self, f: &mut fmt::Formatter<W>) -> fmt::Result {

@@ -14,9 +14,9 @@ pub struct Spelled(pub Event);
 
 // The name of an operation, as a script has it.
 #[derive(Clone, Copy)]
-struct Named(OpId);
+struct OperationName(OpId);
 
-impl fmt::Display for Named {
+impl fmt::Display for OperationName {
     ghost output = { λ named. Some (operation_text named.0) };
 
     fn fmt<W: fmt::Write>(&self, f: &mut fmt::Formatter<W>) -> fmt::Result {
@@ -95,7 +95,7 @@ fn write_typed<W: fmt::Write>(f: &mut fmt::Formatter<W>, port: u8, byte: u8) -> 
 fn write_release<W: fmt::Write>(f: &mut fmt::Formatter<W>, node: u64, id: OpId) -> fmt::Result
     ensures { WritesOnOk W.write_str_gives f.old result (codes "release" ␣ decimal node ␣ operation_text id) f.new }
 {
-    write!(f, "release {node} {}", Named(id))
+    write!(f, "release {node} {}", OperationName(id))
 }
 
 // A word and the numbers after it.

@@ -18,7 +18,7 @@ use Rattle.shell_language.specs.Refusals.{refusals}
 use Rattle.shell_language.specs.HeldUp.{holds_up, meeting_of}
 use Rattle.shell_language.specs.Notes.{waiting_in}
 use Rattle.shell_language.specs.declared.book.Book.{Book}
-use Rattle.shell_language.specs.declared.book.Waiting.{Waiting}
+use Rattle.shell_language.specs.declared.book.OutstandingOutput.{OutstandingOutput}
 use Rattle.shell_language.specs.declared.held_up.Meeting.{Meeting}
 use Rattle.shell_picture.specs.HeldUp.{covered_text, held_if, held_of, held_row, named_last, output_text}
 use Rattle.shell_picture.specs.Answers.{done_text, message_text, others_text, refused, refused_text, sum_by, sum_of, sum_row}
@@ -101,7 +101,7 @@ other_row refusal.Idle met book not = refl
 other_row (refusal.BadScript line) met book not = refl
 other_row refusal.NotCovered met book not = absurd (not refl)
 
-pub tells_held : (fault : Fault) (met : Meeting) (book : Book) (waiting : Waiting) (number : ℕ) (old new : Printed)
+pub tells_held : (fault : Fault) (met : Meeting) (book : Book) (waiting : OutstandingOutput) (number : ℕ) (old new : Printed)
     → waiting ≡ waiting_in book → holds_up fault met waiting ≡ true → number ≡ number_of fault → (fault ≡ refusal.NotCovered → ⊥)
     → AddsRow (Words (codes "  " ++ (decimal met.times ++ (codes " events" ++ (named_last met.last
     ++ (codes ": refused " ++ (decimal number ++ codes ", ")))))) fault []) old new → Prints (held_if fault met book) old new
@@ -118,7 +118,7 @@ uncovered_row : (fault : Fault) (met : Meeting) (book : Book) → fault ≡ refu
 uncovered_row fault met book is = subst (λ (f : Fault). held_row f met book
     ≡ Words (codes "  " ++ (output_text (waiting_in book) ++ (codes ": " ++ refused_text f))) f (covered_text book)) (sym is) refl
 
-pub tells_uncovered : (fault : Fault) (met : Meeting) (book : Book) (waiting : Waiting) (number : ℕ) (old new : Printed)
+pub tells_uncovered : (fault : Fault) (met : Meeting) (book : Book) (waiting : OutstandingOutput) (number : ℕ) (old new : Printed)
     → fault ≡ refusal.NotCovered → waiting ≡ waiting_in book → holds_up fault met waiting ≡ true → number ≡ number_of fault
     → AddsRow (Words (codes "  " ++ (output_text waiting ++ (codes ": refused " ++ (decimal number ++ codes ", ")))) fault
     (covered_text book)) old new → Prints (held_if fault met book) old new
@@ -126,7 +126,7 @@ tells_uncovered fault met book waiting number old new not is holds counts h =
     subst (λ b. Prints (if b then held_row fault met book ∷ [] else []) old new)
     (sym (ap (holds_up fault met) (sym is) ∙ holds))
     (prints_one (held_row fault met book) old new (subst (λ r. AddsRow r old new) (sym (uncovered_row fault met book not))
-    (subst (λ (w : Waiting). AddsRow (Words (codes "  " ++ (output_text w
+    (subst (λ (w : OutstandingOutput). AddsRow (Words (codes "  " ++ (output_text w
     ++ (codes ": refused " ++ (decimal (number_of fault) ++ codes ", ")))) fault (covered_text book)) old new) is
     (subst (λ (k : ℕ). AddsRow (Words (codes "  " ++ (output_text waiting
     ++ (codes ": refused " ++ (decimal k ++ codes ", ")))) fault (covered_text book)) old new) counts h))))

@@ -12,7 +12,7 @@ use Rattle.pair_events.specs.declared.event.Event.TheVariants as event
 use Rattle.pair_events.specs.declared.reply.Reply.{Reply}
 use Rattle.pair_events.specs.declared.reply.Reply.TheVariants as reply
 use Rattle.shell_picture.specs.declared.day.Day.{Day}
-use Rattle.shell_picture.specs.declared.ending.Ending.TheVariants.{Turns, Events, Refused}
+use Rattle.shell_picture.specs.declared.ending.DayEnd.TheVariants.{Turns, Events, Refused}
 
 -- a number with others added, which stops at the greatest one that there is
 abbrev pub added : ℕ → ℕ → ℕ

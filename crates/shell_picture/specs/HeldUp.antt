@@ -11,7 +11,7 @@ use Rattle.shell_language.specs.HeldUp.{holds_up, meeting_of}
 use Rattle.shell_language.specs.Notes.{waiting_in}
 use Rattle.shell_language.specs.Texts.{Row, Words}
 use Rattle.shell_language.specs.declared.book.Book.{Book}
-use Rattle.shell_language.specs.declared.book.Waiting.{Waiting}
+use Rattle.shell_language.specs.declared.book.OutstandingOutput.{OutstandingOutput}
 use Rattle.shell_language.specs.declared.held_up.Meeting.{Meeting}
 use Rattle.shell_language.specs.declared.tape.Played.{Played}
 use Rattle.shell_picture.specs.Answers.{refused_text}
@@ -22,7 +22,7 @@ output_by bytes zero = decimal bytes ++ codes " bytes wait"
 output_by zero writes = decimal writes ++ codes " writes wait"
 output_by bytes writes = decimal bytes ++ codes " bytes and " ++ decimal writes ++ codes " writes wait"
 
-abbrev pub output_text : Waiting → List ℕ
+abbrev pub output_text : OutstandingOutput → List ℕ
 output_text waiting = output_by waiting.bytes waiting.writes
 
 -- the last event that was refused, if it is known; 96 is a quote

@@ -6,7 +6,7 @@ use Rattle.pair_events.specs.declared.event.Event.TheVariants as event
 use Rattle.shell_language.specs.Notes.{notes_of}
 use Rattle.shell_language.specs.declared.book.Book.{Book}
 use Rattle.shell_picture.specs.declared.day.Day.{Day}
-use Rattle.shell_picture.specs.declared.ending.Ending.TheVariants.{WaitsForKey}
+use Rattle.shell_picture.specs.declared.ending.DayEnd.TheVariants.{WaitsForKey}
 use Rattle.shell_picture.specs.declared.phase.Phase.{Phase}
 use Rattle.shell_picture.specs.declared.phase.Phase.TheVariants as round
 use Rattle.shell_picture.specs.declared.series.Series.TheVariants as series

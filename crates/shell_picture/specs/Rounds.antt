@@ -7,7 +7,7 @@ use Rattle.pair_events.specs.declared.event.Event.TheVariants as event
 use Rattle.shell_language.specs.declared.book.Book.{Book}
 use Rattle.shell_language.specs.declared.book.PortNotes.{PortNotes}
 use Rattle.shell_picture.specs.declared.day.Day.{Day}
-use Rattle.shell_picture.specs.declared.ending.Ending.TheVariants.{Polls}
+use Rattle.shell_picture.specs.declared.ending.DayEnd.TheVariants.{Polls}
 use Rattle.shell_picture.specs.declared.phase.Phase.{Phase}
 use Rattle.shell_picture.specs.declared.phase.Phase.TheVariants.{Keys, Get, Under, Step, Send, Log, Acknowledge, Acknowledged, Replay, Fetch, Fetched, Tell, Release, Arrive, Complete}
 

@@ -3,14 +3,14 @@ ghost use Rattle.std.specs.Prelude.{◌≡◌, ◌==◌, [], IfOk, None, Some, f
 ghost use Rattle.shell_picture.specs.Links.{loss_of, seeded};
 ghost use Rattle.shell_picture.specs.Parts.{Fills};
 ghost use Rattle.shell_picture.specs.Rounds.{after, begun, has_nothing_left, is_begin, is_open, is_out, is_telling, is_typed, left_waiting, may_pause, part_next, rested};
-ghost use Rattle.shell_picture.specs.declared.ending.Ending.TheVariants as ends;
+ghost use Rattle.shell_picture.specs.declared.ending.DayEnd.TheVariants as ends;
 ghost use Rattle.shell_picture.specs.declared.phase.Phase.TheVariants as round;
 ghost use Rattle.std.specs.List.{list_any};
 
 mod hearing;
 mod parts;
 
-use crate::ending::Ending;
+use crate::ending::DayEnd;
 use crate::link::Link;
 use crate::phase::Phase;
 use pair_events::Event;
@@ -36,7 +36,7 @@ pub struct Day {
     turns: u64,
     made: u64,
     events: u64,
-    ending: Option<Ending>,
+    ending: Option<DayEnd>,
     // Rounds that are left after the ending.
     rounds: u8,
     // Whether the guest waits for an interrupt, whether it was given an input since, and how many rounds ago it was.
@@ -79,7 +79,7 @@ impl Day {
             LOSSY_ROUNDS
         };
         let ending = if turns.turns == 0 {
-            Some(Ending::Turns)
+            Some(DayEnd::Turns)
         } else {
             None
         };
@@ -116,10 +116,10 @@ impl Day {
     }
 
     /// Why the day ended.
-    pub fn ending(&self) -> Ending
+    pub fn ending(&self) -> DayEnd
         ensures { result ≡ unwrap_or self.now.ending ends.Turns }
     {
-        self.ending.unwrap_or(Ending::Turns)
+        self.ending.unwrap_or(DayEnd::Turns)
     }
 
     /// Puts the events of the next part of the round on the agenda. `false` if the day is over.
@@ -184,7 +184,7 @@ impl Day {
     pub fn rest(&mut self)
         ensures { self.new ≡ rested self.old }
     {
-        self.ending = Some(Ending::Polls);
+        self.ending = Some(DayEnd::Polls);
     }
 
     /// Whether the day may pause after this event: it goes on, and a whole round is still to come.

@@ -5,7 +5,7 @@ use std::fmt;
 
 /// Why a day ended.
 #[derive(Clone, Copy)]
-pub enum Ending {
+pub enum DayEnd {
     /// All turns were made.
     Turns,
     /// As many events have happened without a step of the guest as may.
@@ -18,7 +18,7 @@ pub enum Ending {
     Refused(Fault),
 }
 
-impl fmt::Display for Ending {
+impl fmt::Display for DayEnd {
     ghost use Rattle.std.specs.Prelude.{Some};
     ghost use Rattle.shell_picture.specs.Endings.{ending_text};
 
@@ -26,11 +26,11 @@ impl fmt::Display for Ending {
 
     fn fmt<W: fmt::Write>(&self, f: &mut fmt::Formatter<W>) -> fmt::Result {
         match self {
-            Ending::Turns => f.write_str("turns"),
-            Ending::Events => f.write_str("events"),
-            Ending::WaitsForKey => f.write_str("waits for a key"),
-            Ending::Polls => f.write_str("polls"),
-            Ending::Refused(fault) => write!(f, "refused {}", fault.number()),
+            DayEnd::Turns => f.write_str("turns"),
+            DayEnd::Events => f.write_str("events"),
+            DayEnd::WaitsForKey => f.write_str("waits for a key"),
+            DayEnd::Polls => f.write_str("polls"),
+            DayEnd::Refused(fault) => write!(f, "refused {}", fault.number()),
         }
     }
 }

@@ -8,7 +8,7 @@ ghost use Rattle.shell_picture.specs.HeldUp.{held_if, held_rows, named_last, out
 use i8080_words::Fault;
 use pair_events::Event;
 use shell_language::{
-    Book, Meeting, Played, Printed, Spelled, Waiting, holds_up, meeting_of, refusals,
+    Book, Meeting, OutstandingOutput, Played, Printed, Spelled, holds_up, meeting_of, refusals,
 };
 use std::alloc::AllocError;
 use std::fmt;
@@ -61,13 +61,13 @@ fn print_if(
 
 // The output that waits.
 #[derive(Clone, Copy)]
-struct Output(Waiting);
+struct Output(OutstandingOutput);
 
 impl fmt::Display for Output {
     ghost output = { λ output. Some (output_text output.0) };
 
     fn fmt<W: fmt::Write>(&self, f: &mut fmt::Formatter<W>) -> fmt::Result {
-        let Waiting { bytes, writes } = self.0;
+        let OutstandingOutput { bytes, writes } = self.0;
         match (bytes, writes) {
             (_, 0) => write_count(f, bytes, " bytes wait"),
             (0, _) => write_count(f, writes, " writes wait"),

@@ -30,7 +30,7 @@ pub use held_up::print_held_up;
 pub use listing::print_listing;
 pub use machine::{print_memory, print_registers};
 pub use picture::print_picture;
-pub use plan::Plan;
+pub use plan::EventQueue;
 pub use remaining::{
     bytes_to_arrive, entries_to_deliver, entries_to_send, parts_to_deliver, parts_to_send,
 };

@@ -16,18 +16,18 @@ const PHASES: u32 = 64;
 
 /// The events that are still to happen.
 #[derive(Drop)]
-pub struct Plan {
+pub struct EventQueue {
     agenda: Vec<Event>,
     place: usize,
     day: Option<Day>,
 }
 
-impl Plan {
+impl EventQueue {
     /// These events.
-    pub fn of(agenda: Vec<Event>) -> Plan
+    pub fn of(agenda: Vec<Event>) -> EventQueue
         ensures { (result.agenda ≡ agenda) × (result.place ≡ 0) × (result.day ≡ None) }
     {
-        Plan {
+        EventQueue {
             agenda,
             place: 0,
             day: None,
@@ -35,10 +35,10 @@ impl Plan {
     }
 
     /// A day of a pair.
-    pub fn day(alloc: Global, day: Day) -> Plan
+    pub fn day(alloc: Global, day: Day) -> EventQueue
         ensures { (result.agenda.items ≡ []) × (result.place ≡ 0) × (result.day ≡ Some day) }
     {
-        Plan {
+        EventQueue {
             agenda: Vec::new(alloc),
             place: 0,
             day: Some(day),

@@ -69,16 +69,16 @@ takes : (n b : ℕ) (rest : List Arrival) → accepted_from n (sent n b ∷ rest
 takes n b rest = ap (λ c. cond c (b ∷ accepted_from (n + 1) rest) (accepted_from n rest)) (eq-eqb n n refl)
 
 -- what is in order is a prefix of what is accepted
-record IsFront (front whole : List ℕ) : Type 0 where
+record IsPrefix (front whole : List ℕ) : Type 0 where
   more : List ℕ
   is : whole ≡ front ++ more
 
 is_front : (bytes : List ℕ) (arrivals : List Arrival) (n : ℕ) → AreInOrder arrivals n bytes
-    → IsFront bytes (accepted_from n arrivals)
+    → IsPrefix bytes (accepted_from n arrivals)
 is_front [] arrivals n ordered = record { more = accepted_from n arrivals; is = refl }
 is_front (b ∷ bytes) arrivals n ordered =
     let c : ComesFirst arrivals n b ordered.0 = ordered.1 in
-    let f : IsFront bytes (accepted_from (n + 1) ordered.0) = is_front bytes ordered.0 (n + 1) ordered.2 in
+    let f : IsPrefix bytes (accepted_from (n + 1) ordered.0) = is_front bytes ordered.0 (n + 1) ordered.2 in
     record {
       more = f.more;
       is = ap (accepted_from n) c.place
@@ -91,7 +91,7 @@ is_longest : (arrivals : List Arrival) → IsAccepted arrivals (accepted_from 1 
 is_longest arrivals = record {
   in_order = in_order arrivals 1;
   longest = λ others ordered.
-      let f : IsFront others (accepted_from 1 arrivals) = is_front others arrivals 1 ordered in
+      let f : IsPrefix others (accepted_from 1 arrivals) = is_front others arrivals 1 ordered in
       let l : length (accepted_from 1 arrivals) ≡ length others + length f.more =
       ap length f.is ∙ length-append others f.more in
       omega arith;
@@ -105,7 +105,7 @@ no_more front (x ∷ more) whole is short =
 
 is_only : (arrivals : List Arrival) (bytes : List ℕ) → IsAccepted arrivals bytes → bytes ≡ accepted_from 1 arrivals
 is_only arrivals bytes accepted =
-    let f : IsFront bytes (accepted_from 1 arrivals) = is_front bytes arrivals 1 accepted.in_order in
+    let f : IsPrefix bytes (accepted_from 1 arrivals) = is_front bytes arrivals 1 accepted.in_order in
     no_more bytes f.more (accepted_from 1 arrivals) f.is
     (accepted.longest (accepted_from 1 arrivals) (in_order arrivals 1))
 

@@ -4,8 +4,8 @@ ghost use Rattle.rtrb.specs.Ring.{known_free};
 
 use super::paper::{Paper, come_out};
 use console_terminal::{
-    Command, Desk, Display, Ending, Heard, Interpreter, KeySource, Listener, Note, Port, Signs,
-    Stroke, listen, show_all,
+    Command, Desk, Display, DisplayNote, Ending, Heard, Interpreter, KeySource, Listener, Port,
+    Signs, Stroke, listen, show_all,
 };
 use rtrb::{Consumer, Producer, RingBuffer};
 use std::alloc::Global;
@@ -149,7 +149,7 @@ fn expect_heard<R: Abort + Clock + Copy>(
     alloc: Global,
     case: &TypedCase,
     signs: &Signs,
-    notes: Producer<Note>,
+    notes: Producer<DisplayNote>,
 ) -> Result<(), Fail>
     requires { 3 ≤ known_free notes }
 {
@@ -187,7 +187,7 @@ fn expect_heard<R: Abort + Clock + Copy>(
 fn expect_written<R: Abort + Clock>(
     rt: &R,
     alloc: Global,
-    said: Consumer<Note>,
+    said: Consumer<DisplayNote>,
     signs: &Signs,
     wanted: &[u8],
 ) -> Result<(), Fail> {

@@ -3,7 +3,7 @@ ghost use Rattle.std.specs.Prelude.{IfOk};
 ghost use Rattle.console_terminal.specs.Screen.{IsClear};
 
 use super::paper::{Paper, come_out};
-use console_terminal::{Display, Note, Port, Shown, Signs, show_all};
+use console_terminal::{Display, DisplayNote, Port, Shown, Signs, show_all};
 use rtrb::{Producer, RingBuffer};
 use std::alloc::{AllocError, Global};
 use std::io;
@@ -75,7 +75,7 @@ static STEPS: [DisplayStep; 6] = [
 #[derive(Drop)]
 struct DisplayRings {
     shown: Producer<Shown>,
-    said: Producer<Note>,
+    said: Producer<DisplayNote>,
     told: Producer<String>,
 }
 
@@ -89,8 +89,8 @@ impl DisplayRings {
         }
         let _ = match step.line {
             LineChange::Stays => Ok(()),
-            LineChange::Opens => self.said.push(Note::Opened),
-            LineChange::Closes(port) => self.said.push(Note::Closed(port)),
+            LineChange::Opens => self.said.push(DisplayNote::Opened),
+            LineChange::Closes(port) => self.said.push(DisplayNote::Closed(port)),
         };
         if let Some(line) = step.told {
             let _ = self.told.push(String::from_str(alloc, line)?);

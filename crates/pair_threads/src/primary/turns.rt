@@ -11,7 +11,7 @@ ghost use Rattle.pair_threads.specs.Turns.{Leaves};
 
 use super::PrimaryWorker;
 use crate::chore::{Chore, ROTATION};
-use crate::plan::Plan;
+use crate::plan::Briefing;
 use crate::port_inputs::PortInputs;
 use crate::recording::Recording;
 use crate::signals::Told;
@@ -28,7 +28,7 @@ impl<B: Lockstep> PrimaryWorker<B> {
         seat: PrimarySeat,
         board: B,
         ports: (PortInputs, PortInputs),
-        plan: Plan,
+        plan: Briefing,
     ) -> PrimaryWorker<B>
         requires list { seat.core.known.primary.list ≡ [] }
         requires blank { (seat.core.known.primary.seen ≡ 0) × (seat.core.known.primary.released ≡ [])

@@ -3,7 +3,7 @@ ghost use Rattle.std.specs.Prelude.{◌≡◌};
 ghost use Rattle.shell_picture.specs.Hearing.{after_steps, counted, heard, heard_fetched, heard_get, heard_key, heard_release, heard_replay, heard_sector, heard_step, heard_taken, key_taken, lengthened, passed, refused, stepped};
 
 use super::Day;
-use crate::ending::Ending;
+use crate::ending::DayEnd;
 use event_callbacks::OpId;
 use guest_lockstep::{ReplayEnd, StopReason};
 use i8080_words::{Fault, R};
@@ -44,7 +44,7 @@ impl Day {
     {
         self.events = self.events.saturating_add(1);
         if self.events == MOST_EVENTS && self.ending.is_none() {
-            self.ending = Some(Ending::Events);
+            self.ending = Some(DayEnd::Events);
         }
     }
 
@@ -81,7 +81,7 @@ impl Day {
         ensures { self.new ≡ after_steps why self.old }
     {
         if self.made >= self.turns {
-            self.ending = Some(Ending::Turns);
+            self.ending = Some(DayEnd::Turns);
         } else if let StopReason::Refused(fault) = why {
             self.hear_refusal(fault);
         }
@@ -96,7 +96,7 @@ impl Day {
                 self.is_idle = true;
                 self.was_given = false;
             }
-            _ => self.ending = Some(Ending::Refused(fault)),
+            _ => self.ending = Some(DayEnd::Refused(fault)),
         }
     }
 

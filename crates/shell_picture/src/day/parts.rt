@@ -4,7 +4,7 @@ ghost use Rattle.shell_picture.specs.Parts.{CarriesOn, FillsPart, acceptances_to
 ghost use Rattle.shell_picture.specs.declared.phase.Phase.TheVariants as round;
 
 use super::{Day, STEPS};
-use crate::ending::Ending;
+use crate::ending::DayEnd;
 use crate::phase::Phase;
 use crate::route::Route;
 use crate::series::Series;
@@ -128,7 +128,7 @@ impl Day {
         ensures { self.new ≡ waited self.old }
     {
         if self.rounds_idle >= self.patience() {
-            self.ending = Some(Ending::WaitsForKey);
+            self.ending = Some(DayEnd::WaitsForKey);
         } else {
             self.rounds_idle += 1;
         }

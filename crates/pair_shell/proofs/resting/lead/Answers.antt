@@ -1,6 +1,6 @@
 -- What the tape said before the next event, it says after it, with that event.
 use Rattle.std.proofs.Common.{◌∙◌, ap}
-use Rattle.pair_shell.specs.declared.plan.Plan.{Plan}
+use Rattle.pair_shell.specs.declared.plan.RestPlan.{RestPlan}
 use Rattle.shell_language.specs.Tapes.{played}
 use Rattle.pair_shell.proofs.Playing.{plays_more}
 use Rattle.pair_shell.proofs.resting.lead.Goals as goal
@@ -20,7 +20,7 @@ events-preserved g c = (
       c.events._made c.events.tape.items c.play_next.new.tape.items (played c.in-Some.event c.in_ok-answer.answer)
       c.events.invariant.0 c.in_ok-answer.ensures.taped c.in_ok-answer.ensures.happened,
   (
-    ap (λ (p : Plan). p.hosts) c.hear.ensures ∙ c.events.invariant.1.0,
-    ap (λ (p : Plan). p.parts) c.hear.ensures ∙ c.events.invariant.1.1,
+    ap (λ (p : RestPlan). p.hosts) c.hear.ensures ∙ c.events.invariant.1.0,
+    ap (λ (p : RestPlan). p.parts) c.hear.ensures ∙ c.events.invariant.1.1,
   ),
 )

@@ -1,6 +1,6 @@
 -- The line says which nodes may serve.
 use Rattle.std.proofs.Common.{[], ◌∷◌, ap}
-use Rattle.pair_shell.specs.declared.serving.Serving.TheVariants as serving
+use Rattle.pair_shell.specs.declared.serving.ServingNodes.TheVariants as serving
 use Rattle.shell_language.specs.Texts.{Text}
 use Rattle.pair_shell.proofs.RestLines.{tells_text}
 use Rattle.pair_shell.specs.Waits.{serving_text}

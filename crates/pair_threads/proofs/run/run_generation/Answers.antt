@@ -2,7 +2,7 @@
 use Rattle.std.proofs.Common.{ap, sym, subst, ◌∙◌, Vec, Global, ℕ}
 use Rattle.std.proofs.lemmas.Result.{on_ok_weaker}
 use Rattle.pair_rule.specs.Seats.{Seat}
-use Rattle.pair_threads.specs.declared.plan.Plan.{Plan}
+use Rattle.pair_threads.specs.declared.plan.Briefing.{Briefing}
 use Rattle.pair_threads.specs.declared.port_inputs.PortInputs.{PortInputs}
 use Rattle.pair_rule.specs.declared.view.Core.{Core}
 use Rattle.pair_threads.specs.Repeating.{IsAt}
@@ -84,9 +84,9 @@ pub returns-clause-decided : goal.returns-clause-decided
 returns-clause-decided g c =
     let served = c.work-served in
     c.finish.ensures.decided c.args.workers.primary_contests c.args.workers.backup_contests
-    (on_ok_weaker served.result.primary.1 (λ end. ap (λ (p : Plan). p.contests_at) (end.0.0 ∙ c.new-3.ensures.plan.0)
+    (on_ok_weaker served.result.primary.1 (λ end. ap (λ (p : Briefing). p.contests_at) (end.0.0 ∙ c.new-3.ensures.plan.0)
     ∙ c.new-lead.ensures.asks.0) served.ensures.primary.1)
-    (on_ok_weaker served.result.backup.1 (λ end. ap (λ (p : Plan). p.contests_at) (end.0.0 ∙ c.new-5.ensures.plan.0)
+    (on_ok_weaker served.result.backup.1 (λ end. ap (λ (p : Briefing). p.contests_at) (end.0.0 ∙ c.new-5.ensures.plan.0)
     ∙ c.new-follow.ensures.asks.0) served.ensures.backup.1)
 
 pub returns-clause-ran : goal.returns-clause-ran

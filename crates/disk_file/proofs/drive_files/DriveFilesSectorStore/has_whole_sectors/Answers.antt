@@ -1,7 +1,7 @@
 use Rattle.std.proofs.Common.{rules, ◌≡◌, List, subst}
 use Rattle.shared_disk.specs.Records.{HasWholeSectors}
 use Rattle.disk_file.specs.Drives.{all_records}
-use Rattle.disk_file.specs.declared.kept.Kept.{Kept}
+use Rattle.disk_file.specs.declared.kept.FileRecords.{FileRecords}
 use Rattle.disk_file.proofs.Drives.{all_whole}
 use Rattle.disk_file.proofs.drive_files.DriveFilesSectorStore.has_whole_sectors.Goals as goal
 
@@ -9,4 +9,4 @@ pub returns : goal.returns
 returns g c =
     let drives = c.self.inside.drives.items in
     let same : drives ≡ c.args.self.now = search rules in
-    subst (λ (l : List (Kept g.row.D.Denot)). HasWholeSectors (all_records l)) same (all_whole drives c.self.invariant)
+    subst (λ (l : List (FileRecords g.row.D.Denot)). HasWholeSectors (all_records l)) same (all_whole drives c.self.invariant)

@@ -3,7 +3,7 @@ use Rattle.std.proofs.Common.{sym, ◌∙◌, ap}
 use Rattle.std.specs.Prelude.{is_some}
 use Rattle.pair_protocol.specs.Settled.{highest}
 use Rattle.pair_shell.proofs.Others.{no_node, nobody, some_node, somebody}
-use Rattle.pair_shell.proofs.plan.Plan.has_server.Goals as goal
+use Rattle.pair_shell.proofs.plan.RestPlan.has_server.Goals as goal
 
 pub returns-clause-some : goal.returns-clause-some
 returns-clause-some g c = λ course h is.

@@ -7,7 +7,7 @@ use Rattle.pair_shell.proofs.Arrivals.{arrives, some_none}
 use Rattle.pair_shell.proofs.Delivered.{delivered}
 use Rattle.pair_shell.proofs.Each.{each_some, each_three, some_and}
 use Rattle.pair_shell.specs.Serves.{MayCome}
-use Rattle.pair_shell.proofs.plan.Plan.arriving.Goals as goal
+use Rattle.pair_shell.proofs.plan.RestPlan.arriving.Goals as goal
 
 pub returns-clause-outward : goal.returns-clause-outward
 returns-clause-outward g c =

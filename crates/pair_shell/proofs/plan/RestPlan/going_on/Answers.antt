@@ -8,7 +8,7 @@ use Rattle.pair_shell.specs.Serves.{ActsAndMayServe, Serves}
 use Rattle.pair_shell.proofs.Allowed.{backup_asks, primary_asks}
 use Rattle.pair_shell.proofs.Each.{each_ok, each_some, when_ok}
 use Rattle.pair_shell.proofs.PairEvents.{part_goes_so}
-use Rattle.pair_shell.proofs.plan.Plan.going_on.Goals as goal
+use Rattle.pair_shell.proofs.plan.RestPlan.going_on.Goals as goal
 
 pub returns-in-Primary-clause-allowed : goal.returns-in-Primary-clause-allowed
 returns-in-Primary-clause-allowed g c = λ course h generation serves asks.

@@ -2,7 +2,7 @@
 use Rattle.pair_shell.specs.Serves.{MayCome}
 use Rattle.pair_shell.proofs.Arrivals.{other_next}
 use Rattle.pair_shell.proofs.Each.{any_ok, each_ok, when_ok}
-use Rattle.pair_shell.proofs.plan.Plan.next.Goals as goal
+use Rattle.pair_shell.proofs.plan.RestPlan.next.Goals as goal
 
 pub returns-in-Some-clause-law : goal.returns-in-Some-clause-law
 returns-in-Some-clause-law g c = λ course h. record {

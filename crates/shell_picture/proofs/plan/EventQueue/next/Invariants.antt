@@ -1,6 +1,6 @@
 -- The list has ended; a plan without a day gets none.
 use Rattle.std.proofs.Common.{◌≡◌, ◌≤◌, None, length}
-use Rattle.shell_picture.proofs.plan.Plan.next.Given as goal
+use Rattle.shell_picture.proofs.plan.EventQueue.next.Given as goal
 
 abbrev pub invariant-parts : goal.invariant-parts
 invariant-parts l = record {
