@@ -1,0 +1,131 @@
+-- What is asked and answered, told, or released: a host's step, the outside's and a host's, and then others.
+use Rattle.std.proofs.Common.{◌≡◌, ℕ, suc, ◌+◌, ◌≤◌, inl, inr, Some, List, [], ◌∷◌, ◌++◌, length, refl, sym, ap, subst, ◌∙◌, arith}
+use Rattle.std.specs.Prelude.{slice_get, slice_set}
+use Rattle.pair_protocol.proofs.OneNode.{set_get}
+use Rattle.pair_protocol.proofs.Traces.Lists.{among-right}
+use Rattle.host_law.specs.Frame.{answering, quiet, sending, taking}
+use Rattle.host_law.proofs.Interleaving.{followed}
+use Rattle.host_law.proofs.Words.{Act, Among, Came, Copying, Fleet, FleetStep, Followed, Frame, HostActs, HostStep, IsCopying, Lawful, Machine, Node, OfHost, OfOutside, Outside, OutsideActs, OutsideStep, Shows, World}
+use Rattle.host_progress.specs.Exchanges.{HostsReach}
+use Rattle.host_progress.proofs.Exchanging.{Left, by_host, by_outside, left, whole}
+
+-- the frame that was sent last
+pub last-sent : (frame : Frame) (before : List Frame) → Came (frame ∷ []) (before ++ frame ∷ [])
+last-sent frame before = (among-right frame before (frame ∷ []) (inl refl), tt)
+
+-- whoever takes or sends is not quiet
+takes_one : (act : Act) (frame : Frame) (frames : List Frame) → act.takes ≡ frame ∷ frames → act ≡ quiet → ⊥
+takes_one act frame frames is h = let e : frame ∷ frames ≡ [] = sym is ∙ ap (λ (a : Act). a.takes) h in (cc)
+
+sends_one : (act : Act) (frame : Frame) (frames : List Frame) → act.sends ≡ frame ∷ frames → act ≡ quiet → ⊥
+sends_one act frame frames is h = let e : frame ∷ frames ≡ [] = sym is ∙ ap (λ (a : Act). a.sends) h in (cc)
+
+module _ {S : Type 0} (M : Machine S) (C : Copying S) (laws : Lawful M) (copies : IsCopying M C) (Who : ℕ → Type 0)
+    (End : World S → Type 0) where
+  -- whatever fleet has these hosts and this outside, and shows a world, so many steps lead on from there
+  abbrev pub Then : List (Node S) → Outside → ℕ → Type 0
+  Then hosts o most =
+      (g : Fleet S) (v : World S) → Shows M C g v → g.hosts ≡ hosts → g.outside ≡ o → HostsReach M C g Who most End
+
+  module _ (f : Fleet S) (w : World S) (h : Shows M C f w) (n : ℕ) (x : Node S) (there : slice_get f.hosts n ≡ Some x)
+      (who : Who n) (most : ℕ) where
+    -- a host does something by itself
+    pub by_itself : (y : Node S) → HostStep M C n x quiet y → Then (slice_set f.hosts n y) f.outside most →
+        HostsReach M C f Who (suc most) End
+    by_itself y step rest =
+        let after : Fleet S = record { hosts = slice_set f.hosts n y; outside = f.outside; sent = f.sent ++ [] } in
+        let does : FleetStep M C f (OfHost n quiet) after = HostActs n x y quiet there tt step in
+        let k = followed M C laws copies f after w (OfHost n quiet) h does in
+        whole M C Who End f (suc most)
+        (by_host M C Who End f after [] [] most n quiet who does tt
+        (left M C Who End after [] [] most (rest after k.new k.shows refl refl)))
+
+    module _ (ask : Frame) (asks : HostStep M C n x (sending ask) x) where
+      abbrev asked : Fleet S
+      asked = record { hosts = slice_set f.hosts n x; outside = f.outside; sent = f.sent ++ ask ∷ [] }
+
+      does_ask : FleetStep M C f (OfHost n (sending ask)) asked
+      does_ask = HostActs n x x (sending ask) there tt asks
+
+      asked_shown : Followed M C w asked
+      asked_shown = followed M C laws copies f asked w (OfHost n (sending ask)) h does_ask
+
+      same_hosts : slice_set f.hosts n x ≡ f.hosts
+      same_hosts = set_get f.hosts n x there
+
+      -- a host asks, or says, the outside answers, or passes it on, and a host takes the answer
+      module _ (answer : Frame) (o : Outside) (answers : OutsideStep M f.outside (answering ask answer) o) (m : ℕ)
+          (y z : Node S) (there_y : slice_get f.hosts m ≡ Some y) (who_y : Who m)
+          (hears : HostStep M C m y (taking answer) z) where
+        abbrev answered : Fleet S
+        answered = record { hosts = slice_set f.hosts n x; outside = o; sent = (f.sent ++ ask ∷ []) ++ answer ∷ [] }
+
+        abbrev heard : Fleet S
+        heard = record {
+          hosts = slice_set (slice_set f.hosts n x) m z;
+          outside = o;
+          sent = ((f.sent ++ ask ∷ []) ++ answer ∷ []) ++ [];
+        }
+
+        does_answer : FleetStep M C asked (OfOutside (answering ask answer)) answered
+        does_answer = OutsideActs o (answering ask answer) (last-sent ask f.sent) answers
+
+        does_hear : FleetStep M C answered (OfHost m (taking answer)) heard
+        does_hear = HostActs m y z (taking answer) (ap (λ l. slice_get l m) same_hosts ∙ there_y)
+            (last-sent answer (f.sent ++ ask ∷ [])) hears
+
+        pub in_three : Then (slice_set f.hosts m z) o most → HostsReach M C f Who (suc (suc (suc most))) End
+        in_three rest =
+            let a = asked_shown in
+            let b = followed M C laws copies asked answered a.new (OfOutside (answering ask answer)) a.shows does_answer in
+            let c = followed M C laws copies answered heard b.new (OfHost m (taking answer)) b.shows does_hear in
+            whole M C Who End f (suc (suc (suc most)))
+            (by_host M C Who End f asked [] [] (suc (suc most)) n (sending ask) who does_ask tt
+            (by_outside M C Who End asked answered (ask ∷ []) [] (suc most) (answering ask answer)
+            (takes_one (answering ask answer) ask [] refl) does_answer (last-sent ask [])
+            (by_host M C Who End answered heard (ask ∷ []) (answer ∷ []) most m (taking answer) who_y does_hear
+            (last-sent answer [])
+            (left M C Who End heard (ask ∷ []) (answer ∷ []) most
+            (rest heard c.new c.shows (ap (λ l. slice_set l m z) same_hosts) refl)))))
+
+      -- a host says something, and the outside takes it
+      module _ (o : Outside) (hears : OutsideStep M f.outside (taking ask) o) where
+        abbrev given : Fleet S
+        given = record { hosts = slice_set f.hosts n x; outside = o; sent = (f.sent ++ ask ∷ []) ++ [] }
+
+        does_give : FleetStep M C asked (OfOutside (taking ask)) given
+        does_give = OutsideActs o (taking ask) (last-sent ask f.sent) hears
+
+        pub in_two : Then f.hosts o most → HostsReach M C f Who (suc (suc most)) End
+        in_two rest =
+            let a = asked_shown in
+            let b = followed M C laws copies asked given a.new (OfOutside (taking ask)) a.shows does_give in
+            whole M C Who End f (suc (suc most))
+            (by_host M C Who End f asked [] [] (suc most) n (sending ask) who does_ask tt
+            (by_outside M C Who End asked given (ask ∷ []) [] most (taking ask)
+            (takes_one (taking ask) ask [] refl) does_give (last-sent ask [])
+            (left M C Who End given (ask ∷ []) [] most (rest given b.new b.shows same_hosts refl))))
+
+    -- the outside tells a host something
+    module _ (say : Frame) (says : OutsideStep M f.outside (sending say) f.outside) (y : Node S)
+        (hears : HostStep M C n x (taking say) y) where
+      abbrev said : Fleet S
+      said = record { hosts = f.hosts; outside = f.outside; sent = f.sent ++ say ∷ [] }
+
+      abbrev told : Fleet S
+      told = record { hosts = slice_set f.hosts n y; outside = f.outside; sent = (f.sent ++ say ∷ []) ++ [] }
+
+      does_say : FleetStep M C f (OfOutside (sending say)) said
+      does_say = OutsideActs f.outside (sending say) tt says
+
+      does_take : FleetStep M C said (OfHost n (taking say)) told
+      does_take = HostActs n x y (taking say) there (last-sent say f.sent) hears
+
+      pub is_told : Then (slice_set f.hosts n y) f.outside most → HostsReach M C f Who (suc (suc most)) End
+      is_told rest =
+          let a = followed M C laws copies f said w (OfOutside (sending say)) h does_say in
+          let b = followed M C laws copies said told a.new (OfHost n (taking say)) a.shows does_take in
+          whole M C Who End f (suc (suc most))
+          (by_outside M C Who End f said [] [] (suc most) (sending say) (sends_one (sending say) say [] refl) does_say tt
+          (by_host M C Who End said told [] (say ∷ []) most n (taking say) who does_take (last-sent say [])
+          (left M C Who End told [] (say ∷ []) most (rest told b.new b.shows refl refl))))

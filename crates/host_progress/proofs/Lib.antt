@@ -1,0 +1,4 @@
+pub mod Exchanging
+pub mod Answering
+pub mod Fetching
+pub mod TakingOver
