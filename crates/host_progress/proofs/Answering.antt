@@ -4,6 +4,7 @@ use Rattle.std.specs.Prelude.{slice_get, slice_set}
 use Rattle.pair_protocol.proofs.OneNode.{set_get}
 use Rattle.pair_protocol.proofs.Traces.Lists.{among-right}
 use Rattle.host_law.specs.Frame.{answering, quiet, sending, taking}
+use Rattle.host_law.specs.Outside as outside
 use Rattle.host_law.proofs.Interleaving.{followed}
 use Rattle.host_law.proofs.Words.{Act, Among, Came, Copying, Fleet, FleetStep, Followed, Frame, HostActs, HostStep, IsCopying, Lawful, Machine, Node, OfHost, OfOutside, Outside, OutsideActs, OutsideStep, Shows, World}
 use Rattle.host_progress.specs.Exchanges.{HostsReach}
@@ -129,3 +130,63 @@ module _ {S : Type 0} (M : Machine S) (C : Copying S) (laws : Lawful M) (copies 
           (by_outside M C Who End f said [] [] (suc most) (sending say) (sends_one (sending say) say [] refl) does_say tt
           (by_host M C Who End said told [] (say ∷ []) most n (taking say) who does_take (last-sent say [])
           (left M C Who End told [] (say ∷ []) most (rest told b.new b.shows refl refl))))
+
+    -- the outside offers a host something, which it answers; that is passed on, and a host takes it
+    module _ (offer : Frame) (offers : OutsideStep M f.outside (sending offer) f.outside) (answer : Frame) (y : Node S)
+        (answers : HostStep M C n x (answering offer answer) y) (m : ℕ) (z u : Node S)
+        (there_z : slice_get (slice_set f.hosts n y) m ≡ Some z) (who_z : Who m)
+        (hears : HostStep M C m z (taking answer) u) where
+      abbrev offered : Fleet S
+      offered = record { hosts = f.hosts; outside = f.outside; sent = f.sent ++ offer ∷ [] }
+
+      abbrev begun : Fleet S
+      begun = record {
+        hosts = slice_set f.hosts n y;
+        outside = f.outside;
+        sent = (f.sent ++ offer ∷ []) ++ answer ∷ [];
+      }
+
+      abbrev passed_on : Fleet S
+      passed_on = record {
+        hosts = slice_set f.hosts n y;
+        outside = f.outside;
+        sent = ((f.sent ++ offer ∷ []) ++ answer ∷ []) ++ answer ∷ [];
+      }
+
+      abbrev joined : Fleet S
+      joined = record {
+        hosts = slice_set (slice_set f.hosts n y) m u;
+        outside = f.outside;
+        sent = (((f.sent ++ offer ∷ []) ++ answer ∷ []) ++ answer ∷ []) ++ [];
+      }
+
+      does_offer : FleetStep M C f (OfOutside (sending offer)) offered
+      does_offer = OutsideActs f.outside (sending offer) tt offers
+
+      does_begin : FleetStep M C offered (OfHost n (answering offer answer)) begun
+      does_begin = HostActs n x y (answering offer answer) there (last-sent offer f.sent) answers
+
+      does_pass : FleetStep M C begun (OfOutside (answering answer answer)) passed_on
+      does_pass = OutsideActs f.outside (answering answer answer) (last-sent answer (f.sent ++ offer ∷ []))
+          (outside.Passes answer)
+
+      does_join : FleetStep M C passed_on (OfHost m (taking answer)) joined
+      does_join = HostActs m z u (taking answer) there_z (last-sent answer ((f.sent ++ offer ∷ []) ++ answer ∷ [])) hears
+
+      pub in_four : Then (slice_set (slice_set f.hosts n y) m u) f.outside most →
+          HostsReach M C f Who (suc (suc (suc (suc most)))) End
+      in_four rest =
+          let a = followed M C laws copies f offered w (OfOutside (sending offer)) h does_offer in
+          let b = followed M C laws copies offered begun a.new (OfHost n (answering offer answer)) a.shows does_begin in
+          let c = followed M C laws copies begun passed_on b.new (OfOutside (answering answer answer)) b.shows does_pass in
+          let d = followed M C laws copies passed_on joined c.new (OfHost m (taking answer)) c.shows does_join in
+          whole M C Who End f (suc (suc (suc (suc most))))
+          (by_outside M C Who End f offered [] [] (suc (suc (suc most))) (sending offer) (sends_one (sending offer) offer [] refl)
+          does_offer tt
+          (by_host M C Who End offered begun [] (offer ∷ []) (suc (suc most)) n (answering offer answer) who does_begin
+          (last-sent offer [])
+          (by_outside M C Who End begun passed_on (answer ∷ []) (offer ∷ []) (suc most) (answering answer answer)
+          (takes_one (answering answer answer) answer [] refl) does_pass (last-sent answer [])
+          (by_host M C Who End passed_on joined (answer ∷ []) (offer ∷ answer ∷ []) most m (taking answer) who_z does_join
+          (last-sent answer (offer ∷ []))
+          (left M C Who End joined (answer ∷ []) (offer ∷ answer ∷ []) most (rest joined d.new d.shows refl refl))))))

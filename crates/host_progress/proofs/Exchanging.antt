@@ -39,7 +39,7 @@ none-came (frame ∷ frames) h = absurd h.0
 
 module _ {S : Type 0} (M : Machine S) (C : Copying S) where
   -- what may be done while less was sent may be done while more was
-  widened : (f last : Fleet S) (up down more_up more_down : List Frame) (deeds : List Deed) → Within up more_up →
+  pub widened : (f last : Fleet S) (up down more_up more_down : List Frame) (deeds : List Deed) → Within up more_up →
       Within down more_down → Exchanged M C f up down deeds last → Exchanged M C f more_up more_down deeds last
   widened f last up down more_up more_down deeds u d Ends = Ends
   widened f last up down more_up more_down _ u d (ByHost {mid = mid} {deeds = deeds} n act step came rest) =

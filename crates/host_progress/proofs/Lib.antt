@@ -6,3 +6,6 @@ pub mod Completing
 pub mod Showing
 pub mod Resting
 pub mod CatchingUp
+pub mod Joining
+pub mod Renewing
+pub mod Recovering

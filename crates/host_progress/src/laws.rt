@@ -1,7 +1,36 @@
-//! What processes can always do next. Nothing here runs.
+//! What processes can always do next, for any lawful machine and any copy of it. Nothing here runs.
+ghost use Rattle.pair_progress.specs.Always.{AsksNothing, AsksParts, AsksResponse};
 ghost use Rattle.host_progress.specs.Exchanges.{FirstWaitsForNobody};
+ghost use Rattle.host_progress.specs.Laws.{HostsCatchUp, HostsComplete, HostsCompleteSoon, HostsRecover, HostsRenew, HostsTakeOver, OfFleets, ProcessesJoin};
 
-/// Such a list begins with a step that takes no frame: no circle of processes waits for itself.
+/// No such list begins with a step that waits for a frame; so no circle of processes waits for itself.
 pub fn first_steps_wait_for_nobody<S>()
     ensures { FirstWaitsForNobody S }
+{}
+
+/// Whatever was lost before: a host that is up and whole, and whose generation the arbiter has given to no other, goes live by
+/// steps of its own, of arbiter and disk.
+pub fn whole_hosts_take_over<S>()
+    ensures { OfFleets S AsksNothing HostsTakeOver }
+{}
+
+/// Whatever was lost before: four steps for each operation that is outstanding at a live host, and at most 160, lead to a
+/// world in which nothing is outstanding, each terminal has accepted the whole output, and the disk is the machine's own.
+pub fn live_hosts_complete<S>()
+    ensures completes { OfFleets S AsksResponse HostsComplete }
+    ensures soon { OfFleets S AsksResponse HostsCompleteSoon }
+    ensures recovers { OfFleets S AsksResponse HostsRecover }
+{}
+
+/// Whatever was lost before: while the hosts of primary and backup are what they were, all that is logged can be held and
+/// acknowledged.
+pub fn pairs_of_hosts_catch_up<S>()
+    ensures { OfFleets S AsksNothing HostsCatchUp }
+{}
+
+/// Whatever was lost before: a host that has heard that it joins becomes the backup; and a live host and the spare of the next
+/// generation's number become a whole pair.
+pub fn hosts_renew<S>()
+    ensures joins { OfFleets S AsksParts ProcessesJoin }
+    ensures renews { OfFleets S AsksParts HostsRenew }
 {}
