@@ -9,3 +9,5 @@ pub mod CatchingUp
 pub mod Joining
 pub mod Renewing
 pub mod Recovering
+pub mod Replaying
+pub mod Settling
