@@ -30,7 +30,7 @@ pub passes_at : {S : Type 0} (x : Node S) (r : Role) (part : Node S → Option F
 passes_at x r part role real free = at_here (Some x) x part refl (not_spare x.role r role real) free
 
 -- the disk answers with its record
-reads_as : {S : Type 0} (M : Machine S) (o : Outside) (puts : List SectorWrite) (address : SectorAddress) → o.puts ≡ puts →
+pub reads_as : {S : Type 0} (M : Machine S) (o : Outside) (puts : List SectorWrite) (address : SectorAddress) → o.puts ≡ puts →
     OutsideStep M o
     (answering (AsksSector address)
     (Carries (SectorRead address (sector_record M puts address).number (sector_record M puts address).bytes))) o

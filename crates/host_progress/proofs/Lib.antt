@@ -11,3 +11,6 @@ pub mod Renewing
 pub mod Recovering
 pub mod Replaying
 pub mod Settling
+pub mod OfAltairs
+pub mod Going
+pub mod Reading

@@ -54,7 +54,7 @@ module _ {S : Type 0} (M : Machine S) (C : Copying S) (laws : Lawful M) (copies 
         runs = at.runs;
       }
 
-  there_in : (f : Fleet S) (w : World S) → Shows M C f w → (live : IsLive w n generation) →
+  pub there_in : (f : Fleet S) (w : World S) → Shows M C f w → (live : IsLive w n generation) →
       slice_get f.hosts n ≡ Some live.x
   there_in f w h live = host_there M C f w h n live.x live.there (λ e. alone_joins live.x live.alone e)
 

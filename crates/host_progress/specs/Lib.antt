@@ -2,3 +2,5 @@
 pub mod Exchanges
 -- Which lists of them there are.
 pub mod Laws
+-- The Altair's.
+pub mod Altairs

@@ -1,7 +1,7 @@
 //! What processes can always do next, for any lawful machine and any copy of it. Nothing here runs.
-ghost use Rattle.pair_progress.specs.Always.{AsksNothing, AsksParts, AsksResponse};
+ghost use Rattle.pair_progress.specs.Always.{AsksNothing, AsksParts, AsksResponse, AsksSectors};
 ghost use Rattle.host_progress.specs.Exchanges.{FirstWaitsForNobody};
-ghost use Rattle.host_progress.specs.Laws.{HostsCatchUp, HostsComplete, HostsCompleteSoon, HostsRecover, HostsRenew, HostsTakeOver, OfFleets, ProcessesJoin};
+ghost use Rattle.host_progress.specs.Laws.{HostsCatchUp, HostsComplete, HostsCompleteSoon, HostsGetParts, HostsGoOn, HostsRead, HostsRecover, HostsRenew, HostsSettle, HostsTakeKeys, HostsTakeOver, OfFleets};
 
 /// No such list begins with a step that waits for a frame; so no circle of processes waits for itself.
 pub fn first_steps_wait_for_nobody<S>()
@@ -28,9 +28,22 @@ pub fn pairs_of_hosts_catch_up<S>()
     ensures { OfFleets S AsksNothing HostsCatchUp }
 {}
 
+/// And all that is logged can be held, replayed and acknowledged, and all that is outstanding completed.
+pub fn pairs_of_hosts_settle<S>()
+    ensures { OfFleets S AsksResponse HostsSettle }
+{}
+
 /// Whatever was lost before: a host that has heard that it joins becomes the backup; and a live host and the spare of the next
 /// generation's number become a whole pair.
 pub fn hosts_renew<S>()
-    ensures joins { OfFleets S AsksParts ProcessesJoin }
+    ensures joins { OfFleets S AsksParts HostsGetParts }
     ensures renews { OfFleets S AsksParts HostsRenew }
+{}
+
+/// Whatever was lost before: a live host makes a step whenever its guest does, takes the next key that was typed, and, where
+/// nothing is outstanding, a sector that is due.
+pub fn live_hosts_go_on<S>()
+    ensures steps { OfFleets S AsksResponse HostsGoOn }
+    ensures keys { OfFleets S AsksResponse HostsTakeKeys }
+    ensures reads { OfFleets S AsksSectors HostsRead }
 {}
