@@ -1,14 +1,14 @@
 -- What is asked and answered, told, or released: a host's step, the outside's and a host's, and then others.
-use Rattle.std.proofs.Common.{◌≡◌, ℕ, suc, ◌+◌, ◌≤◌, inl, inr, Some, List, [], ◌∷◌, ◌++◌, length, refl, sym, ap, subst, ◌∙◌, arith}
+use Rattle.std.proofs.Common.{◌≡◌, ℕ, suc, inl, Some, List, [], ◌∷◌, ◌++◌, refl, sym, ap, ◌∙◌}
 use Rattle.std.specs.Prelude.{slice_get, slice_set}
 use Rattle.pair_protocol.proofs.OneNode.{set_get}
 use Rattle.pair_protocol.proofs.Traces.Lists.{among-right}
 use Rattle.host_law.specs.Frame.{answering, quiet, sending, taking}
 use Rattle.host_law.specs.Outside as outside
 use Rattle.host_law.proofs.Interleaving.{followed}
-use Rattle.host_law.proofs.Words.{Act, Among, Came, Copying, Fleet, FleetStep, Followed, Frame, HostActs, HostStep, IsCopying, Lawful, Machine, Node, OfHost, OfOutside, Outside, OutsideActs, OutsideStep, Shows, World}
+use Rattle.host_law.proofs.Words.{Act, Came, Copying, Fleet, FleetStep, Followed, Frame, HostActs, HostStep, IsCopying, Lawful, Machine, Node, OfHost, OfOutside, Outside, OutsideActs, OutsideStep, Shows, World}
 use Rattle.host_progress.specs.Exchanges.{HostsReach}
-use Rattle.host_progress.proofs.Exchanging.{Left, by_host, by_outside, left, whole}
+use Rattle.host_progress.proofs.Exchanging.{by_host, by_outside, left, whole}
 
 -- the frame that was sent last
 pub last-sent : (frame : Frame) (before : List Frame) → Came (frame ∷ []) (before ++ frame ∷ [])

@@ -1,29 +1,26 @@
 -- The primary's host sends what its backup's lacks, entry by entry, by the outside, and the other acknowledges them all.
-use Rattle.std.proofs.Common.{◌≡◌, ℕ, zero, suc, ◌+◌, ◌-◌, ◌*◌, ◌≤◌, inl, inr, true, not, max, Option, Some, None, List, [], ◌∷◌, length, length-append, refl, sym, ap, ◌∙◌, arith, eq-eqb}
+use Rattle.std.proofs.Common.{◌≡◌, ℕ, zero, suc, ◌+◌, ◌*◌, ◌≤◌, inl, inr, true, not, Some, [], ◌∷◌, length, length-append, refl, sym, ap, ◌∙◌, arith, eq-eqb}
 use Rattle.std.specs.Prelude.{nat_lt, slice_get, slice_set}
 use Rattle.std.proofs.lemmas.Option.{slice_get_cases}
-use Rattle.pair_protocol.proofs.Words.{Acknowledgement, Backup, Copying, Entry, IsCopying, Lawful, LogEntry, Machine, Node, Primary, World, hears, holds, replay_told, winner_in}
-use Rattle.pair_protocol.specs.Refusals.{acknowledge_refusal, deliver_acknowledgement_refusal, deliver_log_refusal, send_refusal}
+use Rattle.i8080_words.specs.declared.refusal.Fault.TheVariants.{BadAck, WrongGeneration}
+use Rattle.pair_protocol.proofs.Words.{Acknowledgement, Backup, Copying, Entry, IsCopying, Lawful, LogEntry, Machine, Node, Primary, World, hears, holds, replay_told}
+use Rattle.pair_protocol.specs.Refusals.{acknowledge_refusal, at_node, deliver_acknowledgement_refusal, deliver_log_refusal, fault_if, first_of, generation_refusal, role_refusal, send_refusal}
 use Rattle.pair_protocol.proofs.Traces.Lists.{get_set, get_set_other}
 use Rattle.pair_progress.specs.CatchingUp.{IsCaughtUp, IsPair, lacks}
 use Rattle.pair_progress.proofs.CatchingUp as catching
-use Rattle.host_law.specs.Frame.{answering, sending, taking}
-use Rattle.host_law.specs.Host as host
+use Rattle.pair_progress.proofs.Completing.{not_less}
+use Rattle.pair_progress.proofs.Passing.{acts_first, in_role, passed}
 use Rattle.host_law.specs.Host.{Passes}
+use Rattle.host_law.specs.Host as host
 use Rattle.host_law.specs.Outside as outside
 use Rattle.host_law.proofs.Following.{node-there}
-use Rattle.host_law.proofs.Words.{Carries, Fleet, HostStep, Shows}
+use Rattle.host_law.proofs.Words.{Carries, Fleet, Shows}
 use Rattle.host_progress.specs.Exchanges.{HostsReach}
 use Rattle.host_progress.specs.Laws.{Either}
 use Rattle.host_progress.proofs.Answering.{in_three}
 use Rattle.host_progress.proofs.Exchanging.{at_most, is_there}
-use Rattle.host_progress.proofs.Showing.{backup_joins, backup_real, host_there, nobody_won, primary_joins, primary_real}
 use Rattle.host_progress.proofs.Fetching.{passes_at}
-use Rattle.pair_protocol.specs.Refusals.{at_node, fault_if, first_of, generation_refusal, role_refusal}
-use Rattle.pair_progress.proofs.Passing.{acts_first, in_role, passed}
-use Rattle.pair_progress.proofs.Completing.{not_less}
-use Rattle.i8080_words.specs.declared.refusal.Fault.TheVariants.{BadAck, WrongGeneration}
-use Rattle.host_progress.proofs.Answering.{Then}
+use Rattle.host_progress.proofs.Showing.{backup_joins, backup_real, host_there, nobody_won, primary_joins, primary_real}
 
 module _ {S : Type 0} (M : Machine S) (C : Copying S) (laws : Lawful M) (copies : IsCopying M C) (n m generation : ℕ) where
   -- the hosts of a whole pair

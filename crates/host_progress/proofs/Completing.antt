@@ -1,7 +1,7 @@
 -- A host that serves completes one outstanding operation: the byte that is due, or a write.
-use Rattle.std.proofs.Common.{◌≡◌, ◌≢◌, ℕ, suc, ◌+◌, ◌<◌, ◌≤◌, inl, inr, Bool, true, false, cond, not, Option, Some, None, is_none, List, [], ◌∷◌, ◌++◌, length, length-append, refl, sym, ap, ◌∙◌, arith, eq-eqb}
-use Rattle.std.specs.Prelude.{slice_get, slice_set, ◌==◌, ◌||◌, nat_lt}
+use Rattle.std.proofs.Common.{◌≡◌, ◌≢◌, ℕ, suc, ◌+◌, ◌<◌, ◌≤◌, inl, inr, false, cond, not, Option, Some, None, is_none, List, [], ◌∷◌, ◌++◌, length, length-append, refl, ap, ◌∙◌, arith, eq-eqb}
 use Rattle.std.specs.Option.{option_map}
+use Rattle.std.specs.Prelude.{slice_get, slice_set}
 use Rattle.std.proofs.lemmas.Bool.Decides.{leb_tells}
 use Rattle.disk_dcdd.specs.declared.sector.SectorWrite.{SectorWrite}
 use Rattle.event_callbacks.specs.declared.operations.OpId.TheVariants as id
@@ -10,18 +10,17 @@ use Rattle.guest_lockstep.specs.Outstanding.{completed_by}
 use Rattle.guest_lockstep.specs.declared.input.Input.TheVariants as input
 use Rattle.i8080_words.specs.declared.refusal.Fault.TheVariants.{NotDue, WrongNumber}
 use Rattle.pair_protocol.proofs.Words.{Byte, Copying, Input, IsCopying, Lawful, Machine, Move, Node, OpId, Operation, Released, Runs, Spare, Terminal, World, Write, WriteDone, acceptances, accepted, accepted_after, accepted_in, id_of, inputs, is_role, terminal_in}
-use Rattle.pair_protocol.specs.Effects.{Took, took}
-use Rattle.pair_protocol.specs.Refusals.{at_node, fault_if, is_number, log_full, log_spent, put_reply_refusal, release_refusal, serves, tell_sent_refusal}
+use Rattle.pair_protocol.specs.Effects.{took}
+use Rattle.pair_protocol.specs.Refusals.{fault_if, is_number, log_full, log_spent, put_reply_refusal, release_refusal, serves, tell_sent_refusal}
 use Rattle.pair_protocol.proofs.Promises.OneMore.{accepted-one, next_byte, terminal-set}
-use Rattle.pair_protocol.proofs.Traces.Lists.{get_set}
 use Rattle.pair_progress.specs.Completion.{Responds}
 use Rattle.pair_progress.proofs.Passing.{at_here, passed}
-use Rattle.host_law.specs.Frame.{answering, sending, taking}
-use Rattle.host_law.specs.Host as host
+use Rattle.host_law.specs.Frame.{sending}
 use Rattle.host_law.specs.Host.{HasPort, Passes}
-use Rattle.host_law.specs.Outside as outside
+use Rattle.host_law.specs.Host as host
 use Rattle.host_law.specs.Outside.{with_arrived}
-use Rattle.host_law.proofs.Words.{AreAccepted, Carries, Fleet, Frame, HostStep, Outside, OutsideStep, Shows}
+use Rattle.host_law.specs.Outside as outside
+use Rattle.host_law.proofs.Words.{AreAccepted, Carries, Fleet, HostStep, Outside, Shows}
 use Rattle.host_progress.specs.Exchanges.{HostsReach}
 use Rattle.host_progress.proofs.Answering.{in_three, in_two, is_told}
 use Rattle.host_progress.proofs.Exchanging.{at_most}
@@ -126,7 +125,7 @@ module _ {S : Type 0} (M : Machine S) (C : Copying S) (laws : Lawful M) (copies 
         let old = accepted_in ts port in
         let inside : port < length ts = let e = h.terminals.ports in omega (arith, e, two) in
         let all : accepted_in (with_arrived f.outside port k byte).terminals port
-            ≡ old ++ next_byte (length old) (record { number = k; byte = byte }) =
+        ≡ old ++ next_byte (length old) (record { number = k; byte = byte }) =
         ap (λ (t : Terminal). accepted_after 0 t.arrivals) (terminal-set ts port
         (record (terminal_in ts port) { arrivals = (terminal_in ts port).arrivals ++ record { number = k; byte = byte } ∷ [] })
         inside)

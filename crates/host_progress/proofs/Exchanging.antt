@@ -1,12 +1,9 @@
 -- Steps of processes, one after another: an answer to what was asked, and what is told or released. Each leads to a fleet that
 -- shows some world, whatever went before.
-use Rattle.std.proofs.Common.{◌≡◌, ℕ, suc, ◌+◌, ◌≤◌, inl, inr, Some, List, [], ◌∷◌, ◌++◌, length, refl, sym, ap, subst, ◌∙◌, arith}
-use Rattle.std.specs.Prelude.{slice_get, slice_set}
-use Rattle.pair_protocol.proofs.OneNode.{set_get}
+use Rattle.std.proofs.Common.{◌≡◌, ℕ, suc, ◌≤◌, inl, inr, List, [], ◌∷◌, ◌++◌, length, refl, arith}
 use Rattle.pair_protocol.proofs.Traces.Lists.{among-right, among-split}
-use Rattle.host_law.specs.Frame.{answering, quiet, sending, taking}
-use Rattle.host_law.proofs.Interleaving.{followed}
-use Rattle.host_law.proofs.Words.{Act, Among, Came, Copying, Deed, Fleet, FleetStep, Followed, Frame, HostActs, HostStep, IsCopying, Lawful, Machine, MayBegin, Node, OfHost, OfOutside, Outside, OutsideActs, OutsideStep, Shows, World, act_of}
+use Rattle.host_law.specs.Frame.{quiet}
+use Rattle.host_law.proofs.Words.{Act, Among, Came, Copying, Deed, Fleet, FleetStep, Frame, Machine, OfHost, OfOutside, Shows, World, act_of}
 use Rattle.host_progress.specs.Exchanges.{AreOf, ByHost, ByOutside, Ends, Exchanged, HostsReach}
 
 -- ---- frames

@@ -1,13 +1,13 @@
 -- A host that waits for a sector asks the disk for it, and the answer is the one that it waits for.
-use Rattle.std.proofs.Common.{◌≡◌, ℕ, suc, ◌+◌, ◌≤◌, inl, inr, true, false, not, Option, Some, None, is_none, List, [], ◌∷◌, refl, sym, ap, subst, ◌∙◌, eq-eqb}
+use Rattle.std.proofs.Common.{◌≡◌, ℕ, suc, ◌≤◌, inl, inr, true, false, not, Option, Some, None, is_none, List, [], ◌∷◌, refl, sym, ap, subst, ◌∙◌, eq-eqb}
 use Rattle.std.specs.Prelude.{slice_get, slice_set, ◌==◌}
+use Rattle.disk_dcdd.proofs.Addresses.{same_address-refl}
 use Rattle.disk_dcdd.specs.declared.address.SectorAddress.{SectorAddress}
 use Rattle.disk_dcdd.specs.declared.sector.SectorWrite.{SectorWrite}
-use Rattle.disk_dcdd.proofs.Addresses.{same_address-refl}
 use Rattle.i8080_words.specs.declared.refusal.Fault.{Fault}
 use Rattle.i8080_words.specs.declared.refusal.Fault.TheVariants.{NotDue, StaleRead}
 use Rattle.pair_protocol.proofs.Words.{Acts, Backup, Copying, Draining, IsCopying, Lawful, Machine, Node, Replaying, Role, SectorRead, SectorRecord, Spare, World, fetches, is_role, same_address, sector_record}
-use Rattle.pair_protocol.specs.Effects.{Wants, wanted}
+use Rattle.pair_protocol.specs.Effects.{wanted}
 use Rattle.pair_protocol.specs.ReadsKept.{StillReplays}
 use Rattle.pair_protocol.specs.Refusals.{fault_if, fetch_refusal, fetched_refusal, first_of, role_refusal, unwanted}
 use Rattle.pair_protocol.proofs.Promises.Faithful.{reached}
@@ -16,11 +16,11 @@ use Rattle.pair_progress.proofs.Acting.{record_kept}
 use Rattle.pair_progress.proofs.Fetching.{Waiting, answered_fewer}
 use Rattle.pair_progress.proofs.Passing.{acts_first, acts_later, at_here, in_role, not_spare, passed}
 use Rattle.host_law.specs.Frame.{answering, sending, taking}
-use Rattle.host_law.specs.Host as host
 use Rattle.host_law.specs.Host.{Passes}
+use Rattle.host_law.specs.Host as host
 use Rattle.host_law.specs.Outside as outside
 use Rattle.host_law.proofs.Following.{node-there}
-use Rattle.host_law.proofs.Words.{AsksSector, Carries, Fleet, Frame, HostStep, Outside, OutsideStep, Shows}
+use Rattle.host_law.proofs.Words.{AsksSector, Carries, Fleet, HostStep, Outside, OutsideStep, Shows}
 use Rattle.host_progress.specs.Exchanges.{HostsReach}
 use Rattle.host_progress.proofs.Answering.{Then, in_three}
 

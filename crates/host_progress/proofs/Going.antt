@@ -1,43 +1,32 @@
 -- A live host makes a step if its guest does, takes the next key that was typed, and reads a sector that is due.
-use Rattle.std.proofs.Common.{◌≡◌, ℕ, suc, ◌<◌, ◌≤◌, ◌⊎◌, inl, inr, false, true, cond, not, Option, Some, None, is_none, List, [], ◌∷◌, length, refl, sym, ap, subst, ◌∙◌, arith, eq-eqb}
+use Rattle.std.proofs.Common.{◌≡◌, ℕ, ◌<◌, inr, false, true, not, Option, Some, None, is_none, [], refl, sym, ap, subst, ◌∙◌, arith, eq-eqb}
 use Rattle.std.specs.Prelude.{slice_get, slice_set, ◌==◌, nat_le}
-use Rattle.disk_dcdd.specs.declared.address.SectorAddress.{SectorAddress}
-use Rattle.disk_dcdd.proofs.Addresses.{same_address-refl}
-use Rattle.guest_lockstep.specs.Machine.{refusal_of, sector_refusal}
-use Rattle.guest_lockstep.specs.declared.input.Input.TheVariants.{Rx, Sector}
-use Rattle.i8080_words.specs.declared.refusal.Fault.TheVariants.{NotDue, SectorBusy, Spent, StaleRead, WrongNumber}
-use Rattle.pair_protocol.proofs.Words.{Alone, Copying, IsCopying, Lawful, Machine, Node, SectorRead, SectorRecord, World, Among, IsUnwritten, IsWritten, Operation, SectorWrite, Write, address_of, alone_takes, plainly_steps, same_address, sector_record, terminal, terminal_in}
 use Rattle.event_callbacks.specs.Operations.{id_of}
-use Rattle.event_callbacks.specs.declared.operations.OpId.TheVariants as id
+use Rattle.guest_lockstep.specs.declared.input.Input.TheVariants.{Rx}
 use Rattle.guest_lockstep.specs.declared.running.StopReason.{StopReason}
 use Rattle.guest_lockstep.specs.declared.running.StopReason.TheVariants as reason
-use Rattle.i8080_words.specs.declared.refusal.Fault.TheVariants.{Idle}
-use Rattle.host_law.specs.Frame.{quiet, sending, taking}
-use Rattle.host_law.proofs.Words.{HostStep}
-use Rattle.pair_protocol.specs.Effects.{Advances, Gives, Goes, NoneLeft, Stepped, stepped, took}
-use Rattle.pair_protocol.proofs.Invariant.{Inv}
-use Rattle.pair_protocol.proofs.Keeps.Disk.{AsBefore, LatestIs, OfPut, latest_all, latest_is}
-use Rattle.pair_progress.proofs.Resting.{none_and_some}
+use Rattle.i8080_words.specs.declared.refusal.Fault.TheVariants.{Idle, Spent, WrongNumber}
+use Rattle.pair_protocol.proofs.Words.{Alone, Copying, IsCopying, Lawful, Machine, Node, World, Operation, alone_takes, plainly_steps, terminal}
+use Rattle.pair_protocol.specs.Effects.{Advances, Gives, Goes, NoneLeft, stepped, took}
 use Rattle.pair_protocol.specs.Lawful.{top}
-use Rattle.pair_protocol.specs.Refusals.{fault_if, first_of, get_refusal, get_reply_refusal, keys_spent, log_full, log_spent, serves, step_refusal, take_key_refusal}
+use Rattle.pair_protocol.specs.Refusals.{fault_if, keys_spent, log_full, log_spent, serves, step_refusal, take_key_refusal}
 use Rattle.pair_protocol.proofs.Keeps.Alone.{AloneAt, alone}
 use Rattle.pair_protocol.proofs.Promises.Faithful.{reached}
 use Rattle.pair_protocol.proofs.Traces.Lists.{get_set}
-use Rattle.pair_progress.specs.Completion.{IsAtRest, Responds}
-use Rattle.pair_progress.specs.Reading.{HasTaken, IsDue, ReadsSectors}
+use Rattle.pair_progress.specs.Completion.{Responds}
 use Rattle.pair_progress.specs.Takeover.{IsLive}
 use Rattle.pair_progress.proofs.Completing.{live_not_full, live_not_spent, live_serves, not_up_to}
 use Rattle.pair_progress.proofs.Passing.{not_if, passed}
-use Rattle.host_law.specs.Host as host
 use Rattle.host_law.specs.Host.{Passes}
+use Rattle.host_law.specs.Host as host
 use Rattle.host_law.specs.Outside as outside
 use Rattle.host_law.proofs.Following.{node-there}
-use Rattle.host_law.proofs.Words.{AsksSector, Carries, Fleet, Key, Shows}
+use Rattle.host_law.proofs.Words.{Fleet, Key, Shows}
 use Rattle.host_progress.specs.Exchanges.{HostsReach}
 use Rattle.host_progress.specs.Laws.{HasKey, HasStepped, Only}
-use Rattle.host_progress.proofs.Answering.{by_itself, in_three, is_told}
+use Rattle.host_progress.proofs.Answering.{by_itself, is_told}
 use Rattle.host_progress.proofs.Exchanging.{is_there}
-use Rattle.host_progress.proofs.Fetching.{passes_at, reads_as}
+use Rattle.host_progress.proofs.Fetching.{passes_at}
 use Rattle.host_progress.proofs.Resting.{there_in}
 use Rattle.host_progress.proofs.Showing.{alone_real}
 

@@ -1,15 +1,14 @@
 -- A host that has heard that it joins is sent the parts that it lacks, by the outside, and is the backup with the last.
-use Rattle.std.proofs.Common.{◌≡◌, ℕ, zero, suc, ◌+◌, ◌*◌, ◌<◌, inl, inr, true, not, Option, Some, None, is_none, List, [], ◌∷◌, length, refl, sym, ap, ◌∙◌, arith, eq-eqb}
+use Rattle.std.proofs.Common.{◌≡◌, ℕ, zero, suc, ◌*◌, ◌<◌, inl, inr, true, not, Option, Some, None, is_none, List, [], ◌∷◌, length, refl, sym, ap, ◌∙◌, arith, eq-eqb}
 use Rattle.std.specs.Prelude.{slice_get, slice_set, ◌||◌}
 use Rattle.std.proofs.lemmas.Option.{slice_get_cases, slice_get_within}
 use Rattle.i8080_words.specs.declared.refusal.Fault.TheVariants.{Unknown, WrongGeneration}
 use Rattle.pair_events.specs.declared.event.Event.TheVariants.{SendPart}
 use Rattle.pair_protocol.proofs.Words.{After, Copying, GetsPart, ImagePart, IsCopying, Joining, Lawful, Machine, Makes, Node, Primary, Reached, World, acts_as, gathered, gets_part, joins, with_message, with_node}
-use Rattle.pair_protocol.specs.Effects.{Comes, Completes, GotPart, HasPart}
+use Rattle.pair_protocol.specs.Effects.{Comes, Completes, GotPart}
 use Rattle.pair_protocol.specs.Joining.{IsGiven}
-use Rattle.pair_protocol.specs.Refusals.{at_node, fault_if, first_of, generation_refusal, has_part, part_comes_refusal, refusal, role_refusal, send_part_refusal}
+use Rattle.pair_protocol.specs.Refusals.{at_node, fault_if, first_of, generation_refusal, has_part, part_comes_refusal, role_refusal, send_part_refusal}
 use Rattle.pair_protocol.specs.Reply.{MessageIs, New, Reply, Whole}
-use Rattle.pair_protocol.specs.Rows as row
 use Rattle.pair_protocol.proofs.Invariant.{Inv}
 use Rattle.pair_protocol.proofs.Invariant.Acting.{ActingBackup, ActingPrimary, acting_backup, acting_primary, line_at}
 use Rattle.pair_protocol.proofs.Keeps.BackupChanges.{joining-gathered}
@@ -23,19 +22,18 @@ use Rattle.pair_progress.proofs.Imaged.{imaged}
 use Rattle.pair_progress.proofs.Leading.{one_reaches}
 use Rattle.pair_progress.proofs.Passing.{acts_first, in_role, not_if, passed}
 use Rattle.pair_progress.proofs.Slots.{one_fewer, open_place, some_missing}
-use Rattle.host_law.specs.Frame.{answering, sending, taking}
-use Rattle.host_law.specs.Host as host
 use Rattle.host_law.specs.Host.{Passes}
+use Rattle.host_law.specs.Host as host
 use Rattle.host_law.specs.Outside as outside
 use Rattle.host_law.proofs.Following.{node-there}
-use Rattle.host_law.proofs.Words.{Carries, Fleet, HostStep, Shows}
+use Rattle.host_law.proofs.Words.{Carries, Fleet, Shows}
 use Rattle.host_progress.specs.Exchanges.{HostsReach}
 use Rattle.host_progress.specs.Laws.{Either}
 use Rattle.host_progress.proofs.Answering.{in_three}
-use Rattle.host_progress.proofs.CatchingUp.{HavePair, shown_pair}
+use Rattle.host_progress.proofs.CatchingUp.{shown_pair}
 use Rattle.host_progress.proofs.Exchanging.{at_most, is_there}
 use Rattle.host_progress.proofs.Fetching.{passes_at}
-use Rattle.host_progress.proofs.Showing.{host_there, joining_real, nobody_won, primary_joins, primary_real}
+use Rattle.host_progress.proofs.Showing.{host_there, joining_real, primary_joins, primary_real}
 
 -- a host has heard that it joins, and lacks some part
 pub record HaveBegun {S : Type 0} (n m generation : ℕ) (f : Fleet S) (x y : Node S) : Type 0 where

@@ -1,10 +1,10 @@
 -- If nothing is outstanding, the disk's record of a sector has the number of the machine's own last completed write of it;
 -- so the answer to a live host is not stale, and the sector is taken.
-use Rattle.std.proofs.Common.{◌≡◌, ℕ, ◌≤◌, ◌⊎◌, inl, inr, true, false, cond, not, Some, None, is_none, List, [], ◌∷◌, refl, sym, ap, subst, ◌∙◌, arith, eq-eqb}
-use Rattle.std.specs.Prelude.{slice_get, slice_set, ◌==◌}
+use Rattle.std.proofs.Common.{◌≡◌, ℕ, ◌≤◌, ◌⊎◌, inl, inr, false, cond, not, Some, None, is_none, [], ◌∷◌, refl, sym, ap, subst, ◌∙◌, arith, eq-eqb}
+use Rattle.std.specs.Prelude.{◌==◌}
+use Rattle.disk_dcdd.proofs.Addresses.{same_address-refl}
 use Rattle.disk_dcdd.specs.declared.address.SectorAddress.{SectorAddress}
 use Rattle.disk_dcdd.specs.declared.sector.SectorWrite.{SectorWrite}
-use Rattle.disk_dcdd.proofs.Addresses.{same_address-refl}
 use Rattle.event_callbacks.specs.declared.operations.OpId.TheVariants as id
 use Rattle.guest_lockstep.specs.Machine.{refusal_of, sector_refusal}
 use Rattle.guest_lockstep.specs.declared.input.Input.TheVariants.{Sector}
@@ -21,8 +21,8 @@ use Rattle.pair_progress.specs.Reading.{HasTaken, IsDue, ReadsSectors}
 use Rattle.pair_progress.proofs.Completing.{live_not_full, live_not_spent, live_serves}
 use Rattle.pair_progress.proofs.Passing.{passed}
 use Rattle.pair_progress.proofs.Resting.{none_and_some}
-use Rattle.host_law.specs.Host as host
 use Rattle.host_law.specs.Host.{Passes}
+use Rattle.host_law.specs.Host as host
 use Rattle.host_law.proofs.Words.{AsksSector, Carries, Fleet, Shows}
 use Rattle.host_progress.specs.Exchanges.{HostsReach}
 use Rattle.host_progress.specs.Laws.{Only}

@@ -1,5 +1,5 @@
 -- First a host goes live, and then it completes.
-use Rattle.std.proofs.Common.{ℕ, ◌+◌, ◌≤◌, List, [], ◌∷◌, ◌++◌, length, length-append, arith}
+use Rattle.std.proofs.Common.{ℕ, ◌+◌, List, [], ◌∷◌, ◌++◌, length-append, arith}
 use Rattle.pair_protocol.proofs.Words.{Copying, IsCopying, Lawful, Machine, Node, World}
 use Rattle.pair_progress.specs.Completion.{IsAtRest, Responds}
 use Rattle.pair_progress.specs.Takeover.{IsLive}

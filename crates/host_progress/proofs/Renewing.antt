@@ -1,5 +1,5 @@
 -- A live host is offered the host of the next generation's number, begins the generation, and sends all parts of its image.
-use Rattle.std.proofs.Common.{◌≡◌, ℕ, suc, ◌+◌, ◌*◌, ◌<◌, inl, inr, Some, None, List, [], ◌∷◌, ◌++◌, length, replicate, refl, sym, ap, subst, ◌∙◌, arith}
+use Rattle.std.proofs.Common.{◌≡◌, ℕ, suc, ◌+◌, ◌*◌, ◌<◌, inl, inr, Some, [], ◌∷◌, refl, sym, ap, ◌∙◌, arith}
 use Rattle.std.specs.Prelude.{slice_get, slice_set, nat_le}
 use Rattle.std.proofs.lemmas.Option.{slice_get_within}
 use Rattle.i8080_words.specs.declared.refusal.Fault.TheVariants.{Spent}
@@ -8,15 +8,13 @@ use Rattle.pair_protocol.specs.Refusals.{begin_pair_refusal, fault_if, first_of,
 use Rattle.pair_protocol.proofs.Traces.Lists.{get_set, get_set_other, same_some}
 use Rattle.pair_progress.specs.Always.{AsksParts}
 use Rattle.pair_progress.specs.CatchingUp.{IsPair}
-use Rattle.pair_progress.specs.Renewal.{missing}
 use Rattle.pair_progress.specs.Takeover.{IsLive}
 use Rattle.pair_progress.proofs.Completing.{not_up_to}
 use Rattle.pair_progress.proofs.Passing.{acts_first, in_role, passed}
 use Rattle.pair_progress.proofs.Renewing.{none_yet}
 use Rattle.pair_progress.proofs.Slots.{all_missing}
-use Rattle.host_law.specs.Frame.{answering, sending, taking}
-use Rattle.host_law.specs.Host as host
 use Rattle.host_law.specs.Host.{Passes, recruit}
+use Rattle.host_law.specs.Host as host
 use Rattle.host_law.specs.Outside as outside
 use Rattle.host_law.proofs.Words.{Fleet, MayBegin, Recruits, Shows}
 use Rattle.host_progress.specs.Exchanges.{HostsReach}
@@ -24,7 +22,7 @@ use Rattle.host_progress.specs.Laws.{Either}
 use Rattle.host_progress.proofs.Answering.{in_four}
 use Rattle.host_progress.proofs.Exchanging.{at_most}
 use Rattle.host_progress.proofs.Fetching.{passes_at}
-use Rattle.host_progress.proofs.Joining.{HaveBegun, fills}
+use Rattle.host_progress.proofs.Joining.{fills}
 use Rattle.host_progress.proofs.Showing.{alone_joins, alone_real, host_there}
 
 pub hosts_renew : {S : Type 0} (M : Machine S) (C : Copying S) → Lawful M → IsCopying M C → AsksParts M C → (f : Fleet S)

@@ -1,14 +1,12 @@
 -- The backup's host replays all that it holds, and asks the disk for what it lacks.
-use Rattle.std.proofs.Common.{◌≡◌, ℕ, zero, suc, ◌+◌, ◌*◌, ◌≤◌, inl, inr, true, Some, None, List, [], ◌∷◌, length, refl, sym, ap, subst, ◌∙◌, arith}
-use Rattle.std.specs.Prelude.{slice_get, slice_set}
+use Rattle.std.proofs.Common.{◌≡◌, ℕ, zero, suc, ◌+◌, ◌*◌, ◌≤◌, inl, inr, None, List, [], ◌∷◌, length, refl, sym, ap, subst, ◌∙◌, arith}
+use Rattle.std.specs.Prelude.{slice_set}
 use Rattle.pair_protocol.proofs.Words.{Backup, Copying, Entry, IsCopying, Lawful, Machine, Node, World, winner_in}
-use Rattle.pair_protocol.specs.Effects.{Replayed, replay_end}
+use Rattle.pair_protocol.specs.Effects.{replay_end}
 use Rattle.pair_protocol.specs.ReadsKept.{StillReplays}
 use Rattle.pair_protocol.specs.Refusals.{replay_refusal}
 use Rattle.pair_protocol.proofs.Promises.Faithful.{reached}
 use Rattle.pair_protocol.proofs.Promises.Settling.{highest_is}
-use Rattle.pair_protocol.proofs.Traces.Lists.{get_set}
-use Rattle.pair_progress.specs.CatchingUp.{IsPair}
 use Rattle.pair_progress.specs.Takeover.{to_fetch}
 use Rattle.pair_progress.proofs.Acting.{undecided_top}
 use Rattle.pair_progress.proofs.Fetching.{Waiting, far_at, waiting}
@@ -16,13 +14,13 @@ use Rattle.pair_progress.proofs.Passing.{acts_first, in_role}
 use Rattle.pair_progress.proofs.Replaying.{Far, moves_some}
 use Rattle.pair_progress.proofs.WholeLog as log
 use Rattle.host_law.specs.Frame.{quiet}
-use Rattle.host_law.specs.Host as host
 use Rattle.host_law.specs.Host.{Passes}
+use Rattle.host_law.specs.Host as host
 use Rattle.host_law.proofs.Words.{Fleet, HostStep, Shows}
 use Rattle.host_progress.specs.Exchanges.{HostsReach}
 use Rattle.host_progress.specs.Laws.{Either}
 use Rattle.host_progress.proofs.Answering.{by_itself}
-use Rattle.host_progress.proofs.CatchingUp.{HavePair, backup_now, have_pair, shown_pair}
+use Rattle.host_progress.proofs.CatchingUp.{HavePair, backup_now, shown_pair}
 use Rattle.host_progress.proofs.Exchanging.{at_most, is_there}
 use Rattle.host_progress.proofs.Fetching.{fetches_it, fewer_left, has_fetched, passes_at}
 use Rattle.host_progress.proofs.Showing.{backup_real}

@@ -1,10 +1,10 @@
 -- One operation after another is completed, until nothing is outstanding at a live host.
-use Rattle.std.proofs.Common.{◌≡◌, ℕ, zero, suc, ◌+◌, ◌*◌, ◌≤◌, inl, inr, true, Option, Some, None, List, [], ◌∷◌, length, refl, sym, ap, ◌∙◌, arith}
+use Rattle.std.proofs.Common.{◌≡◌, ℕ, zero, suc, ◌*◌, ◌≤◌, inl, inr, true, Some, List, length, refl, sym, ap, ◌∙◌, arith}
 use Rattle.std.specs.Prelude.{slice_get, slice_set}
 use Rattle.event_callbacks.proofs.Names.{name_cases}
-use Rattle.pair_protocol.proofs.Words.{Alone, Among, Copying, IsCopying, Lawful, Machine, Node, OpId, Operation, World}
+use Rattle.pair_protocol.proofs.Words.{Alone, Copying, IsCopying, Lawful, Machine, Node, OpId, World}
 use Rattle.pair_protocol.specs.Effects.{took}
-use Rattle.pair_protocol.proofs.Keeps.Alone.{AloneAt, alone}
+use Rattle.pair_protocol.proofs.Keeps.Alone.{alone}
 use Rattle.pair_protocol.proofs.Promises.Faithful.{reached}
 use Rattle.pair_protocol.proofs.Traces.Lists.{get_set}
 use Rattle.pair_progress.specs.Completion.{CoverAll, IsAtRest, Responds}

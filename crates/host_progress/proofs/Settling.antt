@@ -11,7 +11,6 @@ use Rattle.pair_protocol.specs.Lawful.{top}
 use Rattle.pair_protocol.specs.Refusals.{fault_if, log_size, release_refusal, serves}
 use Rattle.pair_protocol.specs.Waiting.{reads_in}
 use Rattle.pair_protocol.proofs.Invariant.Acting.{acting_primary}
-use Rattle.pair_protocol.proofs.Invariant.{Inv}
 use Rattle.pair_protocol.proofs.Keeps.Primary.{primary-runs}
 use Rattle.pair_protocol.proofs.Promises.Faithful.{reached}
 use Rattle.pair_protocol.proofs.Waiting.{no_reads}
@@ -21,8 +20,8 @@ use Rattle.pair_progress.specs.Settling.{IsPairAtRest, reads_left}
 use Rattle.pair_progress.specs.Takeover.{less_fetched, reads_among, to_fetch}
 use Rattle.pair_progress.proofs.Completing.{not_up_to}
 use Rattle.pair_progress.proofs.Names.{count_out, count-length, some_out}
-use Rattle.pair_progress.proofs.Noted as Noted
 use Rattle.pair_progress.proofs.Noted.{all_kept, reads_in-few}
+use Rattle.pair_progress.proofs.Noted as Noted
 use Rattle.pair_progress.proofs.PairExact.{pair_exact}
 use Rattle.pair_progress.proofs.Passing.{acts_first, in_role, not_if, not_spare, passed}
 use Rattle.pair_progress.proofs.Resting.{covered_none, none_and_some}

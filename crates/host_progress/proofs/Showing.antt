@@ -1,8 +1,8 @@
 -- Which host shows a node of the world, and that nobody has won while both nodes of a generation are what they were.
-use Rattle.std.proofs.Common.{◌≡◌, ℕ, ◌⊎◌, inl, inr, Bool, true, false, Option, Some, None, refl, sym, ap, ◌∙◌, arith}
+use Rattle.std.proofs.Common.{◌≡◌, ℕ, ◌⊎◌, inl, inr, true, false, Option, Some, None, refl, sym, ap, ◌∙◌, arith}
 use Rattle.std.specs.Prelude.{slice_get}
 use Rattle.pair_protocol.proofs.Words.{Acts, Alone, Backup, Copying, IsCopying, Joining, Lawful, Machine, Node, Primary, Reached, Role, Spare, World, winner_in}
-use Rattle.pair_protocol.proofs.Invariant.{BackupWon, Inv, LineOf, PrimaryWon, Stage, Undecided, winner_at}
+use Rattle.pair_protocol.proofs.Invariant.{BackupWon, Inv, PrimaryWon, Stage, Undecided, winner_at}
 use Rattle.pair_protocol.proofs.Invariant.Acting.{IsBackupRole, acting_backup, acting_primary}
 use Rattle.pair_protocol.proofs.Promises.Faithful.{reached}
 use Rattle.pair_protocol.proofs.Traces.Lists.{same_some}

@@ -1,10 +1,10 @@
 -- A host that may still serve goes live: it asks the arbiter, drains, and asks the disk for the sectors that it lacks.
-use Rattle.std.proofs.Common.{◌≡◌, ℕ, zero, suc, ◌+◌, ◌*◌, ◌≤◌, ◌⊎◌, inl, inr, Bool, true, false, cond, not, Option, Some, None, List, [], ◌∷◌, length, refl, sym, ap, subst, ◌∙◌, arith}
-use Rattle.std.specs.Prelude.{slice_get, slice_set}
+use Rattle.std.proofs.Common.{◌≡◌, ℕ, zero, suc, ◌+◌, ◌*◌, ◌≤◌, ◌⊎◌, inl, inr, Bool, true, cond, not, Option, Some, None, [], ◌∷◌, length, refl, sym, ap, subst, ◌∙◌, arith}
+use Rattle.std.specs.Prelude.{slice_get}
 use Rattle.guest_lockstep.specs.declared.replay_end.ReplayEnd.{ReplayEnd}
 use Rattle.guest_lockstep.specs.declared.replay_end.ReplayEnd.TheVariants.{End, Wait}
-use Rattle.pair_protocol.proofs.Words.{Alone, Backup, Copying, Draining, IsCopying, Joining, Lawful, Machine, Node, Primary, Role, Spare, World, fetches, goes_live, is_role, winner_in, wins, won_role}
-use Rattle.pair_protocol.specs.Effects.{Drained, after_drain, replay_end}
+use Rattle.pair_protocol.proofs.Words.{Alone, Backup, Copying, Draining, IsCopying, Joining, Lawful, Machine, Node, Primary, Role, Spare, World, goes_live, is_role, winner_in, wins, won_role}
+use Rattle.pair_protocol.specs.Effects.{after_drain, replay_end}
 use Rattle.pair_protocol.specs.ReadsKept.{StillReplays}
 use Rattle.pair_protocol.specs.Refusals.{drain_refusal, fault_if, first_of, suspect_refusal}
 use Rattle.pair_protocol.proofs.Promises.Faithful.{reached}
@@ -16,9 +16,9 @@ use Rattle.pair_progress.proofs.Fetching.{Waiting, far_at, waiting}
 use Rattle.pair_progress.proofs.Passing.{acts_first, in_role}
 use Rattle.pair_progress.proofs.Replaying.{Far, moves_some}
 use Rattle.pair_progress.proofs.Takeover.{end_is, wait_is}
-use Rattle.host_law.specs.Frame.{answering, quiet, sending, taking}
-use Rattle.host_law.specs.Host as host
+use Rattle.host_law.specs.Frame.{answering, quiet}
 use Rattle.host_law.specs.Host.{Passes}
+use Rattle.host_law.specs.Host as host
 use Rattle.host_law.specs.Outside as outside
 use Rattle.host_law.proofs.Following.{node-there}
 use Rattle.host_law.proofs.Words.{AsksArbiter, Fault, Fleet, HasWon, HostStep, NotWhole, Outside, OutsideStep, Shows, Unknown, WrongRole}
