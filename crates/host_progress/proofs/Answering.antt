@@ -7,8 +7,8 @@ use Rattle.host_law.specs.Frame.{answering, quiet, sending, taking}
 use Rattle.host_law.specs.Outside as outside
 use Rattle.host_law.proofs.Interleaving.{followed}
 use Rattle.host_law.proofs.Words.{Act, Came, Copying, Fleet, FleetStep, Followed, Frame, HostActs, HostStep, IsCopying, Lawful, Machine, Node, OfHost, OfOutside, Outside, OutsideActs, OutsideStep, Shows, World}
-use Rattle.host_progress.specs.Exchanges.{HostsReach}
-use Rattle.host_progress.proofs.Exchanging.{by_host, by_outside, left, whole}
+use Rattle.host_progress.specs.Exchanges.{HostsReach, none_sent, with_sent}
+use Rattle.host_progress.proofs.Exchanging.{by_host, by_outside, left, sent_last, whole}
 
 -- the frame that was sent last
 pub last-sent : (frame : Frame) (before : List Frame) → Came (frame ∷ []) (before ++ frame ∷ [])
@@ -38,8 +38,8 @@ module _ {S : Type 0} (M : Machine S) (C : Copying S) (laws : Lawful M) (copies 
         let does : FleetStep M C f (OfHost n quiet) after = HostActs n x y quiet there tt step in
         let k = followed M C laws copies f after w (OfHost n quiet) h does in
         whole M C Who End f (suc most)
-        (by_host M C Who End f after [] [] most n quiet who does tt
-        (left M C Who End after [] [] most (rest after k.new k.shows refl refl)))
+        (by_host M C Who End f after none_sent none_sent most n quiet who does tt
+        (left M C Who End after (with_sent n [] none_sent) none_sent most (rest after k.new k.shows refl refl)))
 
     module _ (ask : Frame) (asks : HostStep M C n x (sending ask) x) where
       abbrev asked : Fleet S
@@ -81,12 +81,13 @@ module _ {S : Type 0} (M : Machine S) (C : Copying S) (laws : Lawful M) (copies 
             let b = followed M C laws copies asked answered a.new (OfOutside (answering ask answer)) a.shows does_answer in
             let c = followed M C laws copies answered heard b.new (OfHost m (taking answer)) b.shows does_hear in
             whole M C Who End f (suc (suc (suc most)))
-            (by_host M C Who End f asked [] [] (suc (suc most)) n (sending ask) who does_ask tt
-            (by_outside M C Who End asked answered (ask ∷ []) [] (suc most) (answering ask answer)
-            (takes_one (answering ask answer) ask [] refl) does_answer (last-sent ask [])
-            (by_host M C Who End answered heard (ask ∷ []) (answer ∷ []) most m (taking answer) who_y does_hear
-            (last-sent answer [])
-            (left M C Who End heard (ask ∷ []) (answer ∷ []) most
+            (by_host M C Who End f asked none_sent none_sent (suc (suc most)) n (sending ask) who does_ask tt
+            (by_outside M C Who End asked answered (with_sent n (ask ∷ []) none_sent) none_sent (suc most) n m (answering ask answer)
+            (takes_one (answering ask answer) ask [] refl) does_answer (sent_last n ask none_sent)
+            (by_host M C Who End answered heard (with_sent n (ask ∷ []) none_sent) (with_sent m (answer ∷ []) none_sent) most m
+            (taking answer) who_y does_hear
+            (sent_last m answer none_sent)
+            (left M C Who End heard (with_sent m [] (with_sent n (ask ∷ []) none_sent)) (with_sent m (answer ∷ []) none_sent) most
             (rest heard c.new c.shows (ap (λ l. slice_set l m z) same_hosts) refl)))))
 
       -- a host says something, and the outside takes it
@@ -102,10 +103,10 @@ module _ {S : Type 0} (M : Machine S) (C : Copying S) (laws : Lawful M) (copies 
             let a = asked_shown in
             let b = followed M C laws copies asked given a.new (OfOutside (taking ask)) a.shows does_give in
             whole M C Who End f (suc (suc most))
-            (by_host M C Who End f asked [] [] (suc most) n (sending ask) who does_ask tt
-            (by_outside M C Who End asked given (ask ∷ []) [] most (taking ask)
-            (takes_one (taking ask) ask [] refl) does_give (last-sent ask [])
-            (left M C Who End given (ask ∷ []) [] most (rest given b.new b.shows same_hosts refl))))
+            (by_host M C Who End f asked none_sent none_sent (suc most) n (sending ask) who does_ask tt
+            (by_outside M C Who End asked given (with_sent n (ask ∷ []) none_sent) none_sent most n n (taking ask)
+            (takes_one (taking ask) ask [] refl) does_give (sent_last n ask none_sent)
+            (left M C Who End given (with_sent n (ask ∷ []) none_sent) (with_sent n [] none_sent) most (rest given b.new b.shows same_hosts refl))))
 
     -- the outside tells a host something
     module _ (say : Frame) (says : OutsideStep M f.outside (sending say) f.outside) (y : Node S)
@@ -127,9 +128,10 @@ module _ {S : Type 0} (M : Machine S) (C : Copying S) (laws : Lawful M) (copies 
           let a = followed M C laws copies f said w (OfOutside (sending say)) h does_say in
           let b = followed M C laws copies said told a.new (OfHost n (taking say)) a.shows does_take in
           whole M C Who End f (suc (suc most))
-          (by_outside M C Who End f said [] [] (suc most) (sending say) (sends_one (sending say) say [] refl) does_say tt
-          (by_host M C Who End said told [] (say ∷ []) most n (taking say) who does_take (last-sent say [])
-          (left M C Who End told [] (say ∷ []) most (rest told b.new b.shows refl refl))))
+          (by_outside M C Who End f said none_sent none_sent (suc most) n n (sending say) (sends_one (sending say) say [] refl) does_say tt
+          (by_host M C Who End said told none_sent (with_sent n (say ∷ []) none_sent) most n (taking say) who does_take
+          (sent_last n say none_sent)
+          (left M C Who End told (with_sent n [] none_sent) (with_sent n (say ∷ []) none_sent) most (rest told b.new b.shows refl refl))))
 
     -- the outside offers a host something, which it answers; that is passed on, and a host takes it
     module _ (offer : Frame) (offers : OutsideStep M f.outside (sending offer) f.outside) (answer : Frame) (y : Node S)
@@ -181,12 +183,15 @@ module _ {S : Type 0} (M : Machine S) (C : Copying S) (laws : Lawful M) (copies 
           let c = followed M C laws copies begun passed_on b.new (OfOutside (answering answer answer)) b.shows does_pass in
           let d = followed M C laws copies passed_on joined c.new (OfHost m (taking answer)) c.shows does_join in
           whole M C Who End f (suc (suc (suc (suc most))))
-          (by_outside M C Who End f offered [] [] (suc (suc (suc most))) (sending offer) (sends_one (sending offer) offer [] refl)
+          (by_outside M C Who End f offered none_sent none_sent (suc (suc (suc most))) n n (sending offer) (sends_one (sending offer) offer [] refl)
           does_offer tt
-          (by_host M C Who End offered begun [] (offer ∷ []) (suc (suc most)) n (answering offer answer) who does_begin
-          (last-sent offer [])
-          (by_outside M C Who End begun passed_on (answer ∷ []) (offer ∷ []) (suc most) (answering answer answer)
-          (takes_one (answering answer answer) answer [] refl) does_pass (last-sent answer [])
-          (by_host M C Who End passed_on joined (answer ∷ []) (offer ∷ answer ∷ []) most m (taking answer) who_z does_join
-          (last-sent answer (offer ∷ []))
-          (left M C Who End joined (answer ∷ []) (offer ∷ answer ∷ []) most (rest joined d.new d.shows refl refl))))))
+          (by_host M C Who End offered begun none_sent (with_sent n (offer ∷ []) none_sent) (suc (suc most)) n
+          (answering offer answer) who does_begin (sent_last n offer none_sent)
+          (by_outside M C Who End begun passed_on (with_sent n (answer ∷ []) none_sent) (with_sent n (offer ∷ []) none_sent) (suc most)
+          n m (answering answer answer)
+          (takes_one (answering answer answer) answer [] refl) does_pass (sent_last n answer none_sent)
+          (by_host M C Who End passed_on joined (with_sent n (answer ∷ []) none_sent)
+          (with_sent m (answer ∷ []) (with_sent n (offer ∷ []) none_sent)) most m (taking answer) who_z does_join
+          (sent_last m answer (with_sent n (offer ∷ []) none_sent))
+          (left M C Who End joined (with_sent m [] (with_sent n (answer ∷ []) none_sent))
+          (with_sent m (answer ∷ []) (with_sent n (offer ∷ []) none_sent)) most (rest joined d.new d.shows refl refl))))))

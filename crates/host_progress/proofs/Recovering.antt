@@ -3,22 +3,22 @@ use Rattle.std.proofs.Common.{ℕ, ◌+◌, List, [], ◌∷◌, ◌++◌, lengt
 use Rattle.pair_protocol.proofs.Words.{Copying, IsCopying, Lawful, Machine, Node, World}
 use Rattle.pair_progress.specs.Completion.{IsAtRest, Responds}
 use Rattle.pair_progress.specs.Takeover.{IsLive}
-use Rattle.host_law.proofs.Words.{Deed, Fleet, Frame, Shows}
-use Rattle.host_progress.specs.Exchanges.{AreOf, ByHost, ByOutside, Ends, Exchanged, HostsReach}
+use Rattle.host_law.proofs.Words.{Deed, Fleet, Shows}
+use Rattle.host_progress.specs.Exchanges.{AreOf, ByHost, ByOutside, Ends, Exchanged, HostsReach, Streams, none_sent, with_sent}
 use Rattle.host_progress.specs.Laws.{HostMayServe, Only, takeover_steps}
-use Rattle.host_progress.proofs.Exchanging.{widened}
+use Rattle.host_progress.proofs.Exchanging.{from_none}
 use Rattle.host_progress.proofs.Resting.{completes_soon}
 use Rattle.host_progress.proofs.TakingOver.{takes_over}
 
 module _ {S : Type 0} (M : Machine S) (C : Copying S) where
-  followed_by : (f mid last : Fleet S) (up down : List Frame) (deeds more : List Deed) → Exchanged M C f up down deeds mid →
-      Exchanged M C mid [] [] more last → Exchanged M C f up down (deeds ++ more) last
+  followed_by : (f mid last : Fleet S) (up down : Streams) (deeds more : List Deed) → Exchanged M C f up down deeds mid →
+      Exchanged M C mid none_sent none_sent more last → Exchanged M C f up down (deeds ++ more) last
   followed_by f mid last up down deeds more Ends rest =
-      widened M C f last [] [] up down more (λ x h. absurd h) (λ x h. absurd h) rest
+      from_none M C f last up down more rest
   followed_by f mid last up down _ more (ByHost {mid = next} {deeds = deeds} n act step came later) rest =
-      ByHost n act step came (followed_by next mid last (up ++ act.sends) down deeds more later rest)
-  followed_by f mid last up down _ more (ByOutside {mid = next} {deeds = deeds} act step came later) rest =
-      ByOutside act step came (followed_by next mid last up (down ++ act.sends) deeds more later rest)
+      ByHost n act step came (followed_by next mid last (with_sent n act.sends up) down deeds more later rest)
+  followed_by f mid last up down _ more (ByOutside {mid = next} {deeds = deeds} from to act step came later) rest =
+      ByOutside from to act step came (followed_by next mid last up (with_sent to act.sends down) deeds more later rest)
 
   are_of : (Who : ℕ → Type 0) (deeds more : List Deed) → AreOf Who deeds → AreOf Who more → AreOf Who (deeds ++ more)
   are_of Who [] more a b = b
@@ -34,7 +34,7 @@ module _ {S : Type 0} (M : Machine S) (C : Copying S) where
       record {
         deeds = a.deeds ++ b.deeds;
         last = b.last;
-        done = followed_by f a.last b.last [] [] a.deeds b.deeds a.done b.done;
+        done = followed_by f a.last b.last none_sent none_sent a.deeds b.deeds a.done b.done;
         who = are_of Who a.deeds b.deeds a.who b.who;
         few = (let x = a.few in let y = b.few in let e = length-append a.deeds b.deeds in omega (arith, x, y, e));
         new = b.new;

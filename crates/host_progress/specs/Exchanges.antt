@@ -1,6 +1,6 @@
--- Steps of processes, one after another, for which no frame of before is needed: a host takes only what the outside has sent
--- since, and the outside only what a host has sent since. What such steps lead to, whose they are, and at most how many.
-use Rattle.std.specs.Prelude.{◌≡◌, ℕ, ◌≤◌, List, [], ◌∷◌, ◌++◌, length}
+-- Steps of processes, one after another, for which no frame of before is needed: what a process takes was sent to it since, by
+-- the stream between a host and the outside. What such steps lead to, whose they are, and at most how many.
+use Rattle.std.specs.Prelude.{◌≡◌, ℕ, ◌≤◌, ◌==◌, if◌then◌else◌, List, [], ◌∷◌, ◌++◌, length}
 use Rattle.guest_lockstep.specs.Machine.{Machine}
 use Rattle.pair_protocol.specs.Copying.{Copying}
 use Rattle.pair_protocol.specs.World.{World}
@@ -8,16 +8,28 @@ use Rattle.host_law.specs.Fleet.{Deed, Fleet, FleetStep, OfHost, OfOutside, act_
 use Rattle.host_law.specs.Frame.{Act, Came, Frame, quiet}
 use Rattle.host_law.specs.Shows.{Shows}
 
--- from one fleet to another: these frames have gone from hosts to the outside since, and those from the outside to hosts
-pub data Exchanged {S : Type 0} (M : Machine S) (C : Copying S) : Fleet S → (up down : List Frame) → List Deed → Fleet S → Type 0
+-- what has gone by the stream of each host
+abbrev pub Streams : Type 0
+Streams = ℕ → List Frame
+
+-- nothing has, and these frames more have by one of them
+abbrev pub none_sent : Streams
+none_sent n = []
+
+abbrev pub with_sent : ℕ → List Frame → Streams → Streams
+with_sent n frames streams k = if k == n then streams k ++ frames else streams k
+
+-- from one fleet to another, when these frames have gone from each host to the outside, and those from the outside to each host:
+-- a host takes what came by its own stream, and the outside what came by one of them, and answers by one of them
+pub data Exchanged {S : Type 0} (M : Machine S) (C : Copying S) : Fleet S → (up down : Streams) → List Deed → Fleet S → Type 0
   where
-    Ends : {f : Fleet S} {up down : List Frame} → Exchanged M C f up down [] f
-    ByHost : {f mid last : Fleet S} {up down : List Frame} {deeds : List Deed} (n : ℕ) (act : Act) →
-        FleetStep M C f (OfHost n act) mid → Came act.takes down → Exchanged M C mid (up ++ act.sends) down deeds last →
-        Exchanged M C f up down (OfHost n act ∷ deeds) last
-    ByOutside : {f mid last : Fleet S} {up down : List Frame} {deeds : List Deed} (act : Act) →
-        FleetStep M C f (OfOutside act) mid → Came act.takes up → Exchanged M C mid up (down ++ act.sends) deeds last →
-        Exchanged M C f up down (OfOutside act ∷ deeds) last
+    Ends : {f : Fleet S} {up down : Streams} → Exchanged M C f up down [] f
+    ByHost : {f mid last : Fleet S} {up down : Streams} {deeds : List Deed} (n : ℕ) (act : Act) →
+        FleetStep M C f (OfHost n act) mid → Came act.takes (down n) →
+        Exchanged M C mid (with_sent n act.sends up) down deeds last → Exchanged M C f up down (OfHost n act ∷ deeds) last
+    ByOutside : {f mid last : Fleet S} {up down : Streams} {deeds : List Deed} (from to : ℕ) (act : Act) →
+        FleetStep M C f (OfOutside act) mid → Came act.takes (up from) →
+        Exchanged M C mid up (with_sent to act.sends down) deeds last → Exchanged M C f up down (OfOutside act ∷ deeds) last
 
 -- each step is of one of these hosts, or of the outside, which takes or sends a frame: nobody types
 abbrev pub IsOf : (ℕ → Type 0) → Deed → Type 0
@@ -34,7 +46,7 @@ pub record HostsReach {S : Type 0} (M : Machine S) (C : Copying S) (f : Fleet S)
     (End : World S → Type 0) : Type 0 where
   pub deeds : List Deed
   pub last : Fleet S
-  pub done : Exchanged M C f [] [] deeds last
+  pub done : Exchanged M C f none_sent none_sent deeds last
   pub who : AreOf Who deeds
   pub few : length deeds ≤ most
   pub new : World S
@@ -45,4 +57,4 @@ pub record HostsReach {S : Type 0} (M : Machine S) (C : Copying S) (f : Fleet S)
 abbrev pub FirstWaitsForNobody : (S : Type 0) → Type 0
 FirstWaitsForNobody S =
     (M : Machine S) (C : Copying S) (f last : Fleet S) (deed : Deed) (deeds : List Deed) →
-    Exchanged M C f [] [] (deed ∷ deeds) last → (act_of deed).takes ≡ []
+    Exchanged M C f none_sent none_sent (deed ∷ deeds) last → (act_of deed).takes ≡ []

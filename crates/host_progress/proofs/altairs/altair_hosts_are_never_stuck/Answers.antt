@@ -24,9 +24,11 @@ pub returns-clause-shown : goal.returns-clause-shown
 returns-clause-shown c setup sectors is spares deeds last happened =
     let M = altair setup sectors in
     let r = runs-faithful M (image_copy setup.drives) (c.altairs_are_lawful.ensures setup sectors)
-    (c.the_image_copies.ensures setup sectors is).0 setup.reads spares deeds last happened in
-    (r.new, shown_last M (image_copy setup.drives) (begins setup sectors spares) last
-    (with_spares M spares (opening M setup.reads)) r.new deeds r.course)
+    (c.the_image_copies.ensures setup sectors is).0 setup.reads spares deeds last happened in (
+      r.new,
+      shown_last M (image_copy setup.drives) (begins setup sectors spares) last
+          (with_spares M spares (opening M setup.reads)) r.new deeds r.course,
+    )
 
 pub returns-clause-takes_over : goal.returns-clause-takes_over
 returns-clause-takes_over c =
