@@ -14,3 +14,4 @@ pub mod Settling
 pub mod OfAltairs
 pub mod Going
 pub mod Reading
+pub mod Happening

@@ -4,7 +4,7 @@ use Rattle.std.specs.Prelude.{◌≡◌, ℕ, ◌≤◌, ◌==◌, if◌then◌e
 use Rattle.guest_lockstep.specs.Machine.{Machine}
 use Rattle.pair_protocol.specs.Copying.{Copying}
 use Rattle.pair_protocol.specs.World.{World}
-use Rattle.host_law.specs.Fleet.{Deed, Fleet, FleetStep, OfHost, OfOutside, act_of}
+use Rattle.host_law.specs.Fleet.{Deed, Fleet, FleetStep, Happened, OfHost, OfOutside, act_of}
 use Rattle.host_law.specs.Frame.{Act, Came, Frame, quiet}
 use Rattle.host_law.specs.Shows.{Shows}
 
@@ -58,3 +58,9 @@ abbrev pub FirstWaitsForNobody : (S : Type 0) → Type 0
 FirstWaitsForNobody S =
     (M : Machine S) (C : Copying S) (f last : Fleet S) (deed : Deed) (deeds : List Deed) →
     Exchanged M C f none_sent none_sent (deed ∷ deeds) last → (act_of deed).takes ≡ []
+
+-- and all of them are runs of the processes, interleaved: each host makes one of its own, and the outside one
+abbrev pub ListsAreRuns : (S : Type 0) → Type 0
+ListsAreRuns S =
+    (M : Machine S) (C : Copying S) (f last : Fleet S) (up down : Streams) (deeds : List Deed) →
+    Exchanged M C f up down deeds last → Happened M C f deeds last

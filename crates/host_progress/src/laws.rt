@@ -1,11 +1,16 @@
 //! What processes can always do next, for any lawful machine and any copy of it. Nothing here runs.
 ghost use Rattle.pair_progress.specs.Always.{AsksNothing, AsksParts, AsksResponse, AsksSectors};
-ghost use Rattle.host_progress.specs.Exchanges.{FirstWaitsForNobody};
+ghost use Rattle.host_progress.specs.Exchanges.{FirstWaitsForNobody, ListsAreRuns};
 ghost use Rattle.host_progress.specs.Laws.{HostsCatchUp, HostsComplete, HostsCompleteSoon, HostsGetParts, HostsGoOn, HostsRead, HostsRecover, HostsRenew, HostsSettle, HostsTakeKeys, HostsTakeOver, OfFleets};
 
 /// No such list begins with a step that waits for a frame; so no circle of processes waits for itself.
 pub fn first_steps_wait_for_nobody<S>()
     ensures { FirstWaitsForNobody S }
+{}
+
+/// And each is a run of the processes: those of the hosts, and one of the outside, by which their loops say what they do.
+pub fn lists_of_steps_are_runs<S>()
+    ensures { ListsAreRuns S }
 {}
 
 /// Whatever was lost before: a host that is up and whole, and whose generation the arbiter has given to no other, goes live by

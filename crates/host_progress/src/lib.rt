@@ -7,6 +7,6 @@ mod laws;
 
 pub use altairs::altair_hosts_are_never_stuck;
 pub use laws::{
-    first_steps_wait_for_nobody, hosts_renew, live_hosts_complete, live_hosts_go_on,
-    pairs_of_hosts_catch_up, pairs_of_hosts_settle, whole_hosts_take_over,
+    first_steps_wait_for_nobody, hosts_renew, lists_of_steps_are_runs, live_hosts_complete,
+    live_hosts_go_on, pairs_of_hosts_catch_up, pairs_of_hosts_settle, whole_hosts_take_over,
 };
