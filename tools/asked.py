@@ -7,7 +7,7 @@ import disks
 from doing import steps_in
 from files import hex_lines, image_in, place_for, read, refuse_missing, save_all
 from hosts import ROLES
-from options import complain, count_in, drives_in, key_in, key_lines, key_name, memory_line, numbered, sense_line, spelled, taken
+from options import accepted, complain, count_in, drives_in, key_in, key_lines, key_name, memory_line, numbered, sense_line, spelled, taken
 from places import is_place
 
 # The options that say how many hosts there are, and how they are run.
@@ -74,7 +74,7 @@ class Asked:
         elif option == "--speed":
             self.steps.insert(0, (None, b"speed %d" % count_in(option, value, 10_000)))
         elif option == "--do":
-            self.steps += steps_in(value)
+            self.steps += accepted(steps_in, value)
         elif option == "--lines":
             self.lines = word_in(option, value, ("row", "here"))
         elif option in OF_HOSTS:
