@@ -232,6 +232,10 @@ class Run:
         process = self.hosts.running(int(found[1]))
         return b"host %b (%b):" % (found[1], self.hosts.named(int(found[1]), process).encode()) if process else found[0]
 
+    def has_printed_nothing(self) -> bool:
+        """Whether the machine has printed nothing; false if its output comes with what is said beside it."""
+        return len(self.screens) > 1 and not self.screens[0].has_passed
+
     def status(self):
         """The status of the program, or that of a command that a signal has ended."""
         number = self.ended_by or -min(self.program.returncode, 0)
@@ -301,6 +305,7 @@ def main(path, command, *words):
         os.execv(path, [path, command, "--help"])
     asked = Asked(words)
     refuse(path, command, asked.own)
+    asked.warn_of_nothing()
     asked.folder = tempfile.mkdtemp(prefix="pair.")
     try:
         return sit(path, asked, Run())

@@ -51,12 +51,14 @@ host_options = by_default (codes "spare") (text_option (codes "role"))
     ∷ text_option (codes "images")
     ∷ []
 
--- where the hosts of `console` are, the key that opens a command line, and how many bytes come before the first key
+-- where the hosts of `console` are, the key that opens a command line, how many bytes come before the first key, and for how many
+-- seconds the machine may be silent after the last one
 abbrev pub sitting_options : List Rule
 sitting_options = by_default (codes ".") (text_option (codes "folder"))
     ∷ by_default (codes "3") (number_option (codes "places") 2 99)
     ∷ by_default (codes "5") (number_option (codes "escape") 0 255)
     ∷ by_default (codes "0") (number_option (codes "before") 0 1099511627776)
+    ∷ by_default (codes "60") (number_option (codes "silence") 1 86400)
     ∷ []
 
 -- the files of the drives of `console`, and whether their disks may be late

@@ -89,7 +89,7 @@ attached_in rows = text_given rows (codes "attach0")
     ∷ []
 
 -- the same of `console`: its folder, how many places there are, the key that opens a command line, how much comes before the first key, the drives
--- whose disks are saved, the mark before these, and the files that are disks
+-- whose disks are saved, the mark before these, the files that are disks, and how long the machine may be silent
 pub record IsConsoleOrdered (rows : List Row) (images : List ℕ) (order : ConsoleOrder) : Type 0 where
   pub folder : string_bytes order.folder ≡ text_given rows (codes "folder")
   pub places : IsGivenOr 64 3 (one_of (codes "places") rows) order.places
@@ -101,6 +101,7 @@ pub record IsConsoleOrdered (rows : List Row) (images : List ℕ) (order : Conso
   pub apart : IsFlag (one_of (codes "apart") rows) order.apart
   pub attached : map (λ name. string_bytes name) order.attached.items ≡ attached_in rows
   pub unsynced : IsFlag (one_of (codes "unsynced") rows) order.unsynced
+  pub silence : IsGivenOr 64 60 (one_of (codes "silence") rows) order.silence
 
 -- the word that names the command: the one after the program's name; [] if there is none
 abbrev pub command_word : List Text → Text

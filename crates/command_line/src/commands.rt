@@ -25,7 +25,7 @@ END
 
 Exit status: 0 the run ended; 2 this text, or a command line that is none; 3 a bad
 script; 4 out of memory; 5 input or output failed; 6 a pair on threads stalled; 7
-`check` found a difference.";
+`check` found a difference; 8 a console cut its machine off.";
 
 // The names of the fates of a packet: it is brought, it is lost, it is brought twice.
 pub(crate) static FATES: &[&str] = &["pass", "drop", "twice"];
@@ -55,6 +55,12 @@ const BEFORE_HELP: &str =
 
 // How many bytes come before the first key at most.
 const MOST_BEFORE: u64 = 1_099_511_627_776;
+
+const SILENCE_HELP: &str =
+    "After the end of the keys: for how many seconds a machine that runs may print nothing and write to no disk until it is cut off";
+
+// The longest silence: a day.
+const MOST_SILENCE: u64 = 86_400;
 
 const MARK: &str =
     "What is written between the guest's output and the disks of --saved; ./pair looks for it";
@@ -242,7 +248,8 @@ fn console_command<'a>(alloc: Global, lists: ListHandling) -> Result<Command<'a>
         .arg(apart(alloc))
 }
 
-// The command with its options that say where hosts are, which key opens a command line, and how much comes before the first key.
+// The command with its options that say where hosts are, which key opens a command line, how much comes before the first key, and how long
+// the machine may be silent after the last one.
 fn with_sitting<'a>(alloc: Global, console: Command<'a>) -> Result<Command<'a>, AllocError>
     ensures { IfOk result (Adds sitting_options console.entry) }
 {
@@ -250,7 +257,8 @@ fn with_sitting<'a>(alloc: Global, console: Command<'a>) -> Result<Command<'a>, 
         .arg(folder(alloc))?
         .arg(places(alloc))?
         .arg(escape(alloc))?
-        .arg(before(alloc))
+        .arg(before(alloc))?
+        .arg(silence(alloc))
 }
 
 // The command with its options for the files of its drives.
@@ -345,6 +353,14 @@ fn escape<'a>(alloc: Global) -> Arg<'a>
     number(alloc, "escape", 0, 255)
         .default_value("5")
         .help(ESCAPE_HELP)
+}
+
+fn silence<'a>(alloc: Global) -> Arg<'a>
+    ensures { IsOption (by_default (codes "60") (number_option (codes "silence") 1 86400)) result }
+{
+    number(alloc, "silence", 1, MOST_SILENCE)
+        .default_value("60")
+        .help(SILENCE_HELP)
 }
 
 fn mark<'a>(alloc: Global) -> Arg<'a>
