@@ -32,11 +32,12 @@ link_and_disks = text_option (codes "link") ∷ text_option (codes "images") ∷
 abbrev pub script_options : List Rule
 script_options = text_option (codes "images") ∷ []
 
--- for how many turns a pair runs, and when somebody asks
+-- for how many turns a pair runs, when somebody asks, and whether what was accepted is printed as text
 abbrev pub turn_options : List Rule
 turn_options = by_default (codes "1000000") (number_option (codes "turns") 1 1000000000)
     ∷ number_option (codes "primary-asks") 0 1000000000
     ∷ number_option (codes "backup-asks") 0 1000000000
+    ∷ flag_option (codes "text")
     ∷ []
 
 -- the options of `live`

@@ -52,12 +52,13 @@ drive_of word =
 abbrev pub drives_in : List Row → Text → List ℕ
 drives_in rows option = map drive_of (pieces_in rows option)
 
--- each option of `live` sets what it says: how many turns, when somebody asks, these fates in this order, and the drives whose disks
+-- each option of `live` sets what it says: how many turns, when somebody asks, how it is printed, these fates in this order, and the drives whose disks
 -- are saved; the drives with images are given
 pub record IsOrdered (rows : List Row) (images : List ℕ) (order : LiveOrder) : Type 0 where
   pub turns : IsGivenOr 64 1000000 (one_of (codes "turns") rows) order.turns
   pub primary_asks : IsGiven 64 (one_of (codes "primary-asks") rows) order.primary_asks
   pub backup_asks : IsGiven 64 (one_of (codes "backup-asks") rows) order.backup_asks
+  pub text : IsFlag (one_of (codes "text") rows) order.text
   pub link : order.link.items ≡ map fate_of (pieces_in rows (codes "link"))
   pub images_are : order.images.items ≡ images
   pub saved : order.saved.items ≡ drives_in rows (codes "saved")

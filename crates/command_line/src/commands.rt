@@ -47,6 +47,9 @@ const MOST_TURNS: u64 = 1_000_000_000;
 const TURNS_HELP: &str =
     "In how many turns the primary, and the backup, may make progress; one that finds nothing to do is none of them";
 
+const TEXT_HELP: &str =
+    "Prints what the terminals have accepted as text, line by line, and not in hexadecimal";
+
 const ESCAPE_HELP: &str =
     "The key that opens a command line, as the number of its byte; 5 is Ctrl-E";
 
@@ -273,7 +276,7 @@ fn with_attached<'a>(alloc: Global, console: Command<'a>) -> Result<Command<'a>,
         .arg(unsynced(alloc))
 }
 
-// The command with its options that say for how many turns, and when somebody asks.
+// The command with its options that say for how many turns, when somebody asks, and how what was accepted is printed.
 fn with_turns<'a>(alloc: Global, live: Command<'a>) -> Result<Command<'a>, AllocError>
     ensures { IfOk result (Adds turn_options live.entry) }
 {
@@ -286,7 +289,10 @@ fn with_turns<'a>(alloc: Global, live: Command<'a>) -> Result<Command<'a>, Alloc
     let backup_asks = turn(alloc, "backup-asks", 0).help(
         "The turn at which the backup asks to go on alone",
     );
-    live.arg(turns)?.arg(primary_asks)?.arg(backup_asks)
+    live.arg(turns)?
+        .arg(primary_asks)?
+        .arg(backup_asks)?
+        .arg(as_text(alloc))
 }
 
 // The command with its options for the link and the disks.
@@ -301,6 +307,12 @@ fn with_link_and_disks<'a>(
         .arg(link(alloc, lists))?
         .arg(images(alloc, lists))?
         .arg(saved(alloc, lists))
+}
+
+fn as_text<'a>(alloc: Global) -> Arg<'a>
+    ensures { IsOption (flag_option (codes "text")) result }
+{
+    flag(alloc, "text").help(TEXT_HELP)
 }
 
 fn role<'a>(alloc: Global, lists: ListHandling) -> Arg<'a>

@@ -202,12 +202,14 @@ fn live_order(
     let turns = number(matches, "turns").unwrap_or(TURNS);
     let primary_asks = number(matches, "primary-asks");
     let backup_asks = number(matches, "backup-asks");
+    let text = flag(matches, "text");
     let link = link_in(alloc, matches)?;
     let saved = saved_in(alloc, matches)?;
     Ok(LiveOrder {
         turns,
         primary_asks,
         backup_asks,
+        text,
         link,
         images,
         saved,
