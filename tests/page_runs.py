@@ -157,9 +157,16 @@ def ported(text: bytes) -> bytes:
     return b"port 0: " + text.hex(" ").upper().encode()
 
 
+def edits_lines(command: str) -> None:
+    """A case: the editor echoes what its first user types, and shows him the line that the second one has finished."""
+    prints(b"helo\x08 \x08lo\r\n", command, b"helo\x08lo\r")
+    prints(b">good\r\n", f"{command} --type '1=good\\r'")
+
+
 # What a command must do that is not one of PLAYED.
 DOES: dict[str, Callable[[str], None]] = {
     "./pair console": lambda it: has((b"MONITOR\r\n*D 0000\r\n0000 ",), it, b"D 0000\r"),
+    "./pair console --load examples/guests/editor.hex --setup examples/guests/editor.setup": edits_lines,
     "./pair lint < FILE": lambda it: prints(b"line 2: stopp begins no line of a script\n", it, status=3),
     "./pair shell": lambda it: has((b"primary 1 count 0\n", b"\nstop N "), it, b"node 0\nhelp\n"),
     "./pair shell --disk 0=FILE.dsk": lambda it: has((b"|" + TEXT[:16] + b"|",), it, b"sector 0 76 31\n"),
