@@ -50,7 +50,7 @@ from options import complain
 from output import Output
 from places import PlacedHosts
 from screen import Screen
-from story import Story
+from story import LinkListener, Story
 
 # How a line about the pair begins that a program hands over, and how a wish for a picture.
 LINE, WISH = b"pair: ", b"picture "
@@ -180,7 +180,8 @@ class Run:
     def pass_on(self, mark):
         """Passes on what the program writes, until it ends."""
         ends = [(self.program.stdout, self.row or Output(1)), (self.program.stderr, Output(2))]
-        self.screens = [Screen(self.program, pipe, Watched(output, self.seen), mark, self.heard) for pipe, output in ends if pipe]
+        watched = [(pipe, Watched(output, self.seen, LinkListener(self.story))) for pipe, output in ends if pipe]
+        self.screens = [Screen(self.program, pipe, output, mark, self.heard) for pipe, output in watched]
         showing = [begin(threading.Thread(target=screen.pass_on)) for screen in self.screens]
         self.await_program()
         await_all(showing, lambda: self.is_killed)
