@@ -274,7 +274,7 @@ def drawn_in(path):
     """What a picture has: how many elements of each class, and its texts."""
     elements = list(xml.etree.ElementTree.parse(path).iter())
     classes = [it.get("class") for it in elements]
-    counts = {it: classes.count(it) for it in ("primary", "backup", "joining", "alone", "cross", "arrow")}
+    counts = {it: classes.count(it) for it in ("primary", "backup", "joining", "alone", "cross", "arrow", "lossy")}
     return counts, [it.text for it in elements if it.tag.endswith("text")]
 
 
@@ -293,6 +293,10 @@ def a_picture_has_what_became_of_the_hosts(command):
     for place in (OnScreen, AtTerminal, BetweenPipes):
         with folder() as room, ended_at_last(place(command())) as console:
             console.await_shown(b"MONITOR\r\n*")
+            # The second `mend` changes nothing, and `status` says it once more.
+            for line, losses in ((b"drop 30", 30), (b"cut", 100), (b"mend", 0), (b"mend", 0)):
+                console.type(ESCAPE + line + ENTER)
+                console.await_that(lambda: b"the link loses %d of 100 packets" % losses in console.shown + console.said, f"the answer to {line!r}")
             for line, host in ((b"stop 0", 2), (b"stop 2", 3)):
                 await_spare(console, host)
                 console.type(ESCAPE + line + ENTER)
@@ -300,7 +304,11 @@ def a_picture_has_what_became_of_the_hosts(command):
             console.type(ESCAPE + b"picture  %s  " % os.fsencode(room / "of hosts.svg") + ENTER)
             console.await_that(lambda: b"is drawn in " in console.shown + console.said, "the picture")
             counts, texts = drawn_in(room / "of hosts.svg")
-            expect(counts, {"primary": 3, "backup": 3, "joining": 2, "alone": 2, "cross": 2, "arrow": 2}, "what is drawn")
+            # One of each is of the legend.
+            drawn = {"primary": 4, "backup": 4, "joining": 3, "alone": 3, "cross": 3, "arrow": 3, "lossy": 3}
+            expect(counts, drawn, "what is drawn")
+            losses = [it for it in texts if it.startswith("loses ")]
+            expect(losses, [f"loses {it} of 100 packets" for it in (30, 100, 0)], "what is drawn of the link")
             expect([it for it in texts if it.startswith("host ")], ["host 0", "host 1", "host 2", "host 3"], "the columns")
             told = ["generation 1: primary", "generation 2: primary", "generation 3: primary", "goes on alone"]
             expect([it for it in told if it not in texts], [], "what is not said")

@@ -46,12 +46,12 @@ from asked import NO_HOSTS, Asked
 from doing import Doing, Seen, Watched
 from files import drawn_as, path_in, saved_as
 from hosts import SIGNALS, Hosts
-from keys import Keys, begin, ends
+from keys import Keys, begin, ends_of_keys
 from options import complain
 from output import Output
 from places import PlacedHosts
 from screen import Screen
-from story import Story
+from story import LinkListener, Story
 
 # How a line about the pair begins that a program hands over, and how a wish for a picture does, and one for what a file says.
 LINE, WISH, DO = b"pair: ", b"picture ", b"do "
@@ -138,7 +138,7 @@ class Run:
         """The outside, as long as it runs. What it writes is passed on by this command, which takes out what is handed over, and ends the
         outside if it cannot be written. What it says beside that comes with it, if both go to one place."""
         how = {"stdout": subprocess.PIPE, "stderr": subprocess.STDOUT if is_one_place() else subprocess.PIPE}
-        own, to = ends()
+        own, to = ends_of_keys()
         self.program = subprocess.Popen([path, *asked.words(mark)], stdin=own, preexec_fn=self.prepare, **how)
         os.close(own)
         try:
@@ -185,7 +185,8 @@ class Run:
     def pass_on(self, mark):
         """Passes on what the program writes, until it ends."""
         ends = [(self.program.stdout, self.row or Output(1)), (self.program.stderr, Output(2))]
-        self.screens = [Screen(self.program, pipe, Watched(output, self.seen), mark, self.heard) for pipe, output in ends if pipe]
+        watched = [(pipe, Watched(output, self.seen, LinkListener(self.story))) for pipe, output in ends if pipe]
+        self.screens = [Screen(self.program, pipe, output, mark, self.heard) for pipe, output in watched]
         showing = [begin(threading.Thread(target=screen.pass_on)) for screen in self.screens]
         self.await_program()
         await_all(showing, lambda: self.is_killed)
@@ -238,6 +239,10 @@ class Run:
         """A host of a status, with its process."""
         process = self.hosts.running(int(found[1]))
         return b"host %b (%b):" % (found[1], self.hosts.named(int(found[1]), process).encode()) if process else found[0]
+
+    def has_printed_nothing(self) -> bool:
+        """Whether the machine has printed nothing; false if its output comes with what is said beside it."""
+        return len(self.screens) > 1 and not self.screens[0].has_passed
 
     def status(self):
         """The status of the program, or that of a command that a signal has ended."""
@@ -308,6 +313,7 @@ def main(path, command, *words):
         os.execv(path, [path, command, "--help"])
     asked = Asked(words)
     refuse(path, command, asked.own)
+    asked.warn_of_nothing()
     asked.folder = tempfile.mkdtemp(prefix="pair.")
     try:
         return sit(path, asked, Run())

@@ -26,6 +26,12 @@ class Writes(Protocol):
     def write(self, some: bytes) -> None: ...
 
 
+class Hears(Protocol):
+    """Who hears what is written."""
+
+    def hear(self, some: bytes) -> None: ...
+
+
 class Types(Protocol):
     """Keys and commands on their way to a console."""
 
@@ -77,14 +83,15 @@ class Seen:
 
 
 class Watched:
-    """An output of which it is seen what is written to it."""
+    """An output, and who hears what is written to it."""
 
-    def __init__(self, output: Writes, seen: Seen) -> None:
-        self.output, self.seen = output, seen
+    def __init__(self, output: Writes, *hearers: Hears) -> None:
+        self.output, self.hearers = output, hearers
 
     def write(self, some: bytes) -> None:
         self.output.write(some)
-        self.seen.hear(some)
+        for it in self.hearers:
+            it.hear(some)
 
 
 def step_in(place: str, line: str) -> Step:

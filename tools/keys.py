@@ -27,7 +27,7 @@ def begin(thread):
     return thread
 
 
-def ends() -> tuple[int, int]:
+def ends_of_keys() -> tuple[int, int]:
     """Where a program reads its keys, and where they are written to. If they come from a terminal it is a terminal too, which passes on each
     byte as it is: so the program hears pauses, by which a lone ESC is told from a cursor key."""
     if not os.isatty(0):

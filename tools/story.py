@@ -1,11 +1,22 @@
-"""The story of a pair's hosts, by the lines that tell of it, and a picture of that: a column for each host, and a row for each line."""
+"""The story of a pair's hosts and its link, by the lines that tell of them, and a picture of that: a column for each host, one for the link
+if it lost packets, a row for each line, and a legend."""
+
+from __future__ import annotations
 
 import re
 import time
 
 ROW, TOP, LEFT, COLUMN = 26, 62, 120, 270
-# Half of the width of a bar, and of a cross.
-BAR, CROSS = 5, 6
+# How far left of the first column the times end, and how much more room there is below a row after which nothing was told for a second.
+ASIDE, PAUSE = 60, 22
+# Half of the width of a bar, and of a cross; and how wide a letter is at most, with which the legend is spaced.
+BAR, CROSS, LETTER = 5, 6, 8
+
+# What is answered to `cut`, `part`, `mend` and `drop N`, and by `status`: what becomes of packets. So it is at first.
+LINK = re.compile(rb"the link loses (?:\d+ of 100 packets|every packet, and the hosts do not see each other)")
+WHOLE = "the link loses 0 of 100 packets"
+# How many bytes such an answer has at most.
+MOST_ANSWER = 80
 
 # What each line says, and which method draws it.
 LINES = [
@@ -16,7 +27,18 @@ LINES = [
     (r"host (\d+) has failed before it had the machine", "loses"),
     (r"host (\d+) is cut off: it has sent what no host sends", "cuts_off"),
     (r"no spare host is left; host (\d+) goes on without a backup until `spare` brings one", "stays"),
+    (r"the link loses (\d+) of 100 packets", "drops"),
+    (r"the link loses every packet, and the hosts do not see each other", "parts"),
 ]
+# Those of the link.
+OF_LINK = ("drops", "parts")
+
+# The legend, a row for each list: classes, and what they mean.
+LEGEND = [
+    [("primary", "primary"), ("backup", "backup"), ("joining", "is given a copy"), ("alone", "alone")],
+    [("cross", "has failed"), ("arrow", "copy of the machine"), ("lossy", "the link loses packets")],
+]
+SCALE = "Rows are in order, not to scale: dots stand for a second or more; a row without a time has the one above."
 
 STYLE = """\
 <defs>
@@ -33,117 +55,193 @@ text{font:13px sans-serif;fill:#111;stroke:#fff;stroke-width:4px;stroke-linejoin
 .joining{fill:#fff;stroke:#1c4587;stroke-width:1.5;stroke-dasharray:3 3}
 .alone{fill:#38761d;stroke:#38761d}
 .inside{stroke:#fff;stroke-width:3}
+.lossy{fill:#f4cccc;stroke:#a61c00;stroke-width:1.5;stroke-dasharray:1 3}
 .arrow{stroke:#111;stroke-width:1.5;marker-end:url(#head)}
 .cross{stroke:#a61c00;stroke-width:2.5;fill:none}
 </style>"""
+
+# A line that is drawn: after how many seconds, which method draws it, and what that is given.
+Told = tuple[float, str, tuple[str, ...]]
 
 
 class Story:
     """The lines that have told of a pair, each with the seconds that had passed."""
 
-    def __init__(self):
-        self.began, self.lines = time.monotonic(), []
+    def __init__(self) -> None:
+        self.began, self.lines, self.link = time.monotonic(), [], WHOLE
 
-    def hear(self, line):
+    def hear(self, line: str) -> None:
         self.lines.append((time.monotonic() - self.began, line))
 
-    def picture(self):
+    def hear_of_link(self, line: str) -> None:
+        """What becomes of packets: told if it was otherwise before."""
+        if line != self.link:
+            self.link = line
+            self.hear(line)
+
+    def picture(self) -> str | None:
         """The picture, an SVG file; nothing if nothing was told."""
         return Drawing(self.lines, time.monotonic() - self.began).text() if self.lines else None
 
 
+class LinkListener:
+    """Hears what a console writes, piece by piece, and has a story hear what it answers of the link."""
+
+    def __init__(self, story: Story) -> None:
+        self.story, self.tail = story, b""
+
+    def hear(self, some: bytes) -> None:
+        text, end = self.tail + some, 0
+        for found in LINK.finditer(text):
+            self.story.hear_of_link(found[0].decode())
+            end = found.end()
+        self.tail = text[end:][-MOST_ANSWER:]
+
+
 class Drawing:
-    """A picture of lines. Each host has a bar for what it is, from the row at which it becomes that."""
+    """A picture of lines. Each host has a bar for what it is, from the row at which it becomes that, and the link one while it loses
+    packets."""
 
-    def __init__(self, lines, now):
-        # What is drawn of each, the marks over the bars; and what each host is now, from where on.
-        self.bars, self.marks, self.roles = [], [], {}
-        told = [(seconds, *drawn) for seconds, line in lines if (drawn := drawing_of(line))]
-        self.hosts = sorted({int(it) for _, name, words in told for it in hosts_in(name, words)})
-        self.y = TOP
+    def __init__(self, lines: list[tuple[float, str]], now: float) -> None:
+        # What is drawn of each, the marks over the bars; and what each host is now, and the link, from where on.
+        self.bars: list[str] = []
+        self.marks: list[str] = []
+        self.roles: dict[str, tuple[str, int]] = {}
+        told: list[Told] = [(seconds, *drawn) for seconds, line in lines if (drawn := drawing_of(line))]
+        hosts = sorted({int(it) for _, name, words in told for it in hosts_in(name, words)})
+        has_link = any(name in OF_LINK for _, name, _ in told)
+        self.columns = [*["link"] * has_link, *map(str, hosts)]
+        self.y, self.shown, self.seconds = TOP, "", told[0][0] if told else now
         for seconds, name, words in told:
-            self.y += ROW
-            self.write(LEFT - 60, moment(seconds), "time", "end")
+            self.next_row(seconds)
             getattr(self, name)(*words)
-        self.y += ROW
-        self.write(LEFT - 60, moment(now), "time", "end")
-        for host in list(self.roles):
-            self.turn(host, None)
+        self.next_row(now)
+        for column in list(self.roles):
+            self.turn(column, None)
 
-    def x(self, host):
-        return LEFT + COLUMN * self.hosts.index(int(host))
+    def next_row(self, seconds: float) -> None:
+        """The next row, with its time unless the row before has the same; after a second and more there are dots above it."""
+        if seconds - self.seconds >= 1:
+            self.y += PAUSE
+            self.write(LEFT - ASIDE, "...", "time", "end")
+        self.y, self.seconds = self.y + ROW, seconds
+        if moment(seconds) != self.shown:
+            self.shown = moment(seconds)
+            self.write(LEFT - ASIDE, self.shown, "time", "end")
 
-    def write(self, x, text, kind="label", anchor="start"):
+    def x(self, column: str) -> int:
+        return LEFT + COLUMN * self.columns.index(column)
+
+    def write(self, x: int, text: str, kind: str = "label", anchor: str = "start") -> None:
         self.marks.append(f'<text class="{kind}" x="{x}" y="{self.y + 4}" text-anchor="{anchor}">{text}</text>')
 
-    def beside(self, host, text):
-        """Writes beside the bar of a host."""
-        self.write(self.x(host) + BAR + 7, text)
+    def beside(self, column: str, text: str) -> None:
+        """Writes beside the bar of a host, or of the link."""
+        self.write(self.x(column) + BAR + 7, text)
 
-    def cross(self, host):
-        left, right, top, bottom = self.x(host) - CROSS, self.x(host) + CROSS, self.y - CROSS, self.y + CROSS
+    def cross(self, x: int) -> None:
+        left, right, top, bottom = x - CROSS, x + CROSS, self.y - CROSS, self.y + CROSS
         self.marks.append(f'<path class="cross" d="M{left} {top}L{right} {bottom}M{left} {bottom}L{right} {top}"/>')
 
-    def turn(self, host, role):
-        """A host is this from here on, or nothing any more: what it was so far becomes a bar."""
-        was, since = self.roles.pop(host, (None, 0))
-        x, size = self.x(host), self.y - since
-        if was:
-            self.bars.append(f'<rect class="{was}" x="{x - BAR}" y="{since}" width="{2 * BAR}" height="{size}"/>')
-        if was == "alone":
-            self.bars.append(f'<line class="inside" x1="{x}" y1="{since}" x2="{x}" y2="{self.y}"/>')
-        if role:
-            self.roles[host] = role, self.y
+    def arrow(self, begins: int, ends: int) -> None:
+        self.marks.append(f'<line class="arrow" x1="{begins}" y1="{self.y}" x2="{ends}" y2="{self.y}"/>')
 
-    def begins(self, generation, primary, backup):
+    def bar(self, x: int, kind: str, since: int, until: int) -> None:
+        self.bars.append(f'<rect class="{kind}" x="{x - BAR}" y="{since}" width="{2 * BAR}" height="{until - since}"/>')
+        if kind == "alone":
+            self.bars.append(f'<line class="inside" x1="{x}" y1="{since}" x2="{x}" y2="{until}"/>')
+
+    def turn(self, column: str, role: str | None) -> None:
+        """A host is this from here on, or nothing any more: what it was so far becomes a bar. So does the link."""
+        was, since = self.roles.pop(column, (None, 0))
+        if was:
+            self.bar(self.x(column), was, since, self.y)
+        if role:
+            self.roles[column] = role, self.y
+
+    def fail(self, host: str, how: str) -> None:
+        self.turn(host, None)
+        self.cross(self.x(host))
+        self.beside(host, how)
+
+    def begins(self, generation: str, primary: str, backup: str) -> None:
         self.turn(primary, "primary")
         self.turn(backup, "backup")
         self.beside(primary, f"generation {generation}: primary")
         self.beside(backup, "backup")
 
-    def asks(self, failed, host):
-        self.turn(failed, None)
-        self.cross(failed)
-        self.beside(failed, "has failed")
+    def asks(self, failed: str, host: str) -> None:
+        self.fail(failed, "has failed")
         self.beside(host, "asks to go on alone")
 
-    def wins(self, host):
+    def wins(self, host: str) -> None:
         self.turn(host, "alone")
         self.beside(host, "goes on alone")
 
-    def copies(self, host):
+    def copies(self, host: str) -> None:
         self.turn(host, "joining")
         for alone in [it for it, (role, _) in self.roles.items() if role == "alone"]:
             side = BAR if self.x(host) > self.x(alone) else -BAR
-            begins, ends = self.x(alone) + side, self.x(host) - side
-            self.marks.append(f'<line class="arrow" x1="{begins}" y1="{self.y}" x2="{ends}" y2="{self.y}"/>')
+            self.arrow(self.x(alone) + side, self.x(host) - side)
         self.beside(host, "is given a copy")
 
-    def loses(self, host):
-        self.turn(host, None)
-        self.cross(host)
-        self.beside(host, "has failed before it had the machine")
+    def loses(self, host: str) -> None:
+        self.fail(host, "has failed before it had the machine")
 
-    def cuts_off(self, host):
-        self.turn(host, None)
-        self.cross(host)
-        self.beside(host, "is cut off")
+    def cuts_off(self, host: str) -> None:
+        self.fail(host, "is cut off")
 
-    def stays(self, host):
+    def stays(self, host: str) -> None:
         self.beside(host, "no spare host is left")
 
-    def text(self):
-        width, height = LEFT + COLUMN * len(self.hosts), self.y + ROW
+    def drops(self, percent: str) -> None:
+        self.turn("link", "lossy" if int(percent) else None)
+        self.beside("link", f"loses {percent} of 100 packets")
+
+    def parts(self) -> None:
+        self.turn("link", "lossy")
+        self.beside("link", "hosts do not see each other")
+
+    def legend(self) -> int:
+        """Draws the legend below all rows; how wide it is."""
+        widths = [self.legend_row(row) for row in LEGEND]
+        self.y += ROW
+        self.write(LEFT - ASIDE, SCALE, "legend")
+        return max(*widths, LEFT - ASIDE + LETTER * len(SCALE))
+
+    def legend_row(self, row: list[tuple[str, str]]) -> int:
+        """Draws a row of the legend; where it ends."""
+        self.y += ROW
+        x = LEFT - ASIDE
+        for kind, means in row:
+            self.sample(x + 10, kind)
+            self.write(x + 28, means, "legend")
+            x += 44 + LETTER * len(means)
+        return x
+
+    def sample(self, x: int, kind: str) -> None:
+        if kind == "cross":
+            self.cross(x)
+        elif kind == "arrow":
+            self.arrow(x - 12, x + 12)
+        else:
+            self.bar(x, kind, self.y - 8, self.y + 8)
+
+    def text(self) -> str:
+        heads = []
+        for column in self.columns:
+            head = column if column == "link" else f"host {column}"
+            heads.append(f'<text class="head" x="{self.x(column)}" y="32" text-anchor="middle">{head}</text>')
+            heads.append(f'<line class="rest" x1="{self.x(column)}" y1="{TOP}" x2="{self.x(column)}" y2="{self.y}"/>')
+        width = max(LEFT + COLUMN * len(self.columns), self.legend())
+        height = self.y + ROW
         parts = [f'<svg xmlns="http://www.w3.org/2000/svg" viewBox="0 0 {width} {height}" width="{width}" height="{height}">', STYLE]
         parts.append(f'<rect class="page" x="0" y="0" width="{width}" height="{height}"/>')
-        parts.append(f'<text class="head" x="{LEFT - 60}" y="32" text-anchor="end">time</text>')
-        for host in self.hosts:
-            parts.append(f'<text class="head" x="{self.x(host)}" y="32" text-anchor="middle">host {host}</text>')
-            parts.append(f'<line class="rest" x1="{self.x(host)}" y1="{TOP}" x2="{self.x(host)}" y2="{self.y}"/>')
-        return "\n".join([*parts, *self.bars, *self.marks, "</svg>\n"])
+        parts.append(f'<text class="head" x="{LEFT - ASIDE}" y="32" text-anchor="end">time</text>')
+        return "\n".join([*parts, *heads, *self.bars, *self.marks, "</svg>\n"])
 
 
-def drawing_of(line):
+def drawing_of(line: str) -> tuple[str, tuple[str, ...]] | None:
     """The method that draws a line, and what it is given; nothing of a line that is not in the table."""
     for pattern, name in LINES:
         found = re.fullmatch(pattern, line)
@@ -152,11 +250,13 @@ def drawing_of(line):
     return None
 
 
-def hosts_in(name, words):
+def hosts_in(name: str, words: tuple[str, ...]) -> tuple[str, ...]:
     """The hosts among the words of a line."""
+    if name in OF_LINK:
+        return ()
     return words[1:] if name == "begins" else words[:1] if name == "wins" else words
 
 
-def moment(seconds):
+def moment(seconds: float) -> str:
     """Minutes and seconds."""
     return f"{int(seconds // 60)}:{seconds % 60:04.1f}"

@@ -1,6 +1,6 @@
 -- The first entry of a journal, as it is read.
 use Rattle.std.proofs.Common.{◌≡◌, ℕ, ◌+◌, ◌-◌, ◌*◌, ◌≤◌, ◌<◌, List, [], ◌∷◌, length, take, drop, slice_index_or, sym, ◌∙◌, ap, arith, length-drop}
-use Rattle.std.proofs.lemmas.List.{take_rest}
+use Rattle.std.proofs.lemmas.List.{take_rest, drop-drop}
 use Rattle.disk_file.specs.Sectors.{journal_of}
 use Rattle.disk_file.proofs.Blocks.{open_block}
 
@@ -19,6 +19,10 @@ entry_read sectors (gate ∷ low ∷ high ∷ rest) long first enough fits =
     ∙ open_block sectors low high rest (omega (arith, enough, ap length is_rest)) fits
     ∙ ap (λ (l : List ℕ). record { place = low + high * 256; bytes = take 137 l } ∷ journal_of sectors (drop 137 rest)) (sym is_rest)
     ∙ ap (λ (l : List ℕ). record { place = low + high * 256; bytes = take 137 (behind 3 (gate ∷ low ∷ high ∷ rest)) } ∷ journal_of sectors l) (sym after)
+
+-- what is behind the three bytes and the sector of a block
+pub behind_block : (j : List ℕ) → behind 137 (behind 3 j) ≡ drop 140 j
+behind_block j = take_rest (behind 3 j) 137 ∙ ap (λ (l : List ℕ). drop 137 l) (take_rest j 3) ∙ drop-drop 137 3 j
 
 pub behind_shorter : (j : List ℕ) → 3 ≤ length j → 137 ≤ length (behind 3 j) → length (behind 137 (behind 3 j)) < length j
 behind_shorter j long enough =

@@ -1,5 +1,6 @@
 -- What a device of a file holds.
-use Rattle.std.specs.Prelude.{ℕ, nat_eq, ◌&&◌, Bool, false, not, List, [], ◌∷◌, length, replicate, if◌then◌else◌, is_some}
+use Rattle.std.specs.Prelude.{ℕ, nat_eq, ◌&&◌, Bool, false, not, List, [], ◌∷◌, drop, length, replicate, if◌then◌else◌, is_some}
+use Rattle.disk_file.specs.Sectors.{is_spoiled}
 use Rattle.disk_file.specs.declared.file_device.FileDevice.{FileDevice}
 
 -- its bytes
@@ -22,3 +23,7 @@ begun bytes = if nat_eq (length bytes) 0 then blank_image else bytes
 abbrev pub is_padding : List ℕ → Bool
 is_padding [] = false
 is_padding (gate ∷ rest) = not (nat_eq gate 1) && nat_eq (length (gate ∷ rest)) 96
+
+-- what is behind an image is a journal that was cut or spoiled
+abbrev pub has_spoiled_journal : List ℕ → Bool
+has_spoiled_journal bytes = not (is_padding (drop 337568 bytes)) && is_spoiled 2464 (drop 337568 bytes)

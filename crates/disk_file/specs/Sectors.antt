@@ -1,6 +1,6 @@
 -- What a file stands for: the image of a disk, and behind it the blocks of a journal. A block is a gate (1 if it is open),
 -- the place of a sector in two bytes, and the sector's 137 bytes.
-use Rattle.std.specs.Prelude.{◌≡◌, ◌⊎◌, ℕ, suc, ◌+◌, ◌*◌, ◌≤◌, List, [], ◌∷◌, ◌++◌, length, take, drop, if◌then◌else◌, ◌==◌, ◌&&◌, nat_lt}
+use Rattle.std.specs.Prelude.{◌≡◌, ◌⊎◌, ℕ, suc, ◌+◌, ◌*◌, ◌≤◌, Bool, true, false, not, List, [], ◌∷◌, ◌++◌, length, take, drop, if◌then◌else◌, ◌==◌, ◌&&◌, nat_lt}
 
 -- an entry of the journal: a sector's place in the image, and its bytes
 pub record Entry : Type 0 where
@@ -18,6 +18,20 @@ entries sectors _ _ = []
 -- the entries of a journal
 abbrev pub journal_of : ℕ → List ℕ → List Entry
 journal_of sectors tail = entries sectors (length tail) tail
+
+-- what is behind the open blocks of a journal, each of 140 bytes
+abbrev pub behind_blocks : ℕ → List ℕ → List ℕ
+behind_blocks sectors journal = drop (140 * length (journal_of sectors journal)) journal
+
+abbrev pub begins_closed : List ℕ → Bool
+begins_closed [] = false
+begins_closed (gate ∷ rest) = gate == 0
+
+-- A journal was cut or spoiled. A session leaves nothing behind the image, or a closed gate behind the open blocks, whatever follows it;
+-- and so does its crash.
+abbrev pub is_spoiled : ℕ → List ℕ → Bool
+is_spoiled sectors [] = false
+is_spoiled sectors (gate ∷ rest) = not (begins_closed (behind_blocks sectors (gate ∷ rest)))
 
 -- an image with other bytes in a sector
 abbrev pub with_sector : List ℕ → ℕ → List ℕ → List ℕ

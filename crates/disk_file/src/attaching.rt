@@ -159,8 +159,9 @@ impl Attached {
         let how = ImageOptions {
             is_made: true,
             is_synced,
+            takes_spoiled: false,
         };
-        let OpenImage { store, padding } = open_image(alloc, files, name, how)?;
+        let OpenImage { store, padding, .. } = open_image(alloc, files, name, how)?;
         add_sectors(&mut self.sectors, &store, drive)?;
         self.paddings.push(padding)?;
         self.drives.push(store)?;

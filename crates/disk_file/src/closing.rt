@@ -13,7 +13,7 @@ use std::alloc::Global;
 pub fn close_image(alloc: Global, image: OpenImage) -> Result<FileDevice, OpenError>
     ensures image { IfOk result (λ device. bytes_in device ≡ bytes_of image.store.records.items ++ image.padding.items) }
 {
-    let OpenImage { store, padding } = image;
+    let OpenImage { store, padding, .. } = image;
     let (mut device, ended) = store.close(alloc);
     ended?;
     pad(&mut device, &padding)?;
@@ -29,14 +29,20 @@ fn pad(device: &mut FileDevice, padding: &[u8]) -> Result<(), OpenError>
     Ok(())
 }
 
-/// Takes up what a crash has left in the journal of an image, and ends it. A missing file is not made.
-pub fn recover_image(alloc: Global, files: &HostRuntime, path: &str) -> Result<(), OpenError> {
-    let how = ImageOptions {
-        is_made: false,
-        is_synced: true,
-    };
-    close_image(alloc, open_image(alloc, files, path, how)?)?;
-    Ok(())
+// An image that is there is opened to be ended, up to where its journal was cut or spoiled.
+const TO_END: ImageOptions = ImageOptions {
+    is_made: false,
+    is_synced: true,
+    takes_spoiled: true,
+};
+
+/// Takes up what a crash has left in the journal of an image, and ends it. A missing file is not made. Returns whether the journal was
+/// cut or spoiled; then what was before the damage is taken up.
+pub fn recover_image(alloc: Global, files: &HostRuntime, path: &str) -> Result<bool, OpenError> {
+    let image = open_image(alloc, files, path, TO_END)?;
+    let is_spoiled = image.is_spoiled;
+    close_image(alloc, image)?;
+    Ok(is_spoiled)
 }
 
 /// The same of an image that was padded by these bytes before its journal began.
@@ -46,11 +52,7 @@ pub fn end_image(
     path: &str,
     padding: Vec<u8>,
 ) -> Result<(), OpenError> {
-    let how = ImageOptions {
-        is_made: false,
-        is_synced: true,
-    };
-    let OpenImage { store, .. } = open_image(alloc, files, path, how)?;
-    close_image(alloc, OpenImage { store, padding })?;
+    let image = open_image(alloc, files, path, TO_END)?;
+    close_image(alloc, OpenImage { padding, ..image })?;
     Ok(())
 }

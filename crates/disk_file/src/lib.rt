@@ -19,6 +19,7 @@ mod recovery;
 mod refusal;
 mod room;
 mod session_opening;
+mod spoiled;
 mod through;
 
 pub use attaching::{Attached, Unattached, are_named, is_named, open_drives};
@@ -34,7 +35,8 @@ pub use memory::MemoryFile;
 pub use opening::{IMAGE_BYTES, ImageOptions, OpenImage, PADDING_BYTES, open_image};
 pub use past::Past;
 pub use recovery::{finish, take_up};
-pub use refusal::{OpenError, refusal_text};
+pub use refusal::{OpenError, refusal_text, spoiled_text};
 pub use room::add;
 pub use session_opening::{close_kept, open_kept};
+pub use spoiled::is_spoiled;
 pub use through::{cut_through, write_through};

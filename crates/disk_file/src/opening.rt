@@ -1,11 +1,12 @@
 //! Opening an image, which no other program has open.
-ghost use Rattle.std.specs.Prelude.{◌≡◌, ◌⊎◌, All, length, replicate, None, IfOk, true};
-ghost use Rattle.disk_file.specs.FileBytes.{begun, blank_image, is_padding};
+ghost use Rattle.std.specs.Prelude.{◌≡◌, ◌⊎◌, All, drop, length, replicate, None, IfOk, true};
+ghost use Rattle.disk_file.specs.FileBytes.{begun, blank_image, has_spoiled_journal, is_padding};
 ghost use Rattle.shared_disk.specs.declared.store.Record.{Record};
 
 use crate::FileStore;
 use crate::file_device::FileDevice;
 use crate::refusal::OpenError;
+use crate::spoiled::is_spoiled;
 use disk_dcdd::{DRIVE_SECTORS, SECTOR_BYTES};
 use std::alloc::{AllocError, Global};
 use std::fs::{File, OpenOptions, TryLockError};
@@ -24,18 +25,21 @@ pub struct ImageOptions {
     pub is_made: bool,
     /// Whether a write is done only once the disk has it; if not, once the file system has.
     pub is_synced: bool,
+    /// Whether a journal that was cut or spoiled is taken up to where it was; if not, it is refused, and stays as it is.
+    pub takes_spoiled: bool,
 }
 
-/// An open image, and what padded it.
+/// An open image, what padded it, and whether its journal was cut or spoiled.
 #[derive(Drop)]
 pub struct OpenImage {
     pub store: FileStore<FileDevice>,
     pub padding: Vec<u8>,
+    pub is_spoiled: bool,
 }
 
 /// Opens the image of one drive, which stays locked until the store is closed or dropped. What a crash has left in its
-/// journal is taken up. An empty file, as one that is made, becomes an image of zeros. Bytes after an image that are no
-/// journal are cut off; those that pad it are handed back.
+/// journal is taken up. An empty file, as one that is made, becomes an image of zeros. Bytes after an image that are
+/// no journal are cut off, or refused; those that pad it are handed back.
 pub fn open_image(
     alloc: Global,
     files: &HostRuntime,
@@ -50,9 +54,17 @@ pub fn open_image(
     lock(&file)?;
     let bytes = read_file(alloc, &file)?;
     let image = begin(alloc, &file, bytes)?;
+    let is_spoiled = has_spoiled_journal(&image);
+    if is_spoiled && !how.takes_spoiled {
+        return Err(OpenError::Spoiled);
+    }
     let padding = padding_of(alloc, &image)?;
     let store = take_up(alloc, FileDevice::new(file, image, how.is_synced))?;
-    Ok(OpenImage { store, padding })
+    Ok(OpenImage {
+        store,
+        padding,
+        is_spoiled,
+    })
 }
 
 // Opens a file to read and to write it.
@@ -113,11 +125,26 @@ fn zeros(alloc: Global, len: usize) -> Result<Vec<u8>, AllocError>
     vec![in alloc; 0; len]
 }
 
+// Whether what is behind an image is a journal that was cut or spoiled.
+fn has_spoiled_journal(bytes: &[u8]) -> bool
+    ensures { result ≡ has_spoiled_journal bytes.now }
+{
+    let after = behind_image(bytes);
+    !is_padding(after) && is_spoiled(DRIVE_SECTORS, after)
+}
+
+// What is behind an image.
+fn behind_image(bytes: &[u8]) -> &[u8]
+    ensures { result.now ≡ drop 337568 bytes.now }
+{
+    &bytes[IMAGE_BYTES.min(bytes.len())..]
+}
+
 // What pads an image, if it is padded.
 fn padding_of(alloc: Global, bytes: &[u8]) -> Result<Vec<u8>, AllocError>
     ensures { IfOk result (λ padding. length padding.items ≡ 0 ⊎ is_padding padding.items ≡ true) }
 {
-    let after = &bytes[IMAGE_BYTES.min(bytes.len())..];
+    let after = behind_image(bytes);
     if is_padding(after) {
         after.to_vec(alloc)
     } else {

@@ -9,11 +9,12 @@ use disk_dcdd::SECTOR_BYTES;
 use std::alloc::Global;
 
 // The first entry of a journal: the place of a sector, its bytes, and the journal after it.
-fn first_entry(sectors: usize, journal: &[u8]) -> Option<(usize, &[u8], &[u8])>
+pub(crate) fn first_entry(sectors: usize, journal: &[u8]) -> Option<(usize, &[u8], &[u8])>
     ensures entry { IfSome result (λ e. journal_of sectors journal.now
         ≡ record { place = e.0; bytes = e.1.now } ∷ journal_of sectors e.2.now) }
     ensures fits { IfSome result (λ e. (e.0 < sectors) × (length e.1.now ≡ 137)
         × (length e.2.now < length journal.now)) }
+    ensures after { IfSome result (λ e. e.2.now ≡ drop 140 journal.now) }
     ensures none { IsNone result → journal_of sectors journal.now ≡ [] }
 {
     let [1, low, high, after @ ..] = journal else {

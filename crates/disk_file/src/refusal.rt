@@ -18,6 +18,9 @@ pub enum OpenError {
     /// It has bytes, and fewer than the image of a drive.
     #[error("a disk has 337,568 bytes, 77 tracks of 32 sectors of 137 bytes, and this file has fewer")]
     Short,
+    /// What is behind its image was cut or spoiled, and would be taken up only up to there.
+    #[error("its journal was cut or spoiled; `pair disk recover` takes up what is before the damage")]
+    Spoiled,
     /// The machine has fewer drives.
     #[error("the machine has no such drive; a line `drives` of a setup says how many it has")]
     NoDrive,
@@ -32,6 +35,13 @@ pub enum OpenError {
 /// What is said of a file that is not opened or not ended; nothing if there is no memory for it.
 pub fn refusal_text(alloc: Global, path: &str, why: &OpenError) -> Option<String> {
     format!(in alloc; "pair: {path}: {why}").ok()
+}
+
+/// What is said of a file whose journal was cut or spoiled, once it is ended; nothing if there is no memory for it.
+pub fn spoiled_text(alloc: Global, path: &str) -> Option<String> {
+    format!(in alloc;
+        "pair: {path}: its journal was cut or spoiled; the image has what was before the damage"
+    ).ok()
 }
 
 impl From<io::Error> for OpenError {

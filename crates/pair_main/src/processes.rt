@@ -5,7 +5,7 @@ ghost use Rattle.pair_main.specs.Processes.{IsProcess, IsRunAs, Sits};
 use command_console::{Streams, ending_of_console, ending_of_host, run_console, run_host};
 use command_io::Failure;
 use command_line::{ConsoleOrder, HostOrder, Request, request_of};
-use disk_file::{recover_image, refusal_text};
+use disk_file::{recover_image, refusal_text, spoiled_text};
 use std::alloc::Global;
 use std::borrow::CowStr;
 use std::io::{IsTerminal, Read, Write};
@@ -60,13 +60,15 @@ fn run_request<
     }
 }
 
-// Takes up what a crash has left in a file.
+// Takes up what a crash has left in a file, and says so if what it left was cut or spoiled.
 fn recover(files: HostRuntime, alloc: Global, path: &str) -> (u8, CowStr<'static>) {
-    let Err(why) = recover_image(alloc, &files, path) else {
-        return (0, CowStr::Borrowed(""));
+    let (status, text) = match recover_image(alloc, &files, path) {
+        Ok(false) => return (0, CowStr::Borrowed("")),
+        Ok(true) => (0, spoiled_text(alloc, path)),
+        Err(why) => (2, refusal_text(alloc, path, &why)),
     };
-    match refusal_text(alloc, path, &why) {
-        Some(text) => (2, CowStr::Owned(text)),
+    match text {
+        Some(text) => (status, CowStr::Owned(text)),
         None => Failure::OutOfMemory.ending(alloc),
     }
 }

@@ -51,4 +51,4 @@ first_free places ways from aim (reach ∷ reaches) =
     else first_free places ways from aim reaches
 
 abbrev pub end_of_loss : List Lifeline → List Way → Point → ℕ → ℕ
-end_of_loss places ways from aim = first_free places ways from aim (80 ∷ 90 ∷ 70 ∷ 60 ∷ 50 ∷ 40 ∷ 30 ∷ [])
+end_of_loss places ways from aim = first_free places ways from aim (90 ∷ 80 ∷ 70 ∷ 60 ∷ 50 ∷ 40 ∷ 30 ∷ [])

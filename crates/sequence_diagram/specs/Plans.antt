@@ -19,9 +19,9 @@ x_in places place = x_of (width_in places) (at_most (column_of places place))
 abbrev pub y_in : List ℕ → ℕ → ℕ
 y_in of place = y_of (at_most (line_at of place))
 
--- columns end thirty pixels below the last of so many lines; what the terminals have accepted and the legend are below them
+-- columns end sixteen pixels below the last of so many lines; what the terminals have accepted and the legend are below them
 abbrev pub bottom_of : ℕ → ℕ
-bottom_of lines = min (y_of (at_most (lines - 1)) + 30) (2 ^ 64 - 1)
+bottom_of lines = min (y_of (at_most (lines - 1)) + 16) (2 ^ 64 - 1)
 
 abbrev pub height_over : ℕ → ℕ
-height_over bottom = min (bottom + 120) (2 ^ 64 - 1)
+height_over bottom = min (bottom + 92) (2 ^ 64 - 1)

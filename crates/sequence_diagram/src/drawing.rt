@@ -7,6 +7,13 @@ use crate::geometry::Point;
 use std::alloc::{AllocError, Global};
 use std::fmt;
 
+// How wide two letters are, and how far they go up and down from their line.
+const LETTERS: u64 = 17;
+
+const ABOVE: u64 = 14;
+
+const BELOW: u64 = 4;
+
 /// A picture as it is drawn.
 #[derive(Drop)]
 pub struct Drawing {
@@ -69,6 +76,19 @@ impl Drawing {
         )
     }
 
+    /// A line from one point to another that turns on its way.
+    pub fn bent(
+        &mut self,
+        class: &str,
+        from: Point,
+        turn: Point,
+        to: Point,
+    ) -> Result<(), AllocError> {
+        write!(self.text, "<path class=\"{class}\" d=\"")?;
+        self.stroke(from, turn)?;
+        writeln!(self.text, "L{} {}\"/>", to.x, to.y)
+    }
+
     /// A rectangle from its upper left corner to its lower right one.
     pub fn rect(&mut self, class: &str, from: Point, to: Point) -> Result<(), AllocError> {
         let width = to.x.saturating_sub(from.x);
@@ -120,6 +140,36 @@ impl Drawing {
         self.tag(class, at, side)?;
         escape_all(&mut self.text, self.words.as_str())?;
         self.text.push_str("</text>\n")
+    }
+
+    /// Words beside a point, or none, on a ground that is theirs alone: no line that was drawn before runs through them.
+    pub fn label<D: fmt::Display>(
+        &mut self,
+        class: &str,
+        at: Point,
+        side: TextSide,
+        words: &D,
+    ) -> Result<(), AllocError> {
+        let letters = self.length(words)? as u64;
+        if letters == 0 {
+            return Ok(());
+        }
+        let width = letters.saturating_mul(LETTERS) / 2;
+        let (left, right) = match side {
+            TextSide::Left => (width, 0),
+            TextSide::Middle => (width / 2, width / 2),
+            TextSide::Right => (0, width),
+        };
+        let from = Point {
+            x: at.x.saturating_sub(left),
+            y: at.y.saturating_sub(ABOVE),
+        };
+        let to = Point {
+            x: at.x.saturating_add(right),
+            y: at.y.saturating_add(BELOW),
+        };
+        self.rect("page", from, to)?;
+        self.words(class, at, side, words)
     }
 
     // The tag before words.

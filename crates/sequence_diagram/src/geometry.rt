@@ -1,26 +1,32 @@
 //! Where columns and lines are, in pixels.
 ghost use Rattle.std.specs.Prelude.{◌≡◌, ◌+◌, ◌*◌, ◌<◌, ◌≤◌};
-ghost use Rattle.sequence_diagram.specs.Geometry.{gap_of, width_of, x_of, y_of};
+ghost use Rattle.sequence_diagram.specs.Geometry.{beside, gap_of, width_of, x_of, y_of};
 
 /// The width of a picture of at most four columns, and the margins left of the first column and right of the last.
-pub const WIDTH: u64 = 1200;
+pub const WIDTH: u64 = 1600;
 
-pub const LEFT: u64 = 210;
+pub const LEFT: u64 = 264;
 
-pub const RIGHT: u64 = 170;
+pub const RIGHT: u64 = 264;
 
 /// How far two columns are apart, at least and at most.
-pub const LEAST_GAP: u64 = 250;
+pub const LEAST_GAP: u64 = 340;
 
-pub const MOST_GAP: u64 = 300;
+pub const MOST_GAP: u64 = 360;
 
 /// The first line, and how far two lines are apart.
-pub const TOP: u64 = 92;
+pub const TOP: u64 = 66;
 
-pub const LINE: u64 = 26;
+pub const LINE: u64 = 20;
 
 /// The height below the last line.
-pub const BOTTOM: u64 = 30;
+pub const BOTTOM: u64 = 16;
+
+/// How far below the middle of a line its letters stand.
+pub const MIDDLE: u64 = 6;
+
+/// How far from a column the arrows to it turn down that left on an earlier line.
+pub const TURN: u64 = 44;
 
 /// How many columns and lines there may be at most.
 pub const MOST: u64 = 1_000_000_000;
@@ -64,4 +70,15 @@ pub fn line_y(line: u64) -> u64
     ensures { result ≡ y_of line }
 {
     TOP + LINE * line
+}
+
+/// A place beside a column, on the side of another column.
+pub fn beside(x: u64, other: u64, distance: u64) -> u64
+    ensures { result ≡ beside x other distance }
+{
+    if x < other {
+        x.saturating_add(distance)
+    } else {
+        x.saturating_sub(distance)
+    }
 }

@@ -7,7 +7,7 @@ use pair_events::Role;
 use std::alloc::AllocError;
 
 /// How high the legend is.
-pub const LEGEND: u64 = 76;
+pub const LEGEND: u64 = 48;
 
 /// The classes of all elements. Each differs from the others without its colour too.
 pub const STYLE: &str = "\
@@ -18,12 +18,12 @@ pub const STYLE: &str = "\
 <rect width=\"6\" height=\"6\" fill=\"#fff\"/><rect width=\"3\" height=\"6\" fill=\"#b45f06\"/></pattern>
 </defs>
 <style>
-text{font:13px sans-serif;fill:#111;stroke:#fff;stroke-width:4px;stroke-linejoin:round;paint-order:stroke}
-.head{font-size:15px;font-weight:bold}
-.role,.count{font-size:12px}
+text{font:17px sans-serif;fill:#111;stroke:#fff;stroke-width:4px;stroke-linejoin:round;paint-order:stroke}
+.head{font-size:18px;font-weight:bold}
+.role,.count,.screen{font-size:15px}
 .outcome{font-style:italic}
-.refused{fill:#a61c00;font-weight:bold;font-size:12px}
-.waiting{fill:#a61c00;font-size:12px}
+.refused{fill:#a61c00;font-weight:bold;font-size:15px}
+.waiting{fill:#a61c00;font-size:15px}
 .page{fill:#fff}
 .rest{stroke:#999;stroke-dasharray:2 4}
 .primary{fill:#1c4587;stroke:#1c4587}
@@ -32,6 +32,7 @@ text{font:13px sans-serif;fill:#111;stroke:#fff;stroke-width:4px;stroke-linejoin
 .draining{fill:url(#hatch);stroke:#b45f06}
 .alone{fill:#38761d;stroke:#38761d}
 .inside{stroke:#fff;stroke-width:3}
+.arrow,.exchange,.again{fill:none}
 .arrow,.exchange{stroke:#111;stroke-width:1.5;marker-end:url(#head)}
 .exchange{stroke-dasharray:1 3;stroke-linecap:round}
 .again{stroke:#111;stroke-width:1.5;stroke-dasharray:7 4;marker-end:url(#head)}
@@ -63,8 +64,8 @@ static MEANINGS: [(&str, &str); 5] = [
 
 /// Draws the legend, from this height on.
 pub fn draw_legend(drawing: &mut Drawing, top: u64) -> Result<(), AllocError> {
-    draw_role_row(drawing, top.saturating_add(14))?;
-    draw_line_row(drawing, top.saturating_add(54))
+    draw_role_row(drawing, top)?;
+    draw_line_row(drawing, top.saturating_add(36))
 }
 
 // Draws what the bars mean.
@@ -96,7 +97,9 @@ fn draw_line_row(drawing: &mut Drawing, y: u64) -> Result<(), AllocError> {
     let mut x = 40u64;
     for (class, meaning) in &MEANINGS {
         draw_line(drawing, class, meaning, Point { x, y })?;
-        x = x.saturating_add(160);
+        x = x
+            .saturating_add((meaning.len() as u64).saturating_mul(8))
+            .saturating_add(80);
     }
     Ok(())
 }
@@ -116,8 +119,8 @@ fn draw_line(
         drawing.cross(end)?;
     }
     let beside = Point {
-        x: at.x.saturating_add(54),
-        y: at.y.saturating_add(4),
+        x: at.x.saturating_add(48),
+        y: at.y.saturating_add(5),
     };
     drawing.words("role", beside, TextSide::Right, &meaning)
 }

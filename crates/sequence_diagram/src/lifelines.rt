@@ -12,7 +12,7 @@ use pair_events::Role;
 use std::alloc::AllocError;
 
 // Where the heads end and the lines begin.
-const HEAD: u64 = 62;
+const HEAD: u64 = 50;
 
 /// The role of a node before anything happens: nodes 0 and 1 are the first pair, and the others are spare hosts.
 pub fn first_role(node: u64) -> Option<Role>
@@ -43,7 +43,7 @@ pub fn draw_columns(
 // Draws the head and the line of a column.
 fn draw_column(drawing: &mut Drawing, plan: &Layout, place: Lifeline) -> Result<(), AllocError> {
     let x = plan.x(place);
-    drawing.words("head", Point { x, y: 32 }, TextSide::Middle, &place)?;
+    drawing.words("head", Point { x, y: 22 }, TextSide::Middle, &place)?;
     let end = Point { x, y: plan.bottom };
     drawing.line("rest", Point { x, y: HEAD }, end)
 }
@@ -73,7 +73,7 @@ fn draw_roles(
 
 // Says what a node is at first.
 fn draw_first_role(drawing: &mut Drawing, role: Option<Role>, x: u64) -> Result<(), AllocError> {
-    let at = Point { x, y: 50 };
+    let at = Point { x, y: 42 };
     match &role {
         Some(role) => drawing.words("role", at, TextSide::Middle, role),
         None => drawing.words("role", at, TextSide::Middle, &"spare host"),

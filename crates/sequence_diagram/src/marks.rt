@@ -4,7 +4,7 @@ ghost use Rattle.sequence_diagram.specs.Marks.{is_news, look_after, told_wait};
 
 use crate::bars::operations_before;
 use crate::drawing::{Drawing, TextSide};
-use crate::geometry::Point;
+use crate::geometry::{MIDDLE, Point};
 use crate::moment::{Moment, NodeLook};
 use crate::place::Lifeline;
 use crate::plan::Layout;
@@ -16,7 +16,7 @@ use std::alloc::AllocError;
 const BESIDE: u64 = 18;
 
 // How wide a digit is in a count, and how far words are from its frame.
-const DIGIT: u64 = 8;
+const DIGIT: u64 = 10;
 
 const APART: u64 = 6;
 
@@ -66,7 +66,7 @@ pub fn draw_count(drawing: &mut Drawing, moment: &Moment, at: Point) -> Result<(
     drawing.rect("number", from, to)?;
     let below = Point {
         x: at.x,
-        y: at.y.saturating_add(4),
+        y: at.y.saturating_add(MIDDLE),
     };
     drawing.words("count", below, TextSide::Middle, &look.count)
 }
@@ -87,10 +87,10 @@ pub fn draw_waiting(
     let aside = count_width(moment).unwrap_or(BESIDE);
     let at = Point {
         x: plan.x(Lifeline::Node(wait.node)).saturating_sub(aside),
-        y: plan.y(place).saturating_add(4),
+        y: plan.y(place).saturating_add(MIDDLE),
     };
     let operations = wait.operations;
-    drawing.words(
+    drawing.label(
         "waiting",
         at,
         TextSide::Left,

@@ -1,6 +1,4 @@
 //! The arrows of a picture, and what marks that output waits.
-ghost use Rattle.std.specs.Prelude.{◌≡◌};
-ghost use Rattle.sequence_diagram.specs.Geometry.{beside};
 
 use crate::aims::aim_of;
 use crate::arrows::departure_from;
@@ -9,7 +7,7 @@ use crate::drawing::Drawing;
 use crate::exchanges::{Exchange, exchange_of};
 use crate::flights::{Flight, flight_to};
 use crate::folds::{keys_from, parts_from};
-use crate::geometry::Point;
+use crate::geometry::{Point, TURN, beside};
 use crate::moment::Moment;
 use crate::place::{Lifeline, sender_of};
 use crate::plan::Layout;
@@ -112,7 +110,7 @@ fn is_lost(plan: &Layout, moments: &[Moment], place: usize) -> bool {
     plan.lines.begins(place) && parts_from(moments, &plan.lines, place).flight.is_none()
 }
 
-// An arrow between two columns, each with its height.
+// An arrow between two columns, each with its height: level until it is near the second, so that it passes no words of other lines.
 fn draw_arrow(
     drawing: &mut Drawing,
     class: &str,
@@ -127,18 +125,14 @@ fn draw_arrow(
         x: beside(to.0, from.0, EDGE),
         y: to.1,
     };
-    drawing.line(class, begin, end)
-}
-
-/// A place beside a column, on the side of another column.
-pub fn beside(x: u64, other: u64, distance: u64) -> u64
-    ensures { result ≡ beside x other distance }
-{
-    if x < other {
-        x.saturating_add(distance)
-    } else {
-        x.saturating_sub(distance)
+    if begin.y == end.y {
+        return drawing.line(class, begin, end);
     }
+    let turn = Point {
+        x: beside(to.0, from.0, TURN),
+        y: from.1,
+    };
+    drawing.bent(class, begin, turn, end)
 }
 
 /// Marks where output waits, beside the line of its node.

@@ -7,7 +7,7 @@ use crate::drawing::{Drawing, TextSide};
 use crate::exchanges::{Exchange, exchange_of};
 use crate::flights::flight_to;
 use crate::folds::{keys_from, parts_from};
-use crate::geometry::Point;
+use crate::geometry::{MIDDLE, Point, beside};
 use crate::kept::KeptText;
 use crate::marks::{count_width, draw_count, draw_waiting};
 use crate::moment::Moment;
@@ -15,7 +15,6 @@ use crate::outcomes::OutcomeText;
 use crate::place::{Lifeline, place_of, sender_of};
 use crate::plan::Layout;
 use crate::runs::is_part;
-use crate::strokes::beside;
 use crate::told::{Refused, ToldText, WhyText};
 use pair_events::Event;
 use std::alloc::AllocError;
@@ -26,11 +25,8 @@ const NEAR: u64 = 12;
 
 const FAR: u64 = 18;
 
-// How much lower a label is that would be on the arrow that ends there.
-const BELOW: u64 = 19;
-
-// How much lower than an arrow what came of it is said, so that a long label of that arrow ends above it.
-const UNDER: u64 = 7;
+// How far from the middle of the column that it leaves a message is named, so that arrows to there pass.
+const LABEL: u64 = 40;
 
 // How many letters of a refusal there is room for between two columns.
 const ROOM: usize = 33;
@@ -83,56 +79,56 @@ fn draw_message(
     moments: &[Moment],
     place: usize,
 ) -> Result<(), AllocError> {
-    let sends = departure_from(moments, place).is_some();
-    let Some(flight) = flight_to(moments, place) else {
-        if sends {
-            return draw_cargo(drawing, plan, moments, place, 0);
-        }
-        return draw_note(drawing, plan, moments, place);
-    };
-    let way = (plan.x(flight.from), plan.x(flight.to));
-    draw_outcome(drawing, way, plan.y(place), moments, place)?;
-    if sends {
-        return draw_cargo(drawing, plan, moments, place, BELOW);
+    let flight = flight_to(moments, place);
+    if let Some(flight) = flight {
+        let way = (plan.x(flight.from), plan.x(flight.to));
+        draw_outcome(drawing, way, plan.y(place), moments, place)?;
     }
-    Ok(())
+    if departure_from(moments, place).is_some() {
+        return draw_cargo(drawing, plan, moments, place);
+    }
+    if flight.is_some() {
+        return Ok(());
+    }
+    draw_note(drawing, plan, moments, place)
 }
 
-// What the message carries that an event has sent, so much lower.
+// What the message carries that an event has sent.
 fn draw_cargo(
     drawing: &mut Drawing,
     plan: &Layout,
     moments: &[Moment],
     place: usize,
-    lower: u64,
 ) -> Result<(), AllocError> {
     let Some(moment) = moments.get(place) else {
         return Ok(());
     };
     let aim = aim_of(moments, place).unwrap_or(Lifeline::Arbiter);
     let way = (plan.x(sender_of(moment.event)), plan.x(aim));
-    let y = plan.y(place).saturating_add(lower);
-    draw_label(drawing, way, y, &Carried(*moment))
+    draw_label(drawing, way, plan.y(place), &Carried(*moment))
 }
 
-// What passes from one column to another, above the beginning of its arrow.
+// What passes from one column to another, on the beginning of its arrow.
 fn draw_label<D: fmt::Display>(
     drawing: &mut Drawing,
     way: (u64, u64),
     y: u64,
     words: &D,
 ) -> Result<(), AllocError> {
-    let (from, to) = way;
-    let side = if from < to {
+    let at = Point {
+        x: beside(way.0, way.1, LABEL),
+        y: y.saturating_add(MIDDLE),
+    };
+    drawing.label("label", at, side_of(way), words)
+}
+
+// On which side of a point words are that follow a way.
+fn side_of(way: (u64, u64)) -> TextSide {
+    if way.0 < way.1 {
         TextSide::Right
     } else {
         TextSide::Left
-    };
-    let at = Point {
-        x: beside(from, to, FAR),
-        y: y.saturating_sub(5),
-    };
-    drawing.words("label", at, side, words)
+    }
 }
 
 // The result, beyond the end of its arrow.
@@ -148,21 +144,17 @@ fn draw_outcome(
     };
     let at = Point {
         x: beyond(way),
-        y: y.saturating_add(UNDER),
+        y: y.saturating_add(MIDDLE),
     };
-    let side = if way.0 < way.1 {
-        TextSide::Right
-    } else {
-        TextSide::Left
-    };
+    let side = side_of(way);
     let class = if moment.answer.is_ok() {
         "outcome"
     } else {
         "refused"
     };
     match (moment.event, moment.answer) {
-        (Event::Put { .. }, Ok(_)) => drawing.words(class, at, side, &KeptText { moments, place }),
-        _ => drawing.words(class, at, side, &OutcomeText(*moment)),
+        (Event::Put { .. }, Ok(_)) => drawing.label(class, at, side, &KeptText { moments, place }),
+        _ => drawing.label(class, at, side, &OutcomeText(*moment)),
     }
 }
 
@@ -187,14 +179,28 @@ fn draw_note(
         return Ok(());
     };
     let here = place_of(moment.event);
-    let at = Point {
-        x: plan.x(here),
-        y: plan.y(place),
-    };
-    if moment.answer.is_ok() {
-        return draw_done(drawing, moment, at, ToldText { moments, place });
+    let (x, y) = (plan.x(here), plan.y(place));
+    if moment.answer.is_err() {
+        let at = Point {
+            x,
+            y: y.saturating_add(MIDDLE),
+        };
+        return draw_refused(drawing, plan.is_last(here), at, Refused { moments, place });
     }
-    draw_refused(drawing, plan.is_last(here), at, Refused { moments, place })
+    let told = ToldText { moments, place };
+    match here {
+        Lifeline::Terminal(_) => draw_typed(drawing, Point { x, y }, told),
+        _ => draw_done(drawing, moment, Point { x, y }, told),
+    }
+}
+
+// What has happened at a terminal: left of it, where no arrow comes.
+fn draw_typed(drawing: &mut Drawing, at: Point, told: ToldText<'_>) -> Result<(), AllocError> {
+    let beside = Point {
+        x: at.x.saturating_sub(FAR),
+        y: at.y.saturating_add(MIDDLE),
+    };
+    drawing.label("note", beside, TextSide::Left, &told)
 }
 
 // What has happened, with the count of the machine, if it has run.
@@ -208,48 +214,46 @@ fn draw_done(
     let aside = count_width(moment).unwrap_or(NEAR);
     let beside = Point {
         x: at.x.saturating_add(aside),
-        y: at.y.saturating_add(4),
+        y: at.y.saturating_add(MIDDLE),
     };
-    drawing.words("note", beside, TextSide::Right, &told)
+    drawing.label("note", beside, TextSide::Right, &told)
 }
 
-// What is refused, and why. It is left of the last column, since there is more room than right of it.
+// What is refused, and why. It is left of the last column, since there is more room than right of it; and on both sides of a column,
+// if it is too long for one.
 fn draw_refused(
     drawing: &mut Drawing,
     is_last: bool,
     at: Point,
     refused: Refused<'_>,
 ) -> Result<(), AllocError> {
-    let (x, side) = if is_last {
-        (at.x.saturating_sub(FAR), TextSide::Left)
-    } else {
-        (at.x.saturating_add(NEAR), TextSide::Right)
+    let Refused { moments, place } = refused;
+    let left = Point {
+        x: at.x.saturating_sub(FAR),
+        y: at.y,
+    };
+    let right = Point {
+        x: at.x.saturating_add(NEAR),
+        y: at.y,
     };
     if drawing.length(&refused)? > ROOM {
-        return draw_rows(drawing, Point { x, y: at.y }, side, refused);
+        drawing.label(
+            "refused",
+            left,
+            TextSide::Left,
+            &ToldText { moments, place },
+        )?;
+        return drawing.label(
+            "refused",
+            right,
+            TextSide::Right,
+            &WhyText { moments, place },
+        );
     }
-    let y = at.y.saturating_add(4);
-    drawing.words("refused", Point { x, y }, side, &refused)
-}
-
-// The same in two rows, since it is too long for one.
-fn draw_rows(
-    drawing: &mut Drawing,
-    at: Point,
-    side: TextSide,
-    refused: Refused<'_>,
-) -> Result<(), AllocError> {
-    let Refused { moments, place } = refused;
-    let above = Point {
-        x: at.x,
-        y: at.y.saturating_sub(4),
-    };
-    let below = Point {
-        x: at.x,
-        y: at.y.saturating_add(8),
-    };
-    drawing.words("refused", below, side, &WhyText { moments, place })?;
-    drawing.words("refused", above, side, &ToldText { moments, place })
+    if is_last {
+        return drawing.label("refused", left, TextSide::Left, &refused);
+    }
+    drawing.label("refused", right, TextSide::Right, &refused)
 }
 
 // Keys that share a line.
@@ -286,9 +290,9 @@ fn draw_parts(
     }
     let at = Point {
         x: beyond(way),
-        y: y.saturating_add(UNDER),
+        y: y.saturating_add(MIDDLE),
     };
-    drawing.words("outcome", at, TextSide::Right, &"whole: the backup")
+    drawing.label("outcome", at, side_of(way), &"whole: the backup")
 }
 
 // From where an event happens to where what it sends should arrive.

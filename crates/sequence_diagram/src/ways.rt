@@ -4,7 +4,7 @@ ghost use Rattle.std.specs.List.{list_any};
 ghost use Rattle.sequence_diagram.specs.Losses.{end_of_loss, is_free, is_near, touches, x_after, x_at};
 
 use crate::flights::flight_to;
-use crate::geometry::Point;
+use crate::geometry::{Point, TURN, beside};
 use crate::moment::Moment;
 use crate::plan::Layout;
 use std::alloc::{AllocError, Global};
@@ -15,16 +15,17 @@ const CLEAR: u64 = 8;
 const ASIDE: u64 = 18;
 
 // How much of its way a lost message makes, in hundredths: the first of these at which its cross touches nothing.
-static REACHES: [u64; 7] = [80, 90, 70, 60, 50, 40, 30];
+static REACHES: [u64; 7] = [90, 80, 70, 60, 50, 40, 30];
 
-/// The way of a message that arrived, from where it was sent down to where it came.
+/// The last part of the way of a message that arrived, from where it turns down to where it came. Before that it is level, on the line
+/// of the event that sent it.
 #[derive(Clone, Copy)]
 pub struct Way {
     pub from: Point,
     pub to: Point,
 }
 
-/// The ways of all messages that arrived.
+/// The last parts of the ways of all messages that arrived.
 pub fn ways_of(alloc: Global, plan: &Layout, moments: &[Moment]) -> Result<Vec<Way>, AllocError> {
     let mut ways = Vec::new(alloc);
     for place in 0..moments.len() {
@@ -35,16 +36,16 @@ pub fn ways_of(alloc: Global, plan: &Layout, moments: &[Moment]) -> Result<Vec<W
     Ok(ways)
 }
 
-// The way of the message that an event has brought.
+// The last part of the way of the message that an event has brought.
 fn way_to(plan: &Layout, moments: &[Moment], place: usize) -> Option<Way> {
     let flight = flight_to(moments, place)?;
-    let from = Point {
-        x: plan.x(flight.from),
-        y: plan.y(flight.sent),
-    };
     let to = Point {
         x: plan.x(flight.to),
         y: plan.y(place),
+    };
+    let from = Point {
+        x: beside(to.x, plan.x(flight.from), TURN),
+        y: plan.y(flight.sent),
     };
     Some(Way { from, to })
 }

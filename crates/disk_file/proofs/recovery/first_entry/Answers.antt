@@ -1,6 +1,6 @@
-use Rattle.std.proofs.Common.{rules, arith, ◌≡◌, ◌≤◌, length, slice_index_or}
+use Rattle.std.proofs.Common.{rules, arith, ◌≡◌, ◌≤◌, length, drop, ◌∙◌, ap, slice_index_or}
 use Rattle.std.proofs.lemmas.List.{length-take-le}
-use Rattle.disk_file.proofs.Reading.{behind, entry_read, behind_shorter}
+use Rattle.disk_file.proofs.Reading.{behind, entry_read, behind_shorter, behind_block}
 use Rattle.disk_file.proofs.recovery.first_entry.Goals as goal
 
 pub returns-clause-entry : goal.returns-clause-entry
@@ -14,3 +14,6 @@ returns-clause-fits c =
     let long : 3 ≤ length c.args.journal.now = search rules in
     let enough : 137 ≤ length (behind 3 c.args.journal.now) = omega (arith, c.if-after-lt-SECTOR_BYTES.false) in
     (omega (arith, c.if-place-sectors.false), length-take-le 137 (behind 3 c.args.journal.now) enough, behind_shorter c.args.journal.now long enough)
+
+pub returns-clause-after : goal.returns-clause-after
+returns-clause-after c = behind_block c.args.journal.now

@@ -1,6 +1,6 @@
 use Rattle.std.proofs.Common.{rules, ◌≡◌, ◌≤◌, length, ap, arith}
 use Rattle.disk_file.proofs.Tears.{torn_less}
-use Rattle.disk_file.proofs.crashing.CrashingMemoryDevice.write_at.Goals as goal
+use Rattle.disk_file.proofs.crashing.CrashingMemoryCrashableFile.write_at.Goals as goal
 
 pub returns-in_err-write_at-clause-crash : goal.returns-in_err-write_at-clause-crash
 returns-in_err-write_at-clause-crash c f left =

@@ -1,5 +1,5 @@
 use Rattle.disk_file.proofs.Pasts.{elapses_to}
-use Rattle.disk_file.proofs.file_device.FileDeviceDevice.cut.Goals as goal
+use Rattle.disk_file.proofs.file_device.FileDeviceCrashableFile.cut.Goals as goal
 
 pub returns-clause-time : goal.returns-clause-time
 returns-clause-time c =

@@ -1,5 +1,5 @@
 use Rattle.disk_file.proofs.Pasts.{elapses_to}
-use Rattle.disk_file.proofs.file_device.FileDeviceDevice.write_at.Goals as goal
+use Rattle.disk_file.proofs.file_device.FileDeviceCrashableFile.write_at.Goals as goal
 
 pub returns-in_err-lengthen-clause-time : goal.returns-in_err-lengthen-clause-time
 returns-in_err-lengthen-clause-time c =

@@ -1,5 +1,5 @@
 use Rattle.disk_file.proofs.SectorPasts.{elapses_to}
-use Rattle.disk_file.proofs.memory.MemoryDevice.cut.Goals as goal
+use Rattle.disk_file.proofs.memory.MemoryFileCrashableFile.cut.Goals as goal
 
 pub returns-clause-time : goal.returns-clause-time
 returns-clause-time c =
