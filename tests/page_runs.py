@@ -40,9 +40,9 @@ NOT_PROVED = re.compile(r"^pair: (?:not proved|building).*\n", re.MULTILINE)
 # A console on a busy machine, none of whose hosts is suspected before it is killed.
 CONSOLE = ("console", "--patience", "30000")
 
-# A disk that has a text at its beginning, a script with a bad line, and one that is a session too.
+# A disk that boots and has a text in its last sector, a script with a bad line, and one that is a session too.
 TEXT = b"the disk of the shell"
-IMAGE = TEXT.ljust(337_568, b"\0")
+IMAGE = (EXAMPLES / "guests/hello.dsk").read_bytes()[:-137] + TEXT.ljust(137, b"\0")
 BAD_SCRIPT = b"node 0\nstopp 0\n"
 SESSION = b"node 0\n"
 
@@ -157,12 +157,19 @@ def ported(text: bytes) -> bytes:
     return b"port 0: " + text.hex(" ").upper().encode()
 
 
+def edits_lines(command: str) -> None:
+    """A case: the editor echoes what its first user types, and shows him the line that the second one has finished."""
+    prints(b"helo\x08 \x08lo\r\n", command, b"helo\x08lo\r")
+    prints(b">good\r\n", f"{command} --type '1=good\\r'")
+
+
 # What a command must do that is not one of PLAYED.
 DOES: dict[str, Callable[[str], None]] = {
     "./pair console": lambda it: has((b"MONITOR\r\n*D 0000\r\n0000 ",), it, b"D 0000\r"),
+    "./pair console --load examples/guests/editor.hex --setup examples/guests/editor.setup": edits_lines,
     "./pair lint < FILE": lambda it: prints(b"line 2: stopp begins no line of a script\n", it, status=3),
     "./pair shell": lambda it: has((b"primary 1 count 0\n", b"\nstop N "), it, b"node 0\nhelp\n"),
-    "./pair shell --disk 0=FILE.dsk": lambda it: has((b"|" + TEXT[:16] + b"|",), it, b"sector 0 0 0\n"),
+    "./pair shell --disk 0=FILE.dsk": lambda it: has((b"|" + TEXT[:16] + b"|",), it, b"sector 0 76 31\n"),
     './pair live --load FILE.hex --type "0=TEXT"': lambda it: has((ported(b"MONITOR\r\n*T"),), it),
     "./pair help": lists,
     "./mistake LIST": mistakes,
@@ -324,6 +331,7 @@ SAYS = {
     "speed N": ("speed 300000", "the machine makes at most 300000 steps a second"),
     "save D FILE": ("save 0 work.dsk", "drive 0 is saved to work.dsk"),
     "picture FILE": ("picture story.svg", "is drawn in story.svg"),
+    "do FILE": ("do steps", "steps: No such file"),
     "status": ("status", "the link loses every packet"),
     "help": ("help", "quit"),
     "terminal P": ("terminal 0", "terminal 0"),

@@ -1,13 +1,14 @@
 """What the words of a command line ask of a console: a guest, its disks and keys, its hosts, and what is done first."""
 
 import os
+import re
 import shlex
 
 import disks
 from doing import steps_in
 from files import hex_lines, image_in, place_for, read, refuse_missing, save_all
 from hosts import ROLES
-from options import complain, count_in, drives_in, key_in, key_lines, key_name, memory_line, numbered, sense_line, spelled, taken
+from options import accepted, complain, count_in, drives_in, key_in, key_lines, key_name, memory_line, numbered, sense_line, spelled, taken, told
 from places import is_place
 
 # The options that say how many hosts there are, and how they are run.
@@ -15,8 +16,9 @@ OF_HOSTS = {"--hosts", "--host", "--later", "--patience", "--remote", "--remote-
 MONITOR = os.path.join(os.path.dirname(os.path.dirname(os.path.realpath(__file__))), "examples/guests/monitor.hex")
 # How many processes begin, how many more do when others have ended, how many `spare` starts, and how many places there are at most.
 HOSTS, LATER, ASKED, MOST = 3, 8, 16, 99
-# The status of an outside that has no host left with the machine; it has written the disks then, too.
-NO_HOSTS = 6
+# The statuses of an outside that has no host left with the machine, and of one that has cut a machine off that ran in silence; it has
+# written the disks then, too.
+NO_HOSTS, SILENT = 6, 8
 # What the escape key sends unless another is chosen.
 ESCAPE = 0x05
 
@@ -73,8 +75,10 @@ class Asked:
             self.own += ["--unsynced"] * (word_in(option, value, ("on", "off")) == "off")
         elif option == "--speed":
             self.steps.insert(0, (None, b"speed %d" % count_in(option, value, 10_000)))
+        elif option == "--silence":
+            self.own += [option, str(count_in(option, value, 1))]
         elif option == "--do":
-            self.steps += steps_in(value)
+            self.steps += accepted(steps_in, value)
         elif option == "--lines":
             self.lines = word_in(option, value, ("row", "here"))
         elif option in OF_HOSTS:
@@ -132,6 +136,20 @@ class Asked:
             drive, path = numbered(option, value, 3)
             self.images[drive] = image_in(path)
 
+    def has_program(self) -> bool:
+        """Whether any byte of the memory at boot is other than 0, which alone does nothing."""
+        lines = re.findall(rb"^[ \t]*mem[ \t]+[^ \t\n]+([^\n]*)", self.setup + spelled(self.memory), re.MULTILINE)
+        return any(line.strip(b" \t\r0") for line in lines)
+
+    def has_disk(self) -> bool:
+        """Whether any drive has a disk that is not empty."""
+        return bool(self.images or self.attached or re.search(rb"^[ \t]*sector[ \t]", self.setup, re.MULTILINE))
+
+    def warn_of_nothing(self) -> None:
+        """Says before anything runs that a machine without a program can do nothing; it runs all the same."""
+        if not self.has_program():
+            told("the memory of the machine is empty, so it does nothing without end: --load FILE or --memory gives it a program")
+
     def hint(self):
         """How a command is given."""
         return f"{key_name(self.escape)} opens a line of commands"
@@ -173,14 +191,22 @@ class Asked:
     def end(self, status, run):
         """Ends the command if what its program wrote could not be passed on; else the disks are saved if the program ended well. Gives the
         status of the command."""
+        self.tell_of_silence(status, run)
         for screen in run.screens:
             if screen.error:
                 complain(f"the output is not written: {screen.error.strerror}", 5)
-        if self.saves and run.program.returncode not in (0, NO_HOSTS):
+        if self.saves and run.program.returncode not in (0, NO_HOSTS, SILENT):
             complain(f"{', '.join(self.saves.values())}: not written, since `pair console` did not end well", status)
         if self.saves:
             self.save(bytes(run.screens[0].kept or b""))
         return status
+
+    def tell_of_silence(self, status, run) -> None:
+        """Says after the last key of a pipe what a machine may wait for that was cut off, or has printed nothing."""
+        if status == SILENT and not self.has_disk():
+            told("no drive has a disk, if the machine waits for one: --disk or --attach gives it one")
+        if status == 0 and not os.isatty(0) and run.has_printed_nothing():
+            told("the machine has printed nothing: if it is halted with interrupts off, no key wakes it")
 
     def save(self, images):
         """Writes each disk that is to be saved, of those that came one after another."""

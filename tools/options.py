@@ -14,6 +14,7 @@ usage: tools/options.py [COMMAND]     prints those of a command; without one, al
   --sense HH            for `console`: the sense switches, in two hexadecimal digits
   --speed N             for `console`: the machine makes at most N instructions a second, 10000 to 999999999
   --do FILE             for `console`: what is done before the first key: commands, `type TEXT`, `wait TEXT` and `sleep MS`, one a line
+  --silence SECONDS     for `console`: after the last key of a pipe: for how long a machine that runs may print nothing and write to no disk
   --escape KEY          for `console`: the key that opens a command line, as ^E, or as two hexadecimal digits
   --hosts N             for `console`: how many processes begin, from 2 on: the primary, its backup, and spares
   --host PLACE          for `console`: a host here (`here`), or where ssh leads, as `alpha`; once for each host, in place of --hosts
@@ -50,6 +51,7 @@ OPTIONS = {
     "--sense": ("console",),
     "--speed": ("console",),
     "--do": ("console",),
+    "--silence": ("console",),
     "--escape": ("console",),
     "--lines": ("console",),
     "--hosts": ("console",),
@@ -78,11 +80,33 @@ def tell_options(command=None):
         print("\n".join(told))
 
 
+def told(line: str) -> None:
+    """Says a line about the command on standard error."""
+    with contextlib.suppress(OSError):
+        print(f"pair: {line}", file=sys.stderr)
+
+
 def complain(why, status=2):
     """Ends the command with a reason; status 2 is that of a command line that is refused."""
-    with contextlib.suppress(OSError):
-        print(f"pair: {why}", file=sys.stderr)
+    told(why)
     sys.exit(status)
+
+
+class Refused(Exception):
+    """Why something is refused."""
+
+
+def refuse(why):
+    """Refuses something, with a reason."""
+    raise Refused(why)
+
+
+def accepted(make, *words):
+    """What is made of some words; if it is refused, the command ends with the reason."""
+    try:
+        return make(*words)
+    except Refused as why:
+        return complain(why)
 
 
 def taken(command, words, own=()):
@@ -147,7 +171,7 @@ def sense_line(word):
 
 def key_lines(port, text):
     """The lines of a script for `live` that type a text."""
-    return [f"type {port} {key:02X}" for key in keys_in(f"--type {port}={text}", text)]
+    return [f"type {port} {key:02X}" for key in accepted(keys_in, f"--type {port}={text}", text)]
 
 
 def keys_in(where, text):
@@ -156,7 +180,7 @@ def keys_in(where, text):
     while rest:
         found = re.match(r"\\([rnt\\])|\\x([0-9A-Fa-f]{2})|([^\\])", rest, re.DOTALL)
         if not found:
-            complain(f"{where}: after a backslash comes r, n, t, x with two hexadecimal digits, or a backslash")
+            refuse(f"{where}: after a backslash comes r, n, t, x with two hexadecimal digits, or a backslash")
         named, code, plain = found.groups()
         keys += ESCAPES[named] if named else bytes.fromhex(code) if code else os.fsencode(plain)
         rest = rest[found.end() :]

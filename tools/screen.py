@@ -24,6 +24,8 @@ class Screen:
         # What came after the mark, of which it is not known yet what it is; and after that what is kept, or handed over.
         self.doubt = self.kept = self.handed = None
         self.error = None
+        # Whether anything was passed on.
+        self.has_passed = False
 
     def pass_on(self):
         """Passes on what comes, to its end."""
@@ -61,7 +63,7 @@ class Screen:
         text = self.tail + some
         at = text.find(self.mark)
         end = at if at >= 0 else len(text) - begun(text, self.mark)
-        self.output.write(text[self.passed : end])
+        self.write(text[self.passed : end])
         self.tail, self.passed = text[end:], max(self.passed - end, 0)
         if at < 0:
             return b""
@@ -91,7 +93,12 @@ class Screen:
         self.output.write(self.heard(text[:at]))
         return text[at + len(self.mark) :]
 
+    def write(self, some):
+        """Passes on bytes of the machine."""
+        self.has_passed = self.has_passed or bool(some)
+        self.output.write(some)
+
     def pass_tail(self):
         """Passes on what is held back; what comes next may still make it the mark."""
-        self.output.write(self.tail[self.passed :])
+        self.write(self.tail[self.passed :])
         self.passed = len(self.tail)

@@ -5,3 +5,5 @@ pub mod Freshening
 pub mod LaterPages
 pub mod KeepingUp
 pub mod WrittenPages
+pub mod Loops
+pub mod Same

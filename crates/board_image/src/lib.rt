@@ -11,6 +11,7 @@ mod images;
 mod key_laws;
 mod key_room;
 mod laws;
+mod polling;
 mod snapshots;
 mod writes;
 

@@ -9,7 +9,7 @@ use Rattle.host_node.specs.declared.pace.End.TheVariants as of_end
 abbrev pub console_status : HostsEnd → ℕ
 console_status UserQuit = 0
 console_status Settled = 0
-console_status Silent = 0
+console_status Silent = 8
 console_status Stopped = 5
 console_status NoHosts = 6
 

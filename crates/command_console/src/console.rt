@@ -1,5 +1,5 @@
 //! A console whose hosts are processes, from the files that come first to the disks that are saved.
-ghost use Rattle.std.specs.Prelude.{◌≡◌, ◌⊎◌, ◌++◌, IfErr, IfOk, OnOk, string_bytes};
+ghost use Rattle.std.specs.Prelude.{◌≡◌, ◌⊎◌, ◌*◌, ◌++◌, ◌-◌, ◌^◌, IfErr, IfOk, OnOk, min, string_bytes};
 ghost use Rattle.std.specs.Io.KnownBytes.{Appends};
 ghost use Rattle.command_io.specs.declared.failure.Failure.TheVariants.{InputOrOutput, OutOfMemory};
 ghost use Rattle.command_io.specs.Saving.{images_of};
@@ -33,6 +33,9 @@ use std::time::Clock;
 
 // How many keys, and how many bytes that a terminal has accepted, wait at most.
 const BYTES: usize = 4_096;
+
+// How many microseconds a second has.
+const SECOND: u64 = 1_000_000;
 
 // How many notes, and how many lines about the hosts, wait at most.
 const LINES: usize = 1_024;
@@ -216,6 +219,7 @@ fn prepare(
 ) -> R<Prepared>
     ensures opens { IfOk result (λ p. OpensFor input.now p.session) }
     ensures open { IfOk result (λ p. AreOpen p.session p.ends) }
+    ensures silence { IfOk result (λ p. p.session.silence ≡ min (order.now.silence * 1_000_000) (2 ^ 64 - 1)) }
 {
     let (store, shelf) = mirrored_store(alloc, input, drives)?;
     let seats = Arc::new(alloc, Seats::new(alloc))?;
@@ -242,6 +246,7 @@ fn prepare(
         Screen::of(screen),
         quits_from,
         teller,
+        order.silence.saturating_mul(SECOND),
     )?;
     let ends = Ends {
         first,

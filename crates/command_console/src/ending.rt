@@ -26,8 +26,8 @@ pub fn ending_of_console(end: HostsEnd) -> (u8, &'static str)
     match end {
         HostsEnd::UserQuit | HostsEnd::Settled => (0, ""),
         HostsEnd::Silent => (
-            0,
-            "pair: nothing has appeared for ten seconds; the machine, which still runs, is cut off",
+            8,
+            "pair: the machine, which still runs, is cut off: for as long as --silence says it has printed nothing and written to no disk",
         ),
         HostsEnd::Stopped => (5, ""),
         HostsEnd::NoHosts => (6, "no host is left that has the machine"),

@@ -32,11 +32,12 @@ link_and_disks = text_option (codes "link") ∷ text_option (codes "images") ∷
 abbrev pub script_options : List Rule
 script_options = text_option (codes "images") ∷ []
 
--- for how many turns a pair runs, and when somebody asks
+-- for how many turns a pair runs, when somebody asks, and whether what was accepted is printed as text
 abbrev pub turn_options : List Rule
 turn_options = by_default (codes "1000000") (number_option (codes "turns") 1 1000000000)
     ∷ number_option (codes "primary-asks") 0 1000000000
     ∷ number_option (codes "backup-asks") 0 1000000000
+    ∷ flag_option (codes "text")
     ∷ []
 
 -- the options of `live`
@@ -51,12 +52,14 @@ host_options = by_default (codes "spare") (text_option (codes "role"))
     ∷ text_option (codes "images")
     ∷ []
 
--- where the hosts of `console` are, the key that opens a command line, and how many bytes come before the first key
+-- where the hosts of `console` are, the key that opens a command line, how many bytes come before the first key, and for how many
+-- seconds the machine may be silent after the last one
 abbrev pub sitting_options : List Rule
 sitting_options = by_default (codes ".") (text_option (codes "folder"))
     ∷ by_default (codes "3") (number_option (codes "places") 2 99)
     ∷ by_default (codes "5") (number_option (codes "escape") 0 255)
     ∷ by_default (codes "0") (number_option (codes "before") 0 1099511627776)
+    ∷ by_default (codes "60") (number_option (codes "silence") 1 86400)
     ∷ []
 
 -- the files of the drives of `console`, and whether their disks may be late

@@ -52,12 +52,13 @@ drive_of word =
 abbrev pub drives_in : List Row → Text → List ℕ
 drives_in rows option = map drive_of (pieces_in rows option)
 
--- each option of `live` sets what it says: how many turns, when somebody asks, these fates in this order, and the drives whose disks
+-- each option of `live` sets what it says: how many turns, when somebody asks, how it is printed, these fates in this order, and the drives whose disks
 -- are saved; the drives with images are given
 pub record IsOrdered (rows : List Row) (images : List ℕ) (order : LiveOrder) : Type 0 where
   pub turns : IsGivenOr 64 1000000 (one_of (codes "turns") rows) order.turns
   pub primary_asks : IsGiven 64 (one_of (codes "primary-asks") rows) order.primary_asks
   pub backup_asks : IsGiven 64 (one_of (codes "backup-asks") rows) order.backup_asks
+  pub text : IsFlag (one_of (codes "text") rows) order.text
   pub link : order.link.items ≡ map fate_of (pieces_in rows (codes "link"))
   pub images_are : order.images.items ≡ images
   pub saved : order.saved.items ≡ drives_in rows (codes "saved")
@@ -89,7 +90,7 @@ attached_in rows = text_given rows (codes "attach0")
     ∷ []
 
 -- the same of `console`: its folder, how many places there are, the key that opens a command line, how much comes before the first key, the drives
--- whose disks are saved, the mark before these, and the files that are disks
+-- whose disks are saved, the mark before these, the files that are disks, and how long the machine may be silent
 pub record IsConsoleOrdered (rows : List Row) (images : List ℕ) (order : ConsoleOrder) : Type 0 where
   pub folder : string_bytes order.folder ≡ text_given rows (codes "folder")
   pub places : IsGivenOr 64 3 (one_of (codes "places") rows) order.places
@@ -101,6 +102,7 @@ pub record IsConsoleOrdered (rows : List Row) (images : List ℕ) (order : Conso
   pub apart : IsFlag (one_of (codes "apart") rows) order.apart
   pub attached : map (λ name. string_bytes name) order.attached.items ≡ attached_in rows
   pub unsynced : IsFlag (one_of (codes "unsynced") rows) order.unsynced
+  pub silence : IsGivenOr 64 60 (one_of (codes "silence") rows) order.silence
 
 -- the word that names the command: the one after the program's name; [] if there is none
 abbrev pub command_word : List Text → Text

@@ -25,7 +25,7 @@ END
 
 Exit status: 0 the run ended; 2 this text, or a command line that is none; 3 a bad
 script; 4 out of memory; 5 input or output failed; 6 a pair on threads stalled; 7
-`check` found a difference.";
+`check` found a difference; 8 a console cut its machine off.";
 
 // The names of the fates of a packet: it is brought, it is lost, it is brought twice.
 pub(crate) static FATES: &[&str] = &["pass", "drop", "twice"];
@@ -47,6 +47,9 @@ const MOST_TURNS: u64 = 1_000_000_000;
 const TURNS_HELP: &str =
     "In how many turns the primary, and the backup, may make progress; one that finds nothing to do is none of them";
 
+const TEXT_HELP: &str =
+    "Prints what the terminals have accepted as text, line by line, and not in hexadecimal";
+
 const ESCAPE_HELP: &str =
     "The key that opens a command line, as the number of its byte; 5 is Ctrl-E";
 
@@ -55,6 +58,12 @@ const BEFORE_HELP: &str =
 
 // How many bytes come before the first key at most.
 const MOST_BEFORE: u64 = 1_099_511_627_776;
+
+const SILENCE_HELP: &str =
+    "After the end of the keys: for how many seconds a machine that runs may print nothing and write to no disk until it is cut off";
+
+// The longest silence: a day.
+const MOST_SILENCE: u64 = 86_400;
 
 const MARK: &str =
     "What is written between the guest's output and the disks of --saved; ./pair looks for it";
@@ -242,7 +251,8 @@ fn console_command<'a>(alloc: Global, lists: ListHandling) -> Result<Command<'a>
         .arg(apart(alloc))
 }
 
-// The command with its options that say where hosts are, which key opens a command line, and how much comes before the first key.
+// The command with its options that say where hosts are, which key opens a command line, how much comes before the first key, and how long
+// the machine may be silent after the last one.
 fn with_sitting<'a>(alloc: Global, console: Command<'a>) -> Result<Command<'a>, AllocError>
     ensures { IfOk result (Adds sitting_options console.entry) }
 {
@@ -250,7 +260,8 @@ fn with_sitting<'a>(alloc: Global, console: Command<'a>) -> Result<Command<'a>, 
         .arg(folder(alloc))?
         .arg(places(alloc))?
         .arg(escape(alloc))?
-        .arg(before(alloc))
+        .arg(before(alloc))?
+        .arg(silence(alloc))
 }
 
 // The command with its options for the files of its drives.
@@ -265,7 +276,7 @@ fn with_attached<'a>(alloc: Global, console: Command<'a>) -> Result<Command<'a>,
         .arg(unsynced(alloc))
 }
 
-// The command with its options that say for how many turns, and when somebody asks.
+// The command with its options that say for how many turns, when somebody asks, and how what was accepted is printed.
 fn with_turns<'a>(alloc: Global, live: Command<'a>) -> Result<Command<'a>, AllocError>
     ensures { IfOk result (Adds turn_options live.entry) }
 {
@@ -278,7 +289,10 @@ fn with_turns<'a>(alloc: Global, live: Command<'a>) -> Result<Command<'a>, Alloc
     let backup_asks = turn(alloc, "backup-asks", 0).help(
         "The turn at which the backup asks to go on alone",
     );
-    live.arg(turns)?.arg(primary_asks)?.arg(backup_asks)
+    live.arg(turns)?
+        .arg(primary_asks)?
+        .arg(backup_asks)?
+        .arg(as_text(alloc))
 }
 
 // The command with its options for the link and the disks.
@@ -293,6 +307,12 @@ fn with_link_and_disks<'a>(
         .arg(link(alloc, lists))?
         .arg(images(alloc, lists))?
         .arg(saved(alloc, lists))
+}
+
+fn as_text<'a>(alloc: Global) -> Arg<'a>
+    ensures { IsOption (flag_option (codes "text")) result }
+{
+    flag(alloc, "text").help(TEXT_HELP)
 }
 
 fn role<'a>(alloc: Global, lists: ListHandling) -> Arg<'a>
@@ -345,6 +365,14 @@ fn escape<'a>(alloc: Global) -> Arg<'a>
     number(alloc, "escape", 0, 255)
         .default_value("5")
         .help(ESCAPE_HELP)
+}
+
+fn silence<'a>(alloc: Global) -> Arg<'a>
+    ensures { IsOption (by_default (codes "60") (number_option (codes "silence") 1 86400)) result }
+{
+    number(alloc, "silence", 1, MOST_SILENCE)
+        .default_value("60")
+        .help(SILENCE_HELP)
 }
 
 fn mark<'a>(alloc: Global) -> Arg<'a>

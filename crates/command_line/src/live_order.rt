@@ -12,6 +12,8 @@ pub struct LiveOrder {
     pub backup_asks: Option<u64>,
     /// What becomes of the packets of the link, in order; the last fate is that of all further ones.
     pub link: Vec<Fate>,
+    /// Whether what the terminals have accepted is printed as text.
+    pub text: bool,
     /// The drives whose images come before the script.
     pub images: Vec<u8>,
     /// The drives whose images are written after what is printed.

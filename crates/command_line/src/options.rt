@@ -54,6 +54,9 @@ const ESCAPE: u8 = 5;
 // For how many milliseconds a host is patient if the command line does not say.
 const PATIENCE: u64 = 1_000;
 
+// For how many seconds a machine may be silent if it does not say.
+const SILENCE: u64 = 60;
+
 // How many places for hosts there are if it does not say.
 const PLACES: u64 = 3;
 
@@ -199,12 +202,14 @@ fn live_order(
     let turns = number(matches, "turns").unwrap_or(TURNS);
     let primary_asks = number(matches, "primary-asks");
     let backup_asks = number(matches, "backup-asks");
+    let text = flag(matches, "text");
     let link = link_in(alloc, matches)?;
     let saved = saved_in(alloc, matches)?;
     Ok(LiveOrder {
         turns,
         primary_asks,
         backup_asks,
+        text,
         link,
         images,
         saved,
@@ -256,6 +261,7 @@ fn console_order(
     let apart = flag(matches, "apart");
     let attached = attached_in(alloc, matches)?;
     let unsynced = flag(matches, "unsynced");
+    let silence = number(matches, "silence").unwrap_or(SILENCE);
     Ok(ConsoleOrder {
         folder,
         places,
@@ -267,6 +273,7 @@ fn console_order(
         apart,
         attached,
         unsynced,
+        silence,
     })
 }
 

@@ -1,5 +1,5 @@
 -- What a pair on threads prints is an end of its generation; what is typed at it, line by line.
-use Rattle.std.proofs.Common.{◌≡◌, ℕ, ◌+◌, ◌<◌, zero, suc, Option, Some, None, List, [], ◌∷◌, ◌++◌, Result, Ok, Err, inl, inr, refl, subst, sym, ap, ◌∙◌, length, replicate, take, get_or, if◌then◌else◌, append-nil, arith}
+use Rattle.std.proofs.Common.{◌≡◌, ℕ, Bool, ◌+◌, ◌<◌, zero, suc, Option, Some, None, List, [], ◌∷◌, ◌++◌, Result, Ok, Err, inl, inr, refl, subst, sym, ap, ◌∙◌, length, replicate, take, get_or, if◌then◌else◌, append-nil, arith}
 use Rattle.std.specs.Prelude.{◌⊎◌, IfErr, IfOk, IsTrue, OnOk}
 use Rattle.std.specs.Global.{Vec}
 use Rattle.std.specs.Result.{IsErrAnd}
@@ -29,12 +29,12 @@ use Rattle.script_language.specs.declared.line.Line.{Line}
 use Rattle.script_language.specs.declared.setup.ScriptSetup.{ScriptSetup}
 
 -- the screens are printed, and the images are those of the disk
-pub tells_screens : (winner : Option Who) (screens : List (List ℕ)) (records : List Record) (saved images first second : List ℕ)
+pub tells_screens : (as_text : Bool) (winner : Option Who) (screens : List (List ℕ)) (records : List Record) (saved images first second : List ℕ)
     (old new : Option (List ℕ)) → screens ≡ first ∷ second ∷ [] → images ≡ images_of records saved
     → AreWhole images saved
-    → AddsLine (Some (end_text first second winner)) old new
-    → PrintsScreens winner screens records saved images old new
-tells_screens winner screens records saved images first second old new are images_are whole one =
+    → AddsLine (Some (end_text as_text first second winner)) old new
+    → PrintsScreens as_text winner screens records saved images old new
+tells_screens as_text winner screens records saved images first second old new are images_are whole one =
     record { first = first; second = second; screens_are = are; images_are = images_are; whole = whole; printed = one }
 
 -- a line that is not handed in
@@ -43,14 +43,14 @@ tells_none : (e : Failure) (old new : Option (List ℕ)) → (e ≡ failure.OutO
 tells_none e old new kept (inl is) = subst (λ f. PrintsNone f old new) (sym is) (kept is)
 tells_none e old new kept (inr is) = subst (λ f. PrintsNone f old new) (sym is) tt
 
-pub tells_residual : (winner : Option Who) (screens : List (List ℕ)) (records : List Record) (saved : List ℕ)
+pub tells_residual : (as_text : Bool) (winner : Option Who) (screens : List (List ℕ)) (records : List Record) (saved : List ℕ)
     (result : Result (Vec ℕ) Failure) (told : Result (Unit {0}) Failure) (e : Failure)
     (old new : Option (List ℕ)) → IsErrAnd result (λ k. k ≡ e) → told ≡ Err e
     → (told ≡ Err failure.OutOfMemory → Keeps old new)
     → IfErr told (λ e. (e ≡ failure.OutOfMemory) ⊎ (e ≡ failure.InputOrOutput))
-    → TellsScreens winner screens records saved result old new
-tells_residual winner screens records saved (Ok images) told e old new is was kept why = absurd is
-tells_residual winner screens records saved (Err k) told e old new is was kept why =
+    → TellsScreens as_text winner screens records saved result old new
+tells_residual as_text winner screens records saved (Ok images) told e old new is was kept why = absurd is
+tells_residual as_text winner screens records saved (Err k) told e old new is was kept why =
     subst (λ f. PrintsNone f old new) (sym is)
     (tells_none e old new (λ out. kept (was ∙ ap (λ f. Err f) out))
     (subst (λ r. IfErr r (λ e. (e ≡ failure.OutOfMemory) ⊎ (e ≡ failure.InputOrOutput))) was why))
@@ -60,7 +60,7 @@ module _ (setup : ScriptSetup) (given : List SectorWrite) (typed0 typed1 : List 
   pub tells_end : (old new : Option (List ℕ)) (first second images : List ℕ) (winner : Option Who)
       → WonBy order.primary_asks order.backup_asks winner
       → EndsOf setup given typed0 typed1 order.saved.items winner (first ∷ second ∷ []) images
-      → AddsLine (Some (end_text first second winner)) old new
+      → AddsLine (Some (end_text order.text first second winner)) old new
       → TellsEnd setup given typed0 typed1 order images old new
   tells_end old new first second images winner won ends one =
       record { first = first; second = second; winner = winner; won = won; ends = ends; printed = one }
@@ -76,7 +76,7 @@ module _ (setup : ScriptSetup) (given : List SectorWrite) (typed0 typed1 : List 
       winner = h.winner;
       won = h.won;
       ends = h.ends;
-      printed = settled_line a b c first rest none q (Some (end_text h.first h.second h.winner)) h.printed;
+      printed = settled_line a b c first rest none q (Some (end_text order.text h.first h.second h.winner)) h.printed;
     }
 
     settled_none : (e : Failure) → PrintsNone e (append_known a first) (append_known b rest) → PrintsNone e a c
@@ -229,7 +229,7 @@ pub tells_of : (setup : ScriptSetup) (given : List SectorWrite) (lines : List Li
     (winner : Option Who) (screens : List (List ℕ)) (records : List Record) (result : Result (Vec ℕ) Failure)
     (old new : Option (List ℕ)) → HasEnded setup given lines winner screens records
     → WonBy order.primary_asks order.backup_asks winner → saved ≡ order.saved.items
-    → TellsScreens winner screens records saved result old new
+    → TellsScreens order.text winner screens records saved result old new
     → Tells setup given (typed_in 0 lines) (typed_in 1 lines) order result old new
 tells_of setup given lines order saved winner screens records (Ok images) old new ended won are told =
     tells_end setup given (typed_in 0 lines) (typed_in 1 lines) order old new told.first told.second images.items winner won

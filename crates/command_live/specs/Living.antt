@@ -1,5 +1,5 @@
 -- What a pair on threads prints.
-use Rattle.std.specs.Prelude.{◌≡◌, ℕ, IsTrue, Option, Some, None, List, [], ◌∷◌, ◌++◌, Result, MatchResult, codes, replicate}
+use Rattle.std.specs.Prelude.{◌≡◌, ℕ, IsTrue, Bool, true, false, Option, Some, None, List, [], ◌∷◌, ◌++◌, Result, MatchResult, codes, replicate}
 use Rattle.std.specs.Global.{Vec}
 use Rattle.std.specs.Io.KnownBytes.{Appends, Keeps}
 use Rattle.disk_dcdd.specs.Address.{has_sector, bytes_with_all}
@@ -18,6 +18,7 @@ use Rattle.command_io.specs.declared.failure.Failure.TheVariants.{OutOfMemory, I
 use Rattle.command_io.specs.Saving.{AreWhole, are_attached, images_of}
 use Rattle.command_io.specs.Typed.{typed_in}
 use Rattle.command_line.specs.declared.live_order.LiveOrder.{LiveOrder}
+use Rattle.command_live.specs.Text.{terminal_text}
 use Rattle.pair_threads.specs.Ending.{EndsBy, WonBy}
 use Rattle.pair_threads.specs.declared.gate.Who.{Who}
 use Rattle.pair_threads.specs.declared.gate.Who.TheVariants.{Primary, Backup}
@@ -32,9 +33,14 @@ winner_text None = []
 winner_text (Some Primary) = 10 ∷ codes "winner: primary"
 winner_text (Some who) = 10 ∷ codes "winner: backup"
 
--- what each terminal has accepted, and who goes on alone
-abbrev pub end_text : List ℕ → List ℕ → Option Who → List ℕ
-end_text first second winner = accepted_text 0 first ++ (10 ∷ accepted_text 1 second) ++ winner_text winner
+-- what each terminal has accepted, as text or in hexadecimal
+abbrev pub screens_text : Bool → List ℕ → List ℕ → List ℕ
+screens_text true first second = terminal_text 0 first ++ (10 ∷ terminal_text 1 second)
+screens_text false first second = accepted_text 0 first ++ (10 ∷ accepted_text 1 second)
+
+-- that, and who goes on alone
+abbrev pub end_text : Bool → List ℕ → List ℕ → Option Who → List ℕ
+end_text as_text first second winner = screens_text as_text first second ++ winner_text winner
 
 -- each sector has the bytes of the last of these that goes there, or zeros
 abbrev pub AreBooted : ScriptSetup → List SectorWrite → (SectorAddress → List ℕ) → Type 0
@@ -93,7 +99,7 @@ pub record TellsEnd (setup : ScriptSetup) (given : List SectorWrite) (typed0 typ
   pub winner : Option Who
   pub won : WonBy order.primary_asks order.backup_asks winner
   pub ends : EndsOf setup given typed0 typed1 order.saved.items winner (first ∷ second ∷ []) images
-  pub printed : AddsLine (Some (end_text first second winner)) old new
+  pub printed : AddsLine (Some (end_text order.text first second winner)) old new
 
 -- why nothing is printed, by why a pair has no end: a disk that is to be saved is not there, it stalls, or memory is refused
 abbrev pub failure_of : Fault → Failure
@@ -109,19 +115,19 @@ PrintsNone InputOrOutput old new = Unit {0}
 PrintsNone failure old new = ⊥
 
 -- an end with these screens and this disk is printed, and these are the whole images of the disks that are saved
-pub record PrintsScreens (winner : Option Who) (screens : List (List ℕ)) (records : List Record) (saved images : List ℕ)
+pub record PrintsScreens (as_text : Bool) (winner : Option Who) (screens : List (List ℕ)) (records : List Record) (saved images : List ℕ)
     (old new : Option (List ℕ)) : Type 0 where
   pub first : List ℕ
   pub second : List ℕ
   pub screens_are : screens ≡ first ∷ second ∷ []
   pub images_are : images ≡ images_of records saved
   pub whole : AreWhole images saved
-  pub printed : AddsLine (Some (end_text first second winner)) old new
+  pub printed : AddsLine (Some (end_text as_text first second winner)) old new
 
-abbrev pub TellsScreens : Option Who → List (List ℕ) → List Record → List ℕ → Result (Vec ℕ) Failure
+abbrev pub TellsScreens : Bool → Option Who → List (List ℕ) → List Record → List ℕ → Result (Vec ℕ) Failure
     → Option (List ℕ) → Option (List ℕ) → Type 0
-TellsScreens winner screens records saved result old new = MatchResult result
-    (λ images. PrintsScreens winner screens records saved images.items old new) (λ failure. PrintsNone failure old new)
+TellsScreens as_text winner screens records saved result old new = MatchResult result
+    (λ images. PrintsScreens as_text winner screens records saved images.items old new) (λ failure. PrintsNone failure old new)
 
 -- the end is printed, and these are the images
 abbrev pub Tells : ScriptSetup → List SectorWrite → List ℕ → List ℕ → LiveOrder → Result (Vec ℕ) Failure

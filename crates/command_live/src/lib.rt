@@ -5,6 +5,7 @@ mod beginning;
 mod command;
 mod laws;
 mod live;
+mod text;
 
 pub use command::run_live;
 pub use laws::altair_threads_are_faithful;

@@ -1,13 +1,15 @@
 //! A pair on threads, from its boot to its end.
-ghost use Rattle.std.specs.Prelude.{◌≡◌, ◌∷◌, [], ℕ, IfOk, List, Option, map};
+ghost use Rattle.std.specs.Prelude.{◌≡◌, ◌∷◌, [], ℕ, IfOk, List, Option, false, map, true};
+ghost use Rattle.std.specs.Fmt.{WritesOnOk};
 ghost use Rattle.event_callbacks.specs.declared.devices.TheConstants.{SENT, SECTOR, WRITTEN};
 ghost use Rattle.event_callbacks.specs.Keeping.{Keeps};
 ghost use Rattle.command_io.specs.Reports.{handed};
 ghost use Rattle.command_io.specs.Typed.{typed_in};
-ghost use Rattle.command_live.specs.Living.{HasEnded, PrintsNone, Tells, TellsScreens, end_text, failure_of};
+ghost use Rattle.command_live.specs.Living.{HasEnded, PrintsNone, Tells, TellsScreens, end_text, failure_of, screens_text};
 ghost use Rattle.pair_threads.specs.Ending.{WonBy};
 
 use crate::beginning::{Asked, STEPS, workers_of};
+use crate::text::TerminalText;
 use altair_laws::altairs_are_lawful;
 use command_io::{Failure, LineReport, ScriptInput, images_of};
 use command_line::LiveOrder;
@@ -27,6 +29,7 @@ use std::time::Clock;
 // What a pair on threads prints: what each terminal has accepted, and who goes on alone, if anybody asked to.
 #[derive(Clone, Copy)]
 struct EndText<'a> {
+    as_text: bool,
     first: &'a [u8],
     second: &'a [u8],
     winner: Option<Who>,
@@ -36,24 +39,50 @@ impl fmt::Display for EndText<'_> {
     ghost use Rattle.std.specs.Prelude.{Some};
     ghost use Rattle.command_live.specs.Living.{end_text};
 
-    ghost output = { λ end. Some (end_text end.first.now end.second.now end.winner) };
+    ghost output = { λ end. Some (end_text end.as_text end.first.now end.second.now end.winner) };
 
     fn fmt<W: fmt::Write>(&self, f: &mut fmt::Formatter<W>) -> fmt::Result {
-        let first = Answer::Accepted {
-            port: 0,
-            bytes: self.first,
-        };
-        let second = Answer::Accepted {
-            port: 1,
-            bytes: self.second,
-        };
-        write!(f, "{first}\n{second}")?;
+        if self.as_text {
+            write_text(f, self.first, self.second)?;
+        } else {
+            write_bytes(f, self.first, self.second)?;
+        }
         match self.winner {
             None => Ok(()),
             Some(Who::Primary) => write!(f, "\nwinner: primary"),
             Some(_) => write!(f, "\nwinner: backup"),
         }
     }
+}
+
+// What each of two terminals has accepted, as text.
+fn write_text<W: fmt::Write>(f: &mut fmt::Formatter<W>, first: &[u8], second: &[u8]) -> fmt::Result
+    ensures { WritesOnOk W.write_str_gives f.old result (screens_text true first.now second.now) f.new }
+{
+    let first = TerminalText {
+        port: 0,
+        bytes: first,
+    };
+    let second = TerminalText {
+        port: 1,
+        bytes: second,
+    };
+    write!(f, "{first}\n{second}")
+}
+
+// The same in hexadecimal.
+fn write_bytes<W: fmt::Write>(f: &mut fmt::Formatter<W>, first: &[u8], second: &[u8]) -> fmt::Result
+    ensures { WritesOnOk W.write_str_gives f.old result (screens_text false first.now second.now) f.new }
+{
+    let first = Answer::Accepted {
+        port: 0,
+        bytes: first,
+    };
+    let second = Answer::Accepted {
+        port: 1,
+        bytes: second,
+    };
+    write!(f, "{first}\n{second}")
 }
 
 /// Boots a pair whose completions are these closures, runs it on threads until it is at its end, and prints what its
@@ -91,7 +120,7 @@ pub(crate) fn run<
         backup: order.backup_asks,
     };
     match generation(rt, alloc, asked, order.link, input, sent, sector, written) {
-        Ok(mut end) => tell(alloc, &mut end, &order.saved, report, writer),
+        Ok(mut end) => tell(alloc, &mut end, order.text, &order.saved, report, writer),
         Err(fault) => Err(failure_of(fault)),
     }
 }
@@ -113,11 +142,12 @@ fn failure_of(fault: Fault) -> Failure
 fn tell<B: Lockstep + Drop, O: Write + Drop>(
     alloc: Global,
     end: &mut GenerationEnd<B, MemoryStore>,
+    as_text: bool,
     saved: &[u8],
     report: &mut LineReport,
     writer: &mut O,
 ) -> Result<Vec<u8>, Failure>
-    ensures { TellsScreens end.old.winner (map (λ v. v.items) end.old.accepted) end.old.disk saved.now result
+    ensures { TellsScreens as_text end.old.winner (map (λ v. v.items) end.old.accepted) end.old.disk saved.now result
         (handed (O.contents writer.old) report.old) (handed (O.contents writer.new) report.new) }
 {
     let images = match images_of(alloc, &mut end.disk, saved) {
@@ -126,6 +156,7 @@ fn tell<B: Lockstep + Drop, O: Write + Drop>(
     };
     let (first, second) = both(&end.accepted);
     let text = EndText {
+        as_text,
         first,
         second,
         winner: end.winner,

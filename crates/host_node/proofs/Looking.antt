@@ -1,9 +1,9 @@
 -- What a look at a host's guest gives is so of its node.
-use Rattle.std.proofs.Common.{ℕ, ◌≡◌, Bool, true, false, Option, Some, None, List, sym, ap, ◌∙◌}
+use Rattle.std.proofs.Common.{ℕ, ◌≡◌, Bool, true, false, Option, Some, None, List, refl, sym, ap, ◌∙◌}
 use Rattle.std.specs.Option.{option_map, option_map_or}
 use Rattle.std.specs.Prelude.{◌||◌}
 use Rattle.guest_lockstep.specs.Machine.{Machine}
-use Rattle.host_node.specs.Guests.{KeepsNoKey, OffersKey, Says, keeps_at}
+use Rattle.host_node.specs.Guests.{IsPolling, KeepsNoKey, OffersKey, Says, keeps_at}
 use Rattle.host_node.specs.Looks.{HasDue, HasGuest, HasKeys, due_of, keys_of}
 use Rattle.host_node.specs.declared.host.HostNode.{HostNode}
 use Rattle.host_node.specs.declared.host.Hosted.{Hosted}
@@ -32,6 +32,15 @@ module _ {B S : Type 0} {H : Type 0} (state : B → S) (M : Machine S) where
   pub says_nothing : {A : Type 0} (of : B → A) (h : Hosted B H) (without given : A)
       → HasGuest state M h None → given ≡ without → Says state M of h without given
   says_nothing of h without given has is = record { guest = None; has = has; is = is }
+
+  pub polls : (of : B → Type 0) (h : Hosted B H) (given : Bool) (guest : B) → HasGuest state M h (Some (state guest))
+      → (given ≡ true → of guest) → (given ≡ false → of guest → ⊥) → IsPolling state M of h given
+  polls of h true guest has yes no = record { guest = Some guest; has = has; is = yes refl }
+  polls of h false guest has yes no = record { guest = Some guest; has = has; is = no refl }
+
+  pub polls_none : (of : B → Type 0) (h : Hosted B H) (given : Bool) → HasGuest state M h None → given ≡ false
+      → IsPolling state M of h given
+  polls_none of h given has is = record { guest = None; has = has; is = is }
 
   -- if no guest would keep a key, the one that it has would not
   keeps_none : (keeps : B → ℕ → Bool) (h : Hosted B H) (port : ℕ) (guest : Option B) (kept : Bool)

@@ -1,4 +1,4 @@
--- What the guest of a host says of itself: which ports have room for a key, and which of its writes are outstanding.
+-- What the guest of a host says of itself: which ports have room for a key, whether it polls, and which of its writes are outstanding.
 use Rattle.disk_dcdd.specs.declared.sector.Place.{Place}
 use Rattle.event_callbacks.specs.declared.devices.TheConstants.{PORTS}
 use Rattle.guest_lockstep.specs.Machine.{Machine}
@@ -6,7 +6,7 @@ use Rattle.host_node.specs.Looks.{HasGuest}
 use Rattle.host_node.specs.declared.host.Hosted.{Hosted}
 use Rattle.std.specs.List.{find}
 use Rattle.std.specs.Option.{option_map, option_map_or}
-use Rattle.std.specs.Prelude.{◌≡◌, ℕ, nat_le, nat_lt, Bool, false, ◌||◌, if◌then◌else◌, Option, Some, None, List, length}
+use Rattle.std.specs.Prelude.{◌≡◌, ℕ, nat_le, nat_lt, Bool, false, true, ◌||◌, if◌then◌else◌, Option, Some, None, List, length}
 
 -- the number of the first write from this number on; writes are in order of number
 abbrev pub number_from : List Place → (from : ℕ) → Option ℕ
@@ -15,6 +15,12 @@ number_from writes from = option_map (λ (write : Place). write.number) (find (�
 -- whether a port keeps a key; one that there is not keeps none
 abbrev pub keeps_at : (ℕ → Bool) → (port : ℕ) → Bool
 keeps_at keeps port = if nat_lt port PORTS then keeps port else false
+
+-- whether a guest polls; one that there is not does not
+abbrev pub PollsIf : {B : Type 0} → (B → Type 0) → Option B → Bool → Type 0
+PollsIf polls None given = given ≡ false
+PollsIf polls (Some guest) true = polls guest
+PollsIf polls (Some guest) false = polls guest → ⊥
 
 module _ {B S : Type 0} {H : Type 0} (state : B → S) (M : Machine S) where
   -- what a guest with the state of the host's says, or this if the host has none
@@ -42,3 +48,9 @@ module _ {B S : Type 0} {H : Type 0} (state : B → S) (M : Machine S) where
   -- how many writes of its guest are outstanding
   abbrev pub HasWrites : (B → List Place) → Hosted B H → ℕ → Type 0
   HasWrites writes h given = Says (λ guest. length (writes guest)) h 0 given
+
+  -- whether its guest polls
+  pub record IsPolling (polls : B → Type 0) (h : Hosted B H) (given : Bool) : Type 0 where
+    pub guest : Option B
+    pub has : HasGuest state M h (option_map state guest)
+    pub is : PollsIf polls guest given

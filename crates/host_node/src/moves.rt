@@ -1,6 +1,6 @@
 //! The moves of a host's machine.
 ghost use Rattle.host_node.specs.Goes.{Goes};
-ghost use Rattle.host_node.specs.Guests.{HasWriteFrom, HasWrites, KeepsKey, keeps_at, number_from};
+ghost use Rattle.host_node.specs.Guests.{HasWriteFrom, HasWrites, IsPolling, KeepsKey, keeps_at, number_from};
 ghost use Rattle.std.specs.Prelude.{◌≡◌};
 
 use crate::host::{HostNode, Hosted};
@@ -105,6 +105,17 @@ impl<B: Copies<H> + KeyRoom + OutstandingWrites + Drop, H: Drop> HostNode<B, H> 
     {
         match self.guest() {
             Some(guest) => keeps_at(guest, port),
+            None => false,
+        }
+    }
+
+    /// Whether the guest of its node polls; false if it has none.
+    #[tactic(auto, using(crate::proofs::Looking::polls, crate::proofs::Looking::polls_none))]
+    pub fn is_polling(&self) -> bool
+        ensures { IsPolling B.state B.machine B.polls self.now.node result }
+    {
+        match self.guest() {
+            Some(guest) => guest.is_polling(),
             None => false,
         }
     }

@@ -24,6 +24,18 @@ pub struct Known {
     pub tick: u64,
 }
 
+impl Known {
+    /// Nothing is known besides what the node shows.
+    pub(crate) fn nothing() -> Known {
+        Known {
+            is_idle: false,
+            lag: 0,
+            writes: 0,
+            tick: 0,
+        }
+    }
+}
+
 impl<B: Copies<H> + Drop, H: Drop> HostNode<B, H> {
     /// What it says of itself: its generation, its role, how many steps its machine has made, how many keys it has taken, and how many of
     /// those are covered; and what its loop knows besides.

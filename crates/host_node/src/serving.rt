@@ -284,14 +284,17 @@ impl<B: Copies<H> + KeyRoom + OutstandingWrites + Snapshots + Drop, H: Drop> Ser
         }
     }
 
-    // Whether the guest waits for a key, and nothing of it is on its way to a device.
+    // Whether the guest waits for a key, halted or by polling, and nothing of it is on its way to a device.
     fn is_at_rest(&self) -> bool {
-        self.pace.is_idle && !self.has_outstanding()
+        if self.has_outstanding() {
+            return false;
+        }
+        self.pace.is_idle || self.host.is_polling()
     }
 
     // Whether the outside was not told yet what the host is, or for a moment how many keys it has taken and covered.
     fn is_news(&self) -> bool {
-        let report = self.host.report(self.known());
+        let report = self.host.report(Known::nothing());
         let Some(told) = &self.pace.told else {
             return true;
         };

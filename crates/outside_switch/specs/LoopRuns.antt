@@ -1,5 +1,5 @@
 -- What a run of the outside comes to, and why it ends.
-use Rattle.std.specs.Prelude.{◌≡◌, ℕ, Bool, ◌||◌, ◌&&◌, is_none, nat_lt, true, false, List, [], ◌∷◌, ◌++◌, Option, None, Some, slice_get, slice_index}
+use Rattle.std.specs.Prelude.{◌≡◌, ℕ, ◌-◌, Bool, ◌||◌, ◌&&◌, is_none, nat_le, nat_lt, true, false, List, [], ◌∷◌, ◌++◌, Option, None, Some, slice_get, slice_index}
 use Rattle.std.specs.List.{list_all}
 use Rattle.rtrb.specs.Ring.{received}
 use Rattle.host_frames.specs.declared.frame.Report.{Report}
@@ -88,12 +88,16 @@ pub record HasIdleGuest (lines : List HostLine) : Type 0 where
   pub is : IsLive lines live
   pub idle : live.report.is_idle ≡ true
 
+-- by its last turn nothing has moved for as long as it may be so: no key was typed, and nothing was shown and written
+abbrev pub is_silent : {D S : Type 0} → Session D S → Bool
+is_silent s = nat_le s.silence (s.moments.turned - s.moments.moved)
+
 -- The user has asked for it; no keys are left at either port, and the guest waits for one, or has been silent for long; no host is left that
 -- has the machine; or the steward has its own reason.
 abbrev pub IsWhy : {D S : Type 0} → HostsEnd → Session D S → Type 0
 IsWhy UserQuit s = (before : List Quit) × (quit : Quit) × (received s.quits ≡ before ++ quit ∷ [])
 IsWhy Settled s = IsOver s.first × IsOver s.second × HasIdleGuest s.switch.lines.items
-IsWhy Silent s = IsOver s.first × IsOver s.second
+IsWhy Silent s = IsOver s.first × IsOver s.second × (is_silent s ≡ true)
 IsWhy NoHosts s = have_no_machine s.switch.lines.items ≡ true
 IsWhy Stopped s = Unit {0}
 

@@ -1,7 +1,7 @@
 //! Why the outside ends.
 ghost use Rattle.std.specs.Prelude.{IfSome, ◌≡◌, true};
 ghost use Rattle.std.specs.List.{list_all};
-ghost use Rattle.outside_switch.specs.LoopRuns.{HasIdleGuest, IsWhy, Went, have_no_machine, is_after, is_out};
+ghost use Rattle.outside_switch.specs.LoopRuns.{HasIdleGuest, IsWhy, Went, have_no_machine, is_after, is_out, is_silent};
 ghost use Rattle.outside_switch.specs.declared.session.HostsEnd.TheVariants as ending;
 
 use crate::HostLine;
@@ -9,9 +9,6 @@ use crate::live::live_of;
 use crate::session::{HostsEnd, Session};
 use crate::steward::Steward;
 use shared_disk::SectorStore;
-
-/// For how many microseconds nothing may be written and shown by a guest that runs.
-const SILENT: u64 = 10_000_000;
 
 /// For how many microseconds writes of the guest may be on their way after the user has asked for the end.
 const DRAINS: u64 = 2_000_000;
@@ -32,7 +29,7 @@ impl<D: SectorStore, S: Steward + Drop> Session<D, S> {
         if is_deserted(self.switch.lines(), self.moments.left) {
             return Some(HostsEnd::NoHosts);
         }
-        self.end_of_keys(now)
+        self.end_of_keys()
     }
 
     // Whether the user has asked for the end, and no write of the guest is on its way to the disk.
@@ -64,7 +61,7 @@ impl<D: SectorStore, S: Steward + Drop> Session<D, S> {
     }
 
     // Why all ends now, if no keys are left.
-    fn end_of_keys(&self, now: u64) -> Option<HostsEnd>
+    fn end_of_keys(&self) -> Option<HostsEnd>
         ensures { IfSome result (λ end. IsWhy end self.now) }
     {
         if !self.first.is_over() || !self.second.is_over() {
@@ -73,10 +70,17 @@ impl<D: SectorStore, S: Steward + Drop> Session<D, S> {
         if self.is_idle() {
             return Some(HostsEnd::Settled);
         }
-        if now.saturating_sub(self.moments.moved) >= SILENT {
+        if self.is_silent() {
             return Some(HostsEnd::Silent);
         }
         None
+    }
+
+    // Whether nothing has moved for as long as it may be so.
+    fn is_silent(&self) -> bool
+        ensures { result ≡ is_silent self.now }
+    {
+        self.moments.turned.saturating_sub(self.moments.moved) >= self.silence
     }
 
     // Whether the guest of the live host waits for a key, with nothing on its way to a device.

@@ -30,7 +30,8 @@ pub enum HostsEnd {
     UserQuit,
     /// No more keys can come, all that came were taken, and the guest waits for one, with nothing on its way to a device.
     Settled,
-    /// No more keys can come, all that came were taken, and for ten seconds the pair has written and shown nothing, though its guest runs.
+    /// No more keys can come, all that came were taken, and for as long as the session says the pair has shown and written nothing, though its
+    /// guest runs.
     Silent,
     /// No host is left that has the machine.
     NoHosts,
@@ -47,6 +48,8 @@ pub struct Session<D: SectorStore, S: Steward + Drop> {
     pub(crate) screen: Screen,
     pub(crate) quits: Consumer<Quit>,
     pub(crate) steward: S,
+    // For how many microseconds a guest that runs may be silent once no more keys can come.
+    pub(crate) silence: u64,
     pub(crate) moments: Moments,
     pub(crate) flood: Flood,
 }
@@ -71,7 +74,8 @@ pub(crate) struct Moments {
 }
 
 impl<D: SectorStore, S: Steward + Drop> Session<D, S> {
-    /// An outside without hosts, over a disk's store.
+    /// An outside without hosts, over a disk's store. Once no more keys can come its guest may be silent for so many microseconds while
+    /// it runs.
     pub fn new(
         alloc: Global,
         store: D,
@@ -80,10 +84,12 @@ impl<D: SectorStore, S: Steward + Drop> Session<D, S> {
         screen: Screen,
         quits: Consumer<Quit>,
         steward: S,
+        silence: u64,
     ) -> R<Session<D, S>>
         ensures ok { IfOk result (λ session. (session.first ≡ first) × (session.second ≡ second)
             × (session.screen ≡ screen) × (session.quits ≡ quits) × (seen session.switch
             ≡ record { devices = record (at_boot (D.records store) (D.may_fail store)) { hosts = 2 }; lines = [] })) }
+        ensures silence { IfOk result (λ session. session.silence ≡ silence) }
         ensures unheard { IfOk result (λ session. session.flood ≡ unheard) }
         ensures only_memory { IsOkUnless result OutOfMemory }
     {
@@ -95,6 +101,7 @@ impl<D: SectorStore, S: Steward + Drop> Session<D, S> {
             screen,
             quits,
             steward,
+            silence,
             moments: Moments {
                 turned: 0,
                 ticked: 0,

@@ -5,10 +5,8 @@ pub mod Days
 pub mod Hearing
 pub mod Lines
 pub mod Looking
-pub mod Loops
 pub mod Playing
 pub mod Refusing
-pub mod Same
 pub mod Tracing
 pub mod Finding
 pub mod RestLines

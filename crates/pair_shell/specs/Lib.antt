@@ -8,7 +8,6 @@ pub mod Hints
 pub mod Lines
 pub mod Looking
 pub mod Playing
-pub mod Polling
 pub mod Resting
 pub mod Running
 pub mod Sessions

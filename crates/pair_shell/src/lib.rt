@@ -12,7 +12,6 @@ mod names;
 mod notes;
 mod plan;
 mod play;
-mod polling;
 mod repeating;
 mod resting;
 mod running;

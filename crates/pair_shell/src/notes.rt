@@ -13,9 +13,9 @@ ghost use Rattle.shell_language.specs.Tapes.{Begins, IsAnswered, Traces, trace_t
 
 use crate::asked::{keys_of, left};
 use crate::play::{KEPT, play, play_one};
-use crate::polling::MayPoll;
 use crate::running::PausedDay;
 use crate::showing::check;
+use board_image::KeyRoom;
 use clone_state::Copies;
 use event_callbacks::PORTS;
 use ft_world::World;
@@ -51,7 +51,7 @@ impl Notes {
     }
 
     /// Does what a line says, other than one of the setup. The tape has the events that it made.
-    pub fn take<B: Copies<H> + MayPoll + Drop, H: Drop>(
+    pub fn take<B: Copies<H> + KeyRoom + Drop, H: Drop>(
         &mut self,
         alloc: Global,
         opening: &SessionSetup,
@@ -78,7 +78,7 @@ impl Notes {
 
     // Makes everything go that has not gone yet, if the line is one of those that ask for that.
     #[tactic(auto, using(crate::proofs::Playing::plays_nothing, crate::proofs::Tracing::begins_nothing))]
-    fn take_all<B: Copies<H> + MayPoll + Drop, H: Drop>(
+    fn take_all<B: Copies<H> + KeyRoom + Drop, H: Drop>(
         &mut self,
         alloc: Global,
         opening: &SessionSetup,
@@ -140,7 +140,7 @@ impl Notes {
 
     // Types a text at a port.
     #[tactic(auto, using(crate::proofs::Playing::plays_nothing, crate::proofs::Tracing::begins_nothing))]
-    fn type_text<B: Copies<H> + MayPoll + Drop, H: Drop>(
+    fn type_text<B: Copies<H> + KeyRoom + Drop, H: Drop>(
         &mut self,
         alloc: Global,
         world: &mut World<B, Disk, H>,
@@ -226,7 +226,7 @@ impl Notes {
 
     // Several events, answered together.
     #[tactic(auto, using(crate::proofs::Playing::plays_nothing, crate::proofs::Tracing::begins_nothing, crate::proofs::Tracing::begins_trace, crate::proofs::Tracing::begins_more))]
-    fn happen_all<B: Copies<H> + MayPoll + Drop, H: Drop>(
+    fn happen_all<B: Copies<H> + KeyRoom + Drop, H: Drop>(
         &mut self,
         alloc: Global,
         world: &mut World<B, Disk, H>,
@@ -244,7 +244,7 @@ impl Notes {
     }
 
     // Makes the events of a plan happen, and traces them. Whether the plan has come to its end.
-    pub(crate) fn play<B: Copies<H> + MayPoll + Drop, H: Drop>(
+    pub(crate) fn play<B: Copies<H> + KeyRoom + Drop, H: Drop>(
         &mut self,
         alloc: Global,
         world: &mut World<B, Disk, H>,

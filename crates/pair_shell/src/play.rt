@@ -9,8 +9,8 @@ ghost use Rattle.pair_shell.specs.Playing.{Lengthens, Plays, pauses};
 ghost use Rattle.shell_language.specs.Tapes.{played};
 ghost use Rattle.shell_picture.specs.Rounds.{left_waiting, rested};
 
-use crate::polling::MayPoll;
 use altair_pair::moment_of;
+use board_image::KeyRoom;
 use clone_state::Copies;
 use ft_world::{Message, World};
 use i8080_words::R;
@@ -32,7 +32,7 @@ const MOST_TAPED: usize = 1_000_000;
 /// exactly these afterwards, with their answers; also if memory for the next one is refused. A day ends once its guest polls with
 /// nothing left to do for it, and pauses after a million events. Whether the plan has come to its end.
 #[tactic(auto, using(crate::proofs::Playing::plays_nothing, crate::proofs::Playing::many_enough))]
-pub fn play<B: Copies<H> + MayPoll + Drop, H: Drop>(
+pub fn play<B: Copies<H> + KeyRoom + Drop, H: Drop>(
     alloc: Global,
     world: &mut World<B, Disk, H>,
     book: &mut Book,
@@ -66,7 +66,7 @@ fn pauses(tape: &[Played], plan: &EventQueue, event: Event) -> bool
 }
 
 // A day ends if its guest polls after this event, and nothing is left to do for it.
-fn rest_if_polling<B: Copies<H> + MayPoll + Drop, H: Drop>(
+fn rest_if_polling<B: Copies<H> + KeyRoom + Drop, H: Drop>(
     world: &World<B, Disk, H>,
     book: &Book,
     event: Event,
@@ -84,7 +84,7 @@ fn rest_if_polling<B: Copies<H> + MayPoll + Drop, H: Drop>(
 }
 
 // Whether the guest of a node polls.
-fn is_polling<B: Copies<H> + MayPoll + Drop, H: Drop>(
+fn is_polling<B: Copies<H> + KeyRoom + Drop, H: Drop>(
     world: &World<B, Disk, H>,
     node: u64,
 ) -> bool {

@@ -12,7 +12,7 @@ ghost use Rattle.shell_language.specs.Tapes.{Begins, trace_text};
 ghost use Rattle.shell_picture.specs.HeldUp.{held_rows};
 
 use crate::notes::Notes;
-use crate::polling::MayPoll;
+use board_image::KeyRoom;
 use clone_state::Copies;
 use ft_world::{NodeStatus, World};
 use i8080_words::{Fault, R};
@@ -33,7 +33,7 @@ pub struct PausedDay {
 impl Notes {
     /// The ordinary day of a pair, or the first of its events.
     #[tactic(auto, using(crate::proofs::Playing::plays_nothing, crate::proofs::Tracing::begins_nothing))]
-    pub(crate) fn run<B: Copies<H> + MayPoll + Drop, H: Drop>(
+    pub(crate) fn run<B: Copies<H> + KeyRoom + Drop, H: Drop>(
         &mut self,
         alloc: Global,
         opening: &SessionSetup,
@@ -68,7 +68,7 @@ impl Notes {
 
     /// Goes on with a day that has paused, if there is one.
     #[tactic(auto, using(crate::proofs::Playing::plays_nothing, crate::proofs::Tracing::begins_nothing))]
-    pub(crate) fn go_on<B: Copies<H> + MayPoll + Drop, H: Drop>(
+    pub(crate) fn go_on<B: Copies<H> + KeyRoom + Drop, H: Drop>(
         &mut self,
         alloc: Global,
         world: &mut World<B, Disk, H>,
@@ -116,7 +116,7 @@ impl Notes {
     }
 
     // Plays a day until it pauses or ends, and says how it has gone if it has ended.
-    fn play_day<B: Copies<H> + MayPoll + Drop, H: Drop>(
+    fn play_day<B: Copies<H> + KeyRoom + Drop, H: Drop>(
         &mut self,
         alloc: Global,
         world: &mut World<B, Disk, H>,

@@ -1,7 +1,7 @@
 -- What the steps that are left do, all of them do.
 use Rattle.std.proofs.Common.{◌-◌}
-use Rattle.pair_shell.specs.Polling.{ComesBack, Polls, seen_by}
-use Rattle.pair_shell.proofs.polling.is_polling.Given as goal
+use Rattle.board_image.specs.Polling.{ComesBack, Polls, seen_by}
+use Rattle.board_image.proofs.polling.is_polling.Given as goal
 
 abbrev pub invariant-loop-step : goal.invariant-loop-step
 invariant-loop-step g l = record {

@@ -1,8 +1,7 @@
 //! Whether a guest polls: it only looks, again and again, whether a key has come.
 ghost use Rattle.std.specs.Prelude.{◌≡◌, false, true, IsTrue};
-ghost use Rattle.pair_shell.specs.Polling.{Polls, is_only_looking, seen_by, status_at};
+ghost use Rattle.board_image.specs.Polling.{Polls, is_only_looking, seen_by, status_at};
 
-use board_image::DraftedBoard;
 use event_callbacks::Completes;
 use guest_board::Board;
 use i8080_core::{Bus, Cpu};
@@ -10,27 +9,6 @@ use i8080_words::{Interrupts, Processor};
 
 // How many steps a loop may take that only looks.
 const LOOP_STEPS: u32 = 64;
-
-/// A guest of which one can see whether it polls.
-pub(crate) trait MayPoll {
-    /// Whether it polls.
-    ghost polls: { Self → Type 0 };
-
-    /// Whether it polls. This changes nothing.
-    fn is_polling(&self) -> bool
-        ensures yes { IsTrue result → polls self.now }
-        ensures no { result ≡ false → polls self.now → ⊥ };
-}
-
-impl<T: Completes, S: Completes, W: Completes> MayPoll for DraftedBoard<T, S, W> {
-    ghost use Rattle.pair_shell.specs.Polling.{Polls};
-
-    ghost polls = { λ d. Polls d.board.guest };
-
-    fn is_polling(&self) -> bool {
-        is_polling(self.board())
-    }
-}
 
 /// What a processor would read that went on while nothing else happens to its guest, whether it has looked at the status of a serial
 /// port, and whether it would have done anything but look.
@@ -70,7 +48,7 @@ impl<T: Completes, S: Completes, W: Completes> Sight<'_, T, S, W> {
 }
 
 impl<T: Completes, S: Completes, W: Completes> Bus for Sight<'_, T, S, W> {
-    ghost use Rattle.pair_shell.specs.Polling.{Seen, byte_seen, input_seen, seen_after, seen_by};
+    ghost use Rattle.board_image.specs.Polling.{Seen, byte_seen, input_seen, seen_after, seen_by};
 
     ghost State = { Seen };
 
@@ -114,8 +92,8 @@ impl<T: Completes, S: Completes, W: Completes> Bus for Sight<'_, T, S, W> {
     }
 }
 
-// Whether a guest polls.
-fn is_polling<T: Completes, S: Completes, W: Completes>(board: &Board<T, S, W>) -> bool
+/// Whether a guest polls.
+pub(crate) fn is_polling<T: Completes, S: Completes, W: Completes>(board: &Board<T, S, W>) -> bool
     ensures yes { IsTrue result → Polls board.now.guest }
     ensures no { result ≡ false → Polls board.now.guest → ⊥ }
 {

@@ -3,8 +3,8 @@ use Rattle.std.proofs.Common.{true, ◌≡◌, ◌∙◌, rules, sym}
 use Rattle.std.specs.Prelude.{◌==◌, ◌&&◌}
 use Rattle.std.proofs.lemmas.Bool.{and_parts}
 use Rattle.i8080_words.specs.contracts.arithmetic.FlagsPartialEq.TheImpl as flags_equality
-use Rattle.pair_shell.proofs.Same.{after_eight, same_flags, same_processors, same_regs}
-use Rattle.pair_shell.proofs.polling.Sight.is_back.Goals as goal
+use Rattle.board_image.proofs.Same.{after_eight, same_flags, same_processors, same_regs}
+use Rattle.board_image.proofs.polling.Sight.is_back.Goals as goal
 
 pub returns-then-self-clause-yes : goal.returns-then-self-clause-yes
 returns-then-self-clause-yes g c = λ is.

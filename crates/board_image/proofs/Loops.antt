@@ -1,7 +1,7 @@
 -- A loop that only looks, step by step.
 use Rattle.std.proofs.Common.{◌≡◌, ◌-◌, ◌<◌, ◌∙◌, ℕ, suc, true, false, arith, sym, subst}
 use Rattle.i8080_words.specs.declared.registers.Processor.{Processor}
-use Rattle.pair_shell.specs.Polling.{Back, ComesBack, Later, Seen, after_step, is_only_looking, processor_after}
+use Rattle.board_image.specs.Polling.{Back, ComesBack, Later, Seen, after_step, is_only_looking, processor_after}
 
 -- no step is left
 pub none_left : (first : Processor) (n : ℕ) (p : Processor) (s : Seen) → n ≡ 0 → ComesBack first n p s → ⊥

@@ -1,9 +1,9 @@
 -- Each step leads back, or leads on, or does more than look.
 use Rattle.std.proofs.Common.{◌≡◌, ◌-◌, ◌+◌, ◌∙◌, true, false, arith, refl, subst, sym}
 use Rattle.std.proofs.lemmas.Grind.{common_steps}
-use Rattle.pair_shell.specs.Polling.{ComesBack, is_only_looking, seen_by}
-use Rattle.pair_shell.proofs.Loops.{acts, came_later, comes_back, comes_later}
-use Rattle.pair_shell.proofs.polling.is_polling.Goals as goal
+use Rattle.board_image.specs.Polling.{ComesBack, is_only_looking, seen_by}
+use Rattle.board_image.proofs.Loops.{acts, came_later, comes_back, comes_later}
+use Rattle.board_image.proofs.polling.is_polling.Goals as goal
 
 pub returns-then-not-is_only_looking-clause-no : goal.returns-then-not-is_only_looking-clause-no
 returns-then-not-is_only_looking-clause-no g c = λ is polls.
