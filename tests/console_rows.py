@@ -25,7 +25,9 @@ mark = words[words.index("--mark") + 1].encode() if "--apart" in words else b""
 os.read(0, int(words[words.index("--before") + 1]))
 for some in %r:
     os.write(1, some.replace(b"<", mark * 2 + b"pair: ").replace(b">", mark))
-    if not os.read(0, 1):
+    while not (key := os.read(0, 1)) and os.isatty(0):
+        pass
+    if not key:
         break
 """
 

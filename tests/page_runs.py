@@ -331,6 +331,7 @@ SAYS = {
     "speed N": ("speed 300000", "the machine makes at most 300000 steps a second"),
     "save D FILE": ("save 0 work.dsk", "drive 0 is saved to work.dsk"),
     "picture FILE": ("picture story.svg", "is drawn in story.svg"),
+    "do FILE": ("do steps", "steps: No such file"),
     "status": ("status", "the link loses every packet"),
     "help": ("help", "quit"),
     "terminal P": ("terminal 0", "terminal 0"),

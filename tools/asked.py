@@ -8,7 +8,7 @@ import disks
 from doing import steps_in
 from files import hex_lines, image_in, place_for, read, refuse_missing, save_all
 from hosts import ROLES
-from options import complain, count_in, drives_in, key_in, key_lines, key_name, memory_line, numbered, sense_line, spelled, taken, told
+from options import accepted, complain, count_in, drives_in, key_in, key_lines, key_name, memory_line, numbered, sense_line, spelled, taken, told
 from places import is_place
 
 # The options that say how many hosts there are, and how they are run.
@@ -78,7 +78,7 @@ class Asked:
         elif option == "--silence":
             self.own += [option, str(count_in(option, value, 1))]
         elif option == "--do":
-            self.steps += steps_in(value)
+            self.steps += accepted(steps_in, value)
         elif option == "--lines":
             self.lines = word_in(option, value, ("row", "here"))
         elif option in OF_HOSTS:

@@ -21,7 +21,8 @@ scrolls above; with `--lines here` they are written where the cursor is.
 A file is read whole before the program starts; one that is not what it should be is refused, with status 2. Disks are saved if the
 outside ends well, or if no host is left that has the machine: the outside has the disk. Each is written whole; a file that cannot be
 written stays as it was, and then the status is 5. At the command `save` of its command
-line a program hands the disk of that moment over, and this command writes it and says so; at `picture` it draws what was told of the pair.
+line a program hands the disk of that moment over, and this command writes it and says so; at `picture` it draws what was told of the pair; at
+`do` it does what the lines of a file say, beside what is typed.
 """
 
 import contextlib
@@ -42,18 +43,18 @@ import tty
 sys.path.insert(0, os.path.dirname(os.path.realpath(__file__)))
 import last_row
 from asked import NO_HOSTS, Asked
-from doing import Seen, Watched, do_all
+from doing import Doing, Seen, Watched
 from files import drawn_as, path_in, saved_as
 from hosts import SIGNALS, Hosts
-from keys import Keys, begin
+from keys import Keys, begin, ends_of_keys
 from options import complain
 from output import Output
 from places import PlacedHosts
 from screen import Screen
 from story import LinkListener, Story
 
-# How a line about the pair begins that a program hands over, and how a wish for a picture.
-LINE, WISH = b"pair: ", b"picture "
+# How a line about the pair begins that a program hands over, and how a wish for a picture does, and one for what a file says.
+LINE, WISH, DO = b"pair: ", b"picture ", b"do "
 # These words ask for the program's own help.
 HELP = {"-h", "--help"}
 # Asks Linux to kill a process when the one that started it ends.
@@ -78,6 +79,7 @@ class Run:
         self.row, self.story = None, Story()
         # The program's output, and what it says beside it if that goes elsewhere; and what has been seen of both.
         self.screens, self.seen = [], Seen()
+        self.doing = Doing(self.seen)
 
     def heed(self):
         """From now on no signal ends this command before it has set the terminal back."""
@@ -136,22 +138,25 @@ class Run:
         """The outside, as long as it runs. What it writes is passed on by this command, which takes out what is handed over, and ends the
         outside if it cannot be written. What it says beside that comes with it, if both go to one place."""
         how = {"stdout": subprocess.PIPE, "stderr": subprocess.STDOUT if is_one_place() else subprocess.PIPE}
-        self.program = subprocess.Popen([path, *asked.words(mark)], stdin=subprocess.PIPE, preexec_fn=self.prepare, **how)
+        own, to = ends_of_keys()
+        self.program = subprocess.Popen([path, *asked.words(mark)], stdin=own, preexec_fn=self.prepare, **how)
+        os.close(own)
         try:
-            self.keys = self.keys_for(asked)
+            self.keys = self.keys_for(asked, to)
             if self.is_killed:
                 self.program.kill()
             yield self.program
         finally:
             self.program.kill()
 
-    def keys_for(self, asked):
+    def keys_for(self, asked, to):
         """The keys that are passed on to the outside, once what is to be done first is done."""
         return Keys(
             self.program,
+            to,
             asked.opening(),
             asked.escape,
-            do_first=lambda keys: do_all(asked.steps, keys, self.seen),
+            do_first=lambda keys: self.doing.go_on(asked.steps, keys) if asked.steps else None,
             remind=lambda: self.say(asked.way_out()),
         )
 
@@ -185,7 +190,7 @@ class Run:
         showing = [begin(threading.Thread(target=screen.pass_on)) for screen in self.screens]
         self.await_program()
         await_all(showing, lambda: self.is_killed)
-        self.seen.end()
+        self.seen.close()
 
     def await_program(self):
         """Waits until the program has ended. A signal that comes just before a wait is heard only after it, so no wait is long."""
@@ -206,6 +211,8 @@ class Run:
             return b"\r\n".join([re.sub(rb"host (\d+):", self.named, rest), *(it.encode() for it in self.hosts.vacant())])
         if handed.startswith(WISH):
             return drawn_as(path_in(handed[len(WISH) :]), self.story.picture())
+        if handed.startswith(DO):
+            return os.fsencode(self.doing.begin_file(path_in(handed[len(DO) :]), self.keys))
         if not handed.startswith(LINE):
             return saved_as(handed)
         return self.told(handed[len(LINE) :])
@@ -319,7 +326,7 @@ def sit(path, asked, run):
     mark = new_mark()
     run.heed()
     if asked.steps:
-        run.seen.begin()
+        run.doing.begin()
     run.gather(path, asked)
     with raw_terminal(), row_for(asked.lines, asked.hint()) as run.row, run.hosts_of(path, asked, mark):
         run.pass_on(mark.encode())

@@ -1,15 +1,15 @@
-"""What is done at a console by a file, as `--do` names it: texts that are waited for, keys, pauses, and commands of the console."""
+"""What is done at a console by a file, as `--do` and `do` name it: texts that are waited for, keys, pauses, and commands of the console."""
 
 from __future__ import annotations
 
+import contextlib
 import os
 import re
 import threading
 import time
 from typing import Protocol
 
-from files import read
-from options import complain, keys_in
+from options import Refused, keys_in, refuse
 
 # How many bytes are kept of what nobody has waited for yet.
 MOST_SEEN = 1 << 20
@@ -45,6 +45,7 @@ class Seen:
 
     def __init__(self) -> None:
         self.text, self.is_over, self.changed = bytearray(), True, threading.Condition()
+        self.is_closed = False
 
     def hear(self, some: bytes) -> None:
         """This was written."""
@@ -57,8 +58,8 @@ class Seen:
             self.changed.notify_all()
 
     def begin(self) -> None:
-        """From now on it is kept."""
-        self.is_over = False
+        """From now on it is kept, unless nothing more can come."""
+        self.is_over = self.is_closed
 
     def end(self) -> None:
         """No text is waited for any more."""
@@ -66,6 +67,11 @@ class Seen:
             self.is_over = True
             self.text.clear()
             self.changed.notify_all()
+
+    def close(self) -> None:
+        """Nothing more can come."""
+        self.is_closed = True
+        self.end()
 
     def has_come(self, wanted: bytes) -> bool:
         """Waits for a text; false if nothing more can come before it does."""
@@ -92,15 +98,20 @@ def step_in(place: str, line: str) -> Step:
     """The step of a line."""
     word, _, rest = line.partition(" ")
     if word in (WAIT, TYPE):
-        return word, keys_in(f"{place}: {line}", rest) or complain(f"{place}: `{word}` is followed by a text")
+        return word, keys_in(f"{place}: {line}", rest) or refuse(f"{place}: `{word}` is followed by a text")
     if word == SLEEP:
-        return word, int(rest) / 1000 if re.fullmatch("[0-9]{1,9}", rest) else complain(f"{place}: `{word}` is followed by milliseconds")
+        return word, int(rest) / 1000 if re.fullmatch("[0-9]{1,9}", rest) else refuse(f"{place}: `{word}` is followed by milliseconds")
     return None, os.fsencode(line)
 
 
 def steps_in(path: str) -> list[Step]:
-    """The steps of a file, one a line; empty lines are left out, and those that begin with `#`. One that is none is refused."""
-    lines = enumerate(os.fsdecode(read(path)).splitlines(), 1)
+    """The steps of a file, one a line; empty lines are left out, and those that begin with `#`. One that is none is refused, as is a file
+    that cannot be read."""
+    try:
+        with open(path, "rb") as file:
+            lines = enumerate(os.fsdecode(file.read()).splitlines(), 1)
+    except OSError as error:
+        refuse(f"{path}: {error.strerror}")
     return [step_in(f"{path}, line {number}", line) for number, line in lines if line.strip() and not line.startswith("#")]
 
 
@@ -116,3 +127,34 @@ def do_all(steps: list[Step], keys: Types, seen: Seen) -> None:
         elif not seen.has_come(what):
             break
     seen.end()
+
+
+class Doing:
+    """What is done by files at a console, by one of them at a time."""
+
+    def __init__(self, seen: Seen) -> None:
+        self.seen, self.is_busy = seen, threading.Lock()
+
+    def begin(self) -> bool:
+        """From now on what is seen is kept; false if another file is being done."""
+        if not self.is_busy.acquire(blocking=False):
+            return False
+        self.seen.begin()
+        return True
+
+    def go_on(self, steps: list[Step], keys: Types) -> None:
+        """Does the steps of a file that has begun."""
+        with contextlib.suppress(OSError):
+            do_all(steps, keys, self.seen)
+        self.is_busy.release()
+
+    def begin_file(self, path: str, keys: Types) -> str:
+        """Begins to do what a file says, beside what is typed; gives what is said of that."""
+        try:
+            steps = steps_in(path)
+        except Refused as why:
+            return str(why)
+        if not self.begin():
+            return f"{path} is not done: another file is being done"
+        threading.Thread(target=self.go_on, args=[steps, keys], daemon=True).start()
+        return f"{path} is being done"

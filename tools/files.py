@@ -124,21 +124,21 @@ def saved_as(handed):
     try:
         disks.write(path, bytes.fromhex(image.decode()))
     except OSError as error:
-        return f"{path} is not written: {error.strerror}".encode()
-    return f"drive {int(drive, 16)} is saved to {path}: the disk of this moment, with every write that the machine was told is done".encode()
+        return os.fsencode(f"{path} is not written: {error.strerror}")
+    return os.fsencode(f"drive {int(drive, 16)} is saved to {path}: the disk of this moment, with every write that the machine was told is done")
 
 
 def drawn_as(path, picture):
     """Writes a picture of the hosts' story, if there is one, and says what became of it."""
     if picture is None:
-        return f"{path} is not written: nothing was told of the hosts yet".encode()
+        return os.fsencode(f"{path} is not written: nothing was told of the hosts yet")
     try:
         disks.write(path, picture.encode())
     except OSError as error:
-        return f"{path} is not written: {error.strerror}".encode()
-    return f"what has become of the hosts so far is drawn in {path}".encode()
+        return os.fsencode(f"{path} is not written: {error.strerror}")
+    return os.fsencode(f"what has become of the hosts so far is drawn in {path}")
 
 
 def path_in(digits):
     """The name of a file, by its hexadecimal digits."""
-    return bytes.fromhex(digits.decode()).decode().strip()
+    return os.fsdecode(bytes.fromhex(digits.decode()).strip())

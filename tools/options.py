@@ -92,6 +92,23 @@ def complain(why, status=2):
     sys.exit(status)
 
 
+class Refused(Exception):
+    """Why something is refused."""
+
+
+def refuse(why):
+    """Refuses something, with a reason."""
+    raise Refused(why)
+
+
+def accepted(make, *words):
+    """What is made of some words; if it is refused, the command ends with the reason."""
+    try:
+        return make(*words)
+    except Refused as why:
+        return complain(why)
+
+
 def taken(command, words, own=()):
     """The options among the words after a command, each with its value, and any other word with none. Beside those above the
     program's own options of these names are taken."""
@@ -154,7 +171,7 @@ def sense_line(word):
 
 def key_lines(port, text):
     """The lines of a script for `live` that type a text."""
-    return [f"type {port} {key:02X}" for key in keys_in(f"--type {port}={text}", text)]
+    return [f"type {port} {key:02X}" for key in accepted(keys_in, f"--type {port}={text}", text)]
 
 
 def keys_in(where, text):
@@ -163,7 +180,7 @@ def keys_in(where, text):
     while rest:
         found = re.match(r"\\([rnt\\])|\\x([0-9A-Fa-f]{2})|([^\\])", rest, re.DOTALL)
         if not found:
-            complain(f"{where}: after a backslash comes r, n, t, x with two hexadecimal digits, or a backslash")
+            refuse(f"{where}: after a backslash comes r, n, t, x with two hexadecimal digits, or a backslash")
         named, code, plain = found.groups()
         keys += ESCAPES[named] if named else bytes.fromhex(code) if code else os.fsencode(plain)
         rest = rest[found.end() :]

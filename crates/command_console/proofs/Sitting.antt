@@ -29,9 +29,12 @@ use Rattle.command_console.specs.declared.session.Ends.{Ends}
 use Rattle.command_console.specs.declared.session.Left.{Left}
 use Rattle.command_console.specs.declared.supervisor.Supervisor.{Supervisor}
 use Rattle.command_console.specs.declared.waking.WakingKeys.{WakingKeys}
+use Rattle.std.specs.Prelude.{flat_map}
+use Rattle.console_terminal.specs.Keys.{heard_bytes}
+use Rattle.console_terminal.specs.declared.keys.Heard.{Heard}
 use Rattle.console_terminal.specs.Listening.{Listens, is_quit, last_strokes}
 use Rattle.console_terminal.specs.Screen.{AreSeen, Wrote, bytes_of, guest_in, texts_of}
-use Rattle.console_terminal.specs.Typing.{Place, commands_at, line_of, place_of, strokes_at}
+use Rattle.console_terminal.specs.Typing.{OpenLine, Place, commands_at, line_of, place_of, strokes_at}
 use Rattle.console_terminal.specs.declared.command.Command.{Command}
 use Rattle.console_terminal.specs.declared.desk.Desk.{Desk}
 use Rattle.console_terminal.specs.declared.display.Display.{Display}
@@ -70,31 +73,32 @@ gone_in (Some to) port bytes from into gone = gone
 
 -- ---- keys
 
-first_place : (d : Desk) → d.port ≡ Port.Zero → line_of d ≡ None → place_of d ≡ at_first
-first_place d port none =
-    ap (λ (p : Port). let at : Place = record { port = p; line = line_of d } in at) port
-    ∙ ap (λ (l : Option (List ℕ)). let at : Place = record { port = Port.Zero; line = l } in at) none
+first_place : (d : Desk) → d.port ≡ Port.Zero → line_of d ≡ None → d.past.items ≡ [] → place_of d ≡ at_first
+first_place d port none before =
+    ap (λ (p : Port). let at : Place = record { port = p; line = line_of d; past = d.past.items } in at) port
+    ∙ ap (λ (l : Option OpenLine). let at : Place = record { port = Port.Zero; line = l; past = d.past.items } in at) none
+    ∙ ap (λ l. let at : Place = record { port = Port.Zero; line = None; past = l } in at) before
 
 -- what was typed at a terminal is the first of what came from its keyboard
 typed_first : (typed : List ℕ) (a b : PortEnd) → a.waiting ≡ None → (t : Types typed a b) → IsPrefix typed t.came
 typed_first typed a b none t = (found b.waiting, sym (sym (ap (λ (w : Option ℕ). found w ++ t.came) none) ∙ t.typed_are))
 
 -- and that the first of what the script types, and then of the keys among the bytes
-typed_keys : (port : Port) (escape : ℕ) (place : Place) (bytes scripted typed : List ℕ) (ending : Ending)
+typed_keys : (port : Port) (escape : ℕ) (place : Place) (heard : List Heard) (scripted typed : List ℕ) (ending : Ending)
     (to mid to' : Producer Stroke Global AnyItems) (a b : PortEnd) → IsKeyboardOf to a.keyboard → a.waiting ≡ None →
     place ≡ at_first → Types typed a b → sent mid ≡ sent to ++ presses scripted →
-    sent to' ≡ (sent mid ++ strokes_at port escape place bytes) ++ last_strokes ending →
-    IsPrefix (came_by b.keyboard.ring) (sent to') → IsPrefix typed (scripted ++ keys_typed port escape bytes)
-typed_keys port escape place bytes scripted typed ending to mid to' a b is none at t script went first =
-    let strokes : List Stroke = presses scripted ++ strokes_at port escape place bytes in
+    sent to' ≡ (sent mid ++ strokes_at port escape place heard) ++ last_strokes ending →
+    IsPrefix (came_by b.keyboard.ring) (sent to') → IsPrefix typed (scripted ++ keys_typed port escape heard)
+typed_keys port escape place heard scripted typed ending to mid to' a b is none at t script went first =
+    let strokes : List Stroke = presses scripted ++ strokes_at port escape place heard in
     let all : sent to' ≡ (sent to ++ strokes) ++ last_strokes ending =
-    went ∙ ap (λ l. (l ++ strokes_at port escape place bytes) ++ last_strokes ending) script
-    ∙ ap (λ l. l ++ last_strokes ending) (append_assoc (sent to) (presses scripted) (strokes_at port escape place bytes)) in
+    went ∙ ap (λ l. (l ++ strokes_at port escape place heard) ++ last_strokes ending) script
+    ∙ ap (λ l. l ++ last_strokes ending) (append_assoc (sent to) (presses scripted) (strokes_at port escape place heard)) in
     let keys : IsPrefix t.came (keys_in strokes) =
     came to to' a.keyboard b.keyboard t.came strokes ending is t.heard_are all first in
     subst (λ l. IsPrefix typed l)
-    (keys_in_presses scripted (strokes_at port escape place bytes)
-    ∙ ap (λ p. scripted ++ keys_in (strokes_at port escape p bytes)) at)
+    (keys_in_presses scripted (strokes_at port escape place heard)
+    ∙ ap (λ p. scripted ++ keys_in (strokes_at port escape p heard)) at)
     (prefix_on typed t.came (keys_in strokes) (typed_first typed a b none t) keys)
 
 -- ---- a session from its first state to its end
@@ -140,20 +144,20 @@ module _ {D S : Type 0} (end : HostsEnd) (first last : Session D S) (ended : End
       left keys = remaining keys.source.reader
 
       typed : (ending : Ending) (w : leaving.WasHeard left given ending h keyboards) →
-          HasTyped desktop.escape desktop.lines.items passed w.heard.listens.bytes
+          HasTyped desktop.escape desktop.lines.items passed w.heard.listens.heard
       typed ending w =
           let l = w.heard.listens in
-          let at = first_place h.listener.desk hears.port hears.closed in
+          let at = first_place h.listener.desk hears.port hears.closed hears.none_before in
           let scripted = subst (λ x. LinesType x.items h.listener.first h.listener.second w.heard.first w.heard.second) hears.lines w.heard.typed in
           record {
-            first = subst (λ e. IsPrefix (typed_at 0 passed) (typed_in 0 desktop.lines.items ++ keys_typed Port.Zero e l.bytes)) hears.escape
-                (typed_keys Port.Zero h.listener.desk.escape (place_of h.listener.desk) l.bytes (typed_in 0 desktop.lines.items)
+            first = subst (λ e. IsPrefix (typed_at 0 passed) (typed_in 0 desktop.lines.items ++ keys_typed Port.Zero e l.heard)) hears.escape
+                (typed_keys Port.Zero h.listener.desk.escape (place_of h.listener.desk) l.heard (typed_in 0 desktop.lines.items)
                 (typed_at 0 passed) ending ends.first w.heard.first w.new.listener.first first.first last.first begins.keyboard0
                 begins.none_waits.0 at types0
                 (scripted.first_is ∙ ap (λ r. sent r ++ presses (typed_in 0 desktop.lines.items)) hears.first) l.first
                 (subst (λ k. IsPrefix (came_by k.0.ring) (sent w.new.listener.first)) same w.came0));
-            second = subst (λ e. IsPrefix (typed_at 1 passed) (typed_in 1 desktop.lines.items ++ keys_typed Port.One e l.bytes)) hears.escape
-                (typed_keys Port.One h.listener.desk.escape (place_of h.listener.desk) l.bytes (typed_in 1 desktop.lines.items)
+            second = subst (λ e. IsPrefix (typed_at 1 passed) (typed_in 1 desktop.lines.items ++ keys_typed Port.One e l.heard)) hears.escape
+                (typed_keys Port.One h.listener.desk.escape (place_of h.listener.desk) l.heard (typed_in 1 desktop.lines.items)
                 (typed_at 1 passed) ending ends.second w.heard.second w.new.listener.second first.second last.second begins.keyboard1
                 begins.none_waits.1 at types1
                 (scripted.second_is ∙ ap (λ r. sent r ++ presses (typed_in 1 desktop.lines.items)) hears.second) l.second
@@ -161,12 +165,12 @@ module _ {D S : Type 0} (end : HostsEnd) (first last : Session D S) (ended : End
           }
 
       was_typed : (ending : Ending) (w : leaving.WasHeard left given ending h keyboards) →
-          WantsEnd end desktop.escape w.heard.listens.bytes →
+          WantsEnd end desktop.escape w.heard.listens.heard →
           WasTyped remaining end desktop.escape desktop.lines.items passed reader
       was_typed ending w wants = record {
         left = w.new.listener.source.source.reader;
-        bytes = w.heard.listens.bytes;
-        read = subst (λ r. Consumes (remaining r) (remaining w.new.listener.source.source.reader) w.heard.listens.bytes)
+        heard = w.heard.listens.heard;
+        read = subst (λ r. Consumes (remaining r) (remaining w.new.listener.source.source.reader) (flat_map heard_bytes w.heard.listens.heard))
             hears.reader_is w.heard.listens.taken;
         typed = typed ending w;
         wanted = wants;
@@ -174,11 +178,11 @@ module _ {D S : Type 0} (end : HostsEnd) (first last : Session D S) (ended : End
 
       -- a command to quit was among the bytes
       quits : (w : leaving.WasHeard left given Ending.Quit h keyboards) →
-          list_any is_quit (commands_at desktop.escape at_first w.heard.listens.bytes) ≡ true
+          list_any is_quit (commands_at desktop.escape at_first w.heard.listens.heard) ≡ true
       quits w =
-          subst (λ e. list_any is_quit (commands_at e at_first w.heard.listens.bytes) ≡ true) hears.escape
-          (subst (λ p. list_any is_quit (commands_at h.listener.desk.escape p w.heard.listens.bytes) ≡ true)
-          (first_place h.listener.desk hears.port hears.closed) (sym w.heard.listens.quit))
+          subst (λ e. list_any is_quit (commands_at e at_first w.heard.listens.heard) ≡ true) hears.escape
+          (subst (λ p. list_any is_quit (commands_at h.listener.desk.escape p w.heard.listens.heard) ≡ true)
+          (first_place h.listener.desk hears.port hears.closed hears.none_before) (sym w.heard.listens.quit))
 
   -- what has appeared
   pub appeared : {W N : Type 0} (contents : W → Option (List ℕ)) (notes : N → Option (List ℕ)) (ends : Ends) (d d' : Display W N) →

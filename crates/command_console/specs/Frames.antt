@@ -1,4 +1,4 @@
--- What `save D FILE` answers: an image for the command that writes files, or why it cannot be had. What `picture FILE` answers.
+-- What `save D FILE` answers: an image for the command that writes files, or why it cannot be had. What `picture FILE` and `do FILE` answer.
 use Rattle.std.specs.Prelude.{◌≡◌, ℕ, List, [], ◌∷◌, ◌++◌, Result, Ok, Err, IfOk, codes}
 use Rattle.std.specs.Fmt.{decimal}
 use Rattle.std.specs.Global.{Vec}
@@ -34,9 +34,15 @@ pub record IsAnswer (mark : List ℕ) (drive : ℕ) (path text : List ℕ) : Typ
 abbrev pub unaided_text : List ℕ
 unaided_text = codes "that needs the command `./pair`, which starts processes and writes files: this program does neither"
 
--- a wish for a picture: the mark twice, what is wanted, the name of a file in hexadecimal digits, and the mark
-abbrev pub between : List ℕ → List ℕ → List ℕ
-between mark digits = mark ++ (mark ++ (codes "picture " ++ (digits ++ mark)))
+-- a wish for what is done with a file: the mark twice, what is wanted, the name of the file in hexadecimal digits, and the mark
+abbrev pub between : List ℕ → List ℕ → List ℕ → List ℕ
+between mark word digits = mark ++ (mark ++ (word ++ (codes " " ++ (digits ++ mark))))
 
-abbrev pub wish_of : List ℕ → List ℕ → List ℕ
-wish_of mark path = between mark (encode_lower path)
+abbrev pub wish_of : List ℕ → List ℕ → List ℕ → List ℕ
+wish_of mark word path = between mark word (encode_lower path)
+
+abbrev pub picture_word : List ℕ
+picture_word = codes "picture"
+
+abbrev pub do_word : List ℕ
+do_word = codes "do"

@@ -26,13 +26,14 @@ use Rattle.console_terminal.specs.declared.keyboard.Keyboard.{Keyboard}
 use Rattle.pair_protocol.specs.Faithful.{IsPrefix}
 use Rattle.rtrb.specs.Ring.{received, sent}
 
--- one sits at port 0 with no command line open, over these streams and rings
+-- one sits at port 0 with no command line open, and none before it, over these streams and rings
 pub record Hears {R : Type 0} (ends : Ends) (desktop : Desktop) (reader : R)
     (h : Hearing (WakingKeys (TerminalKeys R)) Supervisor) : Type 0 where
   pub reader_is : h.listener.source.source.reader ≡ reader
   pub port : h.listener.desk.port ≡ Port.Zero
   pub escape : h.listener.desk.escape ≡ desktop.escape
   pub closed : line_of h.listener.desk ≡ None
+  pub none_before : h.listener.desk.past.items ≡ []
   pub first : h.listener.first ≡ ends.first
   pub second : h.listener.second ≡ ends.second
   pub lines : h.lines ≡ desktop.lines

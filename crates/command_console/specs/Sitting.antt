@@ -1,5 +1,5 @@
 -- What one has typed and seen at a console while an outside went from its first state to its end.
-use Rattle.std.specs.Prelude.{◌≡◌, ◌≤◌, ℕ, true, List, [], ◌++◌, Option, Some, None}
+use Rattle.std.specs.Prelude.{◌≡◌, ◌≤◌, ℕ, flat_map, true, List, [], ◌++◌, Option, Some, None}
 use Rattle.std.specs.Io.KnownBytes.{Appends, Consumes}
 use Rattle.std.specs.List.{list_any}
 use Rattle.command_console.specs.Rings.{IsKeyboardOf, IsScreenOf}
@@ -12,9 +12,11 @@ use Rattle.command_io.specs.Typed.{typed_in}
 use Rattle.command_console.specs.declared.console.Streams.{Streams}
 use Rattle.command_console.specs.declared.session.Ends.{Ends}
 use Rattle.command_console.specs.declared.session.Left.{Left}
+use Rattle.console_terminal.specs.Keys.{heard_bytes}
 use Rattle.console_terminal.specs.Listening.{is_quit}
 use Rattle.console_terminal.specs.Screen.{AreSeen, Piece, bytes_of, guest_in, texts_of}
 use Rattle.console_terminal.specs.Typing.{commands_at}
+use Rattle.console_terminal.specs.declared.keys.Heard.{Heard}
 use Rattle.console_terminal.specs.declared.port.Port.{Port}
 use Rattle.outside_switch.specs.Passing as passing
 use Rattle.outside_switch.specs.Passing.{Passed, typed_at}
@@ -37,24 +39,24 @@ pub record AreOpen {D S : Type 0} (session : Session D S) (ends : Ends) : Type 0
 abbrev pub passed_to : {D S : Type 0} {end : HostsEnd} {old new : Session D S} → Ended end old new → List Passed
 passed_to ended = ended.went.passed ++ ended.stopped.passed
 
--- These bytes were typed at a console. The keys that were typed at the terminals are those of the script and then those among the bytes,
--- or the first of them.
-pub record HasTyped (escape : ℕ) (lines : List Line) (passed : List Passed) (bytes : List ℕ) : Type 0 where
-  pub first : IsPrefix (typed_at 0 passed) (typed_in 0 lines ++ keys_typed Port.Zero escape bytes)
-  pub second : IsPrefix (typed_at 1 passed) (typed_in 1 lines ++ keys_typed Port.One escape bytes)
+-- These bytes were typed at a console, with these pauses. The keys that were typed at the terminals are those of the script and then those
+-- among the bytes, or the first of them.
+pub record HasTyped (escape : ℕ) (lines : List Line) (passed : List Passed) (heard : List Heard) : Type 0 where
+  pub first : IsPrefix (typed_at 0 passed) (typed_in 0 lines ++ keys_typed Port.Zero escape heard)
+  pub second : IsPrefix (typed_at 1 passed) (typed_in 1 lines ++ keys_typed Port.One escape heard)
 
 -- if it has ended since the user wanted it, a command to quit was among the bytes
-abbrev pub WantsEnd : HostsEnd → ℕ → List ℕ → Type 0
-WantsEnd UserQuit escape bytes = list_any is_quit (commands_at escape at_first bytes) ≡ true
-WantsEnd end escape bytes = Unit {0}
+abbrev pub WantsEnd : HostsEnd → ℕ → List Heard → Type 0
+WantsEnd UserQuit escape heard = list_any is_quit (commands_at escape at_first heard) ≡ true
+WantsEnd end escape heard = Unit {0}
 
 pub record WasTyped {R : Type 0} (remaining : R → Option (List ℕ)) (end : HostsEnd) (escape : ℕ) (lines : List Line)
     (passed : List Passed) (reader : R) : Type 0 where
   pub left : R
-  pub bytes : List ℕ
-  pub read : Consumes (remaining reader) (remaining left) bytes
-  pub typed : HasTyped escape lines passed bytes
-  pub wanted : WantsEnd end escape bytes
+  pub heard : List Heard
+  pub read : Consumes (remaining reader) (remaining left) (flat_map heard_bytes heard)
+  pub typed : HasTyped escape lines passed heard
+  pub wanted : WantsEnd end escape heard
 
 -- If no host is left, nobody waits for what is typed: what was read then is not known. Nobody has stopped it from elsewhere.
 abbrev pub WasHeard : {R : Type 0} → (R → Option (List ℕ)) → HostsEnd → ℕ → List Line → List Passed → R → Type 0

@@ -1,4 +1,4 @@
-//! How an image, or a wish for a picture, is handed to the command that writes files.
+//! How an image, or a wish for what is done with a file, is handed to the command that reads and writes files.
 ghost use Rattle.std.specs.Prelude.{◌≡◌, IfOk, string_bytes};
 ghost use Rattle.command_console.specs.Frames.{answer_of, between, frame_of, unsaved_text, wish_of};
 
@@ -58,16 +58,16 @@ fn frame(
     Ok(text)
 }
 
-/// What is answered to one who wants a picture: the name of its file, in hexadecimal digits and between marks, for the command that draws.
-pub(crate) fn wish(alloc: Global, mark: &str, path: &[u8]) -> Result<String, AllocError>
-    ensures { IfOk result (λ text. string_bytes text ≡ wish_of mark.now path.now) }
+/// What is answered to one who wants something to be done with a file: a word, and the name of the file in hexadecimal digits, between marks.
+pub(crate) fn wish(alloc: Global, mark: &str, word: &str, path: &[u8]) -> Result<String, AllocError>
+    ensures { IfOk result (λ text. string_bytes text ≡ wish_of mark.now word.now path.now) }
 {
     let path = hex::encode(alloc, path)?;
-    wish_for(alloc, mark, path.as_str())
+    wish_for(alloc, mark, word, path.as_str())
 }
 
-fn wish_for(alloc: Global, mark: &str, path: &str) -> Result<String, AllocError>
-    ensures { IfOk result (λ text. string_bytes text ≡ between mark.now path.now) }
+fn wish_for(alloc: Global, mark: &str, word: &str, path: &str) -> Result<String, AllocError>
+    ensures { IfOk result (λ text. string_bytes text ≡ between mark.now word.now path.now) }
 {
-    format!(in alloc; "{mark}{mark}picture {path}{mark}")
+    format!(in alloc; "{mark}{mark}{word} {path}{mark}")
 }

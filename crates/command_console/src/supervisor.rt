@@ -1,6 +1,6 @@
 //! What carries out the commands of a console whose hosts are processes.
 ghost use Rattle.std.specs.Prelude.{◌≡◌, ◌≢◌, [], IfOk, None, string_bytes};
-ghost use Rattle.command_console.specs.Frames.{IsAnswer, unaided_text, wish_of};
+ghost use Rattle.command_console.specs.Frames.{IsAnswer, do_word, picture_word, unaided_text, wish_of};
 ghost use Rattle.command_console.specs.Fates.{fate_of};
 
 use crate::frame::{answer, wish};
@@ -184,12 +184,24 @@ impl Supervisor {
     fn picture(&self, path: &[u8]) -> Result<String, AllocError>
         ensures unaided { string_bytes self.now.mark ≡ [] → IfOk result (λ text. string_bytes text ≡ unaided_text) }
         ensures aided { string_bytes self.now.mark ≢ [] → IfOk result
-            (λ text. string_bytes text ≡ wish_of (string_bytes self.now.mark) path.now) }
+            (λ text. string_bytes text ≡ wish_of (string_bytes self.now.mark) picture_word path.now) }
     {
         if self.mark.is_empty() {
             return self.unaided();
         }
-        wish(self.alloc, self.mark.as_str(), path)
+        wish(self.alloc, self.mark.as_str(), "picture", path)
+    }
+
+    // A wish for what the lines of a file say, for the command that reads it.
+    fn do_file(&self, path: &[u8]) -> Result<String, AllocError>
+        ensures unaided { string_bytes self.now.mark ≡ [] → IfOk result (λ text. string_bytes text ≡ unaided_text) }
+        ensures aided { string_bytes self.now.mark ≢ [] → IfOk result
+            (λ text. string_bytes text ≡ wish_of (string_bytes self.now.mark) do_word path.now) }
+    {
+        if self.mark.is_empty() {
+            return self.unaided();
+        }
+        wish(self.alloc, self.mark.as_str(), "do", path)
     }
 
     // A wish for what is done with processes, for the command that has started them: a word, and a host unless it is for none.
@@ -226,6 +238,7 @@ impl Interpreter for Supervisor {
             Command::Status => self.hand_on_status().ok(),
             Command::Save(drive) => self.save(drive, path_in(line)).ok(),
             Command::Picture => self.picture(rest_in(line)).ok(),
+            Command::Do => self.do_file(rest_in(line)).ok(),
             Command::Help => String::from_str(self.alloc, HELP).ok(),
             Command::Speed(bound) => self.set_speed(bound).ok(),
             Command::Terminal(_) | Command::Quit => None,

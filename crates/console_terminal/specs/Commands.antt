@@ -45,7 +45,7 @@ keywords =
     ∷ (codes "spare", Keyword.Spare) ∷ (codes "cut", Keyword.Cut) ∷ (codes "part", Keyword.Part)
     ∷ (codes "mend", Keyword.Mend) ∷ (codes "drop", Keyword.Drop) ∷ (codes "speed", Keyword.Speed) ∷ (codes "status", Keyword.Status)
     ∷ (codes "terminal", Keyword.Terminal) ∷ (codes "save", Keyword.Save) ∷ (codes "picture", Keyword.Picture)
-    ∷ (codes "help", Keyword.Help) ∷ (codes "quit", Keyword.Quit) ∷ []
+    ∷ (codes "do", Keyword.Do) ∷ (codes "help", Keyword.Help) ∷ (codes "quit", Keyword.Quit) ∷ []
 
 -- the two are the same but for the case of letters
 abbrev pub is_same_word : List ℕ → List ℕ → Bool
@@ -126,6 +126,7 @@ command_by Keyword.Speed value = option_map (λ (steps : ℕ). Command.Speed ste
 command_by Keyword.Terminal value = option_map (λ port. Command.Terminal port) (port_of value)
 command_by Keyword.Save value = option_map (λ (drive : ℕ). Command.Save drive) (drive_of value)
 command_by Keyword.Picture value = if is_empty value then None else Some Command.Picture
+command_by Keyword.Do value = if is_empty value then None else Some Command.Do
 command_by keyword value = if is_empty value then plain_command keyword else None
 
 -- a line of this keyword may have this word, or none, after the one that is its value: a file is named there, or its name goes on, and
@@ -133,9 +134,10 @@ command_by keyword value = if is_empty value then plain_command keyword else Non
 abbrev pub is_fit_end : Keyword → List ℕ → Bool
 is_fit_end Keyword.Save more = not (is_empty more)
 is_fit_end Keyword.Picture more = true
+is_fit_end Keyword.Do more = true
 is_fit_end _ more = is_empty more
 
--- the file that a line of `picture` names: all that comes after its first word
+-- the file that a line of `picture` or `do` names: all that comes after its first word
 abbrev pub rest_in : List ℕ → List ℕ
 rest_in line = without_spaces (after_word line)
 
@@ -174,4 +176,5 @@ mistake_text (Mistake.Unfit Keyword.Speed) = codes "`speed` is followed by 0, or
 mistake_text (Mistake.Unfit Keyword.Terminal) = codes "`terminal` is followed by 0 or 1"
 mistake_text (Mistake.Unfit Keyword.Save) = codes "`save` is followed by a drive, 0 to 3, and the name of a file"
 mistake_text (Mistake.Unfit Keyword.Picture) = codes "`picture` is followed by the name of a file"
+mistake_text (Mistake.Unfit Keyword.Do) = codes "`do` is followed by the name of a file"
 mistake_text (Mistake.Unfit _) = codes "nothing comes after that word"

@@ -1,8 +1,10 @@
 pub mod Commands
+pub mod Editing
 pub mod Greeting
 pub mod Keys
 pub mod Listening
 pub mod Screen
+pub mod Sequences
 pub mod Telling
 pub mod Typing
 pub mod Lines

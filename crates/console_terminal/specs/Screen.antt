@@ -3,6 +3,7 @@ use Rattle.std.specs.Prelude.{◌≡◌, ℕ, ◌==◌, Bool, true, false, if◌
 use Rattle.std.specs.Io.KnownBytes.{Appends}
 use Rattle.std.specs.Global.{Global}
 use Rattle.std.specs.declared.string.String.{String}
+use Rattle.console_terminal.specs.Editing.{redrawn_text}
 use Rattle.console_terminal.specs.Lines.{shown_at}
 use Rattle.console_terminal.specs.declared.screen.Shown.{Shown}
 use Rattle.rtrb.specs.Ring.{SameConsumer, known_items, received}
@@ -15,11 +16,10 @@ use Rattle.console_terminal.specs.declared.display.Display.{Display}
 abbrev pub on_a_line : List ℕ → List ℕ
 on_a_line text = 13 ∷ 10 ∷ text
 
--- what is written of a note: BS, a space and BS rub out a byte
+-- what is written of a note
 abbrev pub text_of : DisplayNote → List ℕ
 text_of DisplayNote.Opened = on_a_line (codes "pair> ")
-text_of (DisplayNote.Typed byte) = byte ∷ []
-text_of DisplayNote.TakenBack = 8 ∷ 32 ∷ 8 ∷ []
+text_of (DisplayNote.Redraws redraw) = redrawn_text redraw
 text_of (DisplayNote.Mistaken mistake) = on_a_line (mistake_text mistake)
 text_of (DisplayNote.Answered text) = on_a_line (string_bytes text)
 text_of (DisplayNote.Closed port) = on_a_line []

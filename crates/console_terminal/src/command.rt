@@ -33,6 +33,8 @@ pub enum Command {
     Save(u8),
     /// What has become of the hosts is drawn, to the file that the line names.
     Picture,
+    /// What the lines of a file say is done, which the line names.
+    Do,
     /// Which commands there are.
     Help,
     /// The console ends.
@@ -55,6 +57,7 @@ pub enum Keyword {
     Terminal,
     Save,
     Picture,
+    Do,
     Help,
     Quit,
 }
@@ -95,12 +98,14 @@ status       how the pair is\r\n\
 terminal P   turns to the terminal of port 0 or 1\r\n\
 save D FILE  the disk of drive D, 0 to 3, as it is now, is written to a file\r\n\
 picture FILE what has become of the hosts so far is drawn, as an SVG file\r\n\
+do FILE      what the lines of a file say is done, as by --do\r\n\
 help         these lines\r\n\
 quit         ends the console\r\n\
-The escape key once more types that key itself; ESC or Ctrl-C leaves the line.";
+The escape key once more types that key itself; ESC or Ctrl-C leaves the line.\r\n\
+Cursor keys, Home, End, Backspace, Delete, Ctrl-U and Ctrl-K edit it; Up and Down call lines back.";
 
 // Each keyword with its word.
-static KEYWORDS: [(&[u8], Keyword); 15] = [
+static KEYWORDS: [(&[u8], Keyword); 16] = [
     (b"stop", Keyword::Stop),
     (b"freeze", Keyword::Freeze),
     (b"thaw", Keyword::Thaw),
@@ -114,6 +119,7 @@ static KEYWORDS: [(&[u8], Keyword); 15] = [
     (b"terminal", Keyword::Terminal),
     (b"save", Keyword::Save),
     (b"picture", Keyword::Picture),
+    (b"do", Keyword::Do),
     (b"help", Keyword::Help),
     (b"quit", Keyword::Quit),
 ];
@@ -143,12 +149,12 @@ fn is_fit_end(keyword: Keyword, more: &[u8]) -> bool
 {
     match keyword {
         Keyword::Save => !more.is_empty(),
-        Keyword::Picture => true,
+        Keyword::Picture | Keyword::Do => true,
         _ => more.is_empty(),
     }
 }
 
-/// The file that a line of `picture` names: all that comes after its first word.
+/// The file that a line of `picture` or `do` names: all that comes after its first word.
 pub fn rest_in(line: &[u8]) -> &[u8]
     ensures { result.now ≡ rest_in line.now }
 {
@@ -233,6 +239,7 @@ fn command_by(keyword: Keyword, value: &[u8]) -> Option<Command>
         Keyword::Terminal => Some(Command::Terminal(port_of(value)?)),
         Keyword::Save => Some(Command::Save(drive_of(value)?)),
         Keyword::Picture => (!value.is_empty()).then_some(Command::Picture),
+        Keyword::Do => (!value.is_empty()).then_some(Command::Do),
         _ if value.is_empty() => plain_command(keyword),
         _ => None,
     }
@@ -350,6 +357,7 @@ impl Mistake {
                 "`save` is followed by a drive, 0 to 3, and the name of a file"
             }
             Mistake::Unfit(Keyword::Picture) => "`picture` is followed by the name of a file",
+            Mistake::Unfit(Keyword::Do) => "`do` is followed by the name of a file",
             Mistake::Unfit(_) => "nothing comes after that word",
         }
     }

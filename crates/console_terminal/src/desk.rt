@@ -1,37 +1,33 @@
 //! What each byte does that is typed.
-ghost use Rattle.std.specs.Prelude.{◌≡◌, None};
-ghost use Rattle.console_terminal.specs.Typing.{act_of, edited, after, line_after, line_of, order_by, place_of, port_after};
+ghost use Rattle.std.specs.Prelude.{◌≡◌, ◌≤◌, [], None, length};
+ghost use Rattle.console_terminal.specs.Editing.{back_after, kept_after, line_after, line_before};
+ghost use Rattle.console_terminal.specs.Telling.{drawn};
+ghost use Rattle.console_terminal.specs.Typing.{act_of, after, line_of, open_after, order_by, past_after, place_of, port_after};
 
+use crate::acts::{done_in, paused, typed};
 use crate::command::{Command, Order, order_of};
+use crate::cursor_line::{CursorLine, MOST_BYTES, copied};
+use crate::edit::Edit;
+use crate::keys::Heard;
 use crate::port::Port;
+use crate::redraw::Redraw;
+use crate::sequence::Sequence;
 use arrayvec::ArrayVec;
 
-/// How many bytes a command line has at most.
-pub const MOST_BYTES: usize = 80;
+/// How many command lines are kept that were carried out.
+pub const MOST_LINES: usize = 32;
 
-const CONTROL_C: u8 = 0x03;
-
-const BACKSPACE: u8 = 0x08;
-
-const LINE_FEED: u8 = 0x0A;
-
-const CARRIAGE_RETURN: u8 = 0x0D;
-
-const ESC: u8 = 0x1B;
-
-const DELETE: u8 = 0x7F;
-
-/// What a byte does.
+/// What a byte does, or a pause.
 #[derive(Debug, Clone, Copy, PartialEq, Eq)]
 pub enum Act {
     /// It is a key of the terminal that one is at; a command line is closed.
     Key(u8),
     /// It opens a command line.
     Opens,
-    /// It is one more byte of the command line.
-    Adds(u8),
-    /// It takes the last byte of the command line back.
-    TakesBack,
+    /// It edits the command line.
+    Edits(Edit),
+    /// It is of an escape sequence, of which so much has come.
+    Waits(Sequence),
     /// It closes the command line, which is forgotten.
     Cancels,
     /// It closes the command line, which is carried out.
@@ -39,55 +35,78 @@ pub enum Act {
     Nothing,
 }
 
-/// Where one types: the terminal that one is at, and the command line, if one is open.
+/// What was done: what a byte does, which order it gives, and what is drawn of the command line.
+#[derive(Drop)]
+pub struct Done {
+    pub act: Act,
+    pub order: Order,
+    pub redraw: Option<Redraw>,
+}
+
+/// Where one types: the terminal that one is at, the command line, if one is open, and those that were carried out.
 #[derive(Drop)]
 pub struct Desk {
     escape: u8,
     pub port: Port,
     is_open: bool,
-    line: ArrayVec<u8, MOST_BYTES>,
+    line: CursorLine,
+    sequence: Sequence,
+    // Of how many lines before it one sees one.
+    back: usize,
+    // The newest first.
+    past: ArrayVec<ArrayVec<u8, MOST_BYTES>, MOST_LINES>,
 }
 
 impl Desk {
-    /// At the terminal of a port, with this escape key. No command line is open.
+    /// At the terminal of a port, with this escape key. No command line is open, and none was carried out.
     pub fn new(port: Port, escape: u8) -> Desk
         ensures place { (result.port ≡ port) × (result.escape ≡ escape) }
         ensures closed { line_of result ≡ None }
+        ensures first { result.past.items ≡ [] }
     {
         Desk {
             escape,
             port,
             is_open: false,
-            line: ArrayVec::new(),
+            line: CursorLine::new(),
+            sequence: Sequence::Nothing,
+            back: 0,
+            past: ArrayVec::new(),
         }
     }
 
-    /// What a byte does here.
-    pub fn act_of(&self, byte: u8) -> Act
-        ensures { result ≡ act_of self.now byte }
+    /// What that which is heard does here.
+    pub fn act_of(&self, heard: Heard) -> Act
+        ensures { result ≡ act_of self.now heard }
     {
-        if self.is_open {
-            return edited(self.escape, self.line.len(), byte);
-        }
-        if byte == self.escape {
-            Act::Opens
-        } else {
-            Act::Key(byte)
+        match heard {
+            Heard::Key(byte) if self.is_open => {
+                done_in(
+                    self.escape,
+                    self.line.bytes().is_empty(),
+                    self.sequence,
+                    byte,
+                )
+            }
+            Heard::Key(byte) => typed(self.escape, byte),
+            Heard::Quiet if self.is_open => paused(self.sequence),
+            _ => Act::Nothing,
         }
     }
 
-    /// Takes a byte that is typed, and says what it does and which order it gives.
-    pub fn take(&mut self, byte: u8) -> (Act, Order)
-        ensures act { result.0 ≡ act_of self.old byte }
-        ensures order { result.1 ≡ order_by result.0 (line_of self.old) }
-        ensures after { place_of self.new ≡ after self.old.escape (place_of self.old) byte }
+    /// Takes what is heard, and says what was done.
+    pub fn take(&mut self, heard: Heard) -> Done
+        ensures act { result.act ≡ act_of self.old heard }
+        ensures order { result.order ≡ order_by result.act (line_of self.old) }
+        ensures redraw { result.redraw ≡ drawn result.act (line_of self.old) (line_of self.new) }
+        ensures after { place_of self.new ≡ after self.old.escape (place_of self.old) heard }
         ensures escape { self.new.escape ≡ self.old.escape }
     {
-        let act = self.act_of(byte);
+        let act = self.act_of(heard);
         let order = self.order_by(act);
-        self.change(act);
+        let redraw = self.change(act);
         self.port = port_after(self.port, order);
-        (act, order)
+        Done { act, order, redraw }
     }
 
     // The order that is given by a byte that does this.
@@ -95,7 +114,7 @@ impl Desk {
         ensures { result ≡ order_by act (line_of self.now) }
     {
         match act {
-            Act::HandsOn if self.is_open => order_of(self.line.as_slice()),
+            Act::HandsOn if self.is_open => order_of(self.line.bytes()),
             _ => Order::Nothing,
         }
     }
@@ -109,31 +128,133 @@ impl Desk {
 
     /// The bytes of the command line that is or was open.
     pub fn line(&self) -> &[u8]
-        ensures { result.now ≡ self.now.line.items }
+        ensures { result.now ≡ self.now.line.bytes }
     {
-        self.line.as_slice()
+        self.line.bytes()
     }
 
-    /// Changes the command line as a byte does that does this.
-    pub fn change(&mut self, act: Act)
+    /// Closes the command line, which is forgotten.
+    pub fn close(&mut self)
         ensures place { (self.new.port ≡ self.old.port) × (self.new.escape ≡ self.old.escape) }
-        ensures line { line_of self.new ≡ line_after act (line_of self.old) }
+        ensures line { line_of self.new ≡ None }
+        ensures past { self.new.past ≡ self.old.past }
+    {
+        self.is_open = false;
+    }
+
+    // Changes the command line as a byte does that does this, and says what is drawn of it.
+    fn change(&mut self, act: Act) -> Option<Redraw>
+        ensures place { (self.new.port ≡ self.old.port) × (self.new.escape ≡ self.old.escape) }
+        ensures line { line_of self.new ≡ open_after act self.old.past.items (line_of self.old) }
+        ensures past { self.new.past.items ≡ past_after act (line_of self.old) self.old.past.items }
+        ensures redraw { result ≡ drawn act (line_of self.old) (line_of self.new) }
     {
         match act {
-            Act::Key(_) | Act::Cancels | Act::HandsOn => self.is_open = false,
-            Act::Opens => {
-                self.is_open = true;
-                self.line.clear();
-            }
-            Act::Adds(byte) => {
-                let _ = self.line.try_push(byte);
-            }
-            Act::TakesBack => {
-                let _ = self.line.pop();
-            }
-            Act::Nothing => {}
+            Act::Key(_) | Act::Cancels => self.close(),
+            Act::HandsOn => self.hand_on(),
+            Act::Opens => self.open(),
+            Act::Edits(edit) => return self.edit(edit),
+            Act::Waits(sequence) => self.sequence = sequence,
+            Act::Nothing => self.sequence = Sequence::Nothing,
         }
+        None
     }
+
+    // Opens a command line.
+    fn open(&mut self)
+        ensures place { (self.new.port ≡ self.old.port) × (self.new.escape ≡ self.old.escape) }
+        ensures line { line_of self.new ≡ open_after Act.Opens self.old.past.items (line_of self.old) }
+        ensures past { self.new.past ≡ self.old.past }
+    {
+        self.is_open = true;
+        self.line = CursorLine::new();
+        self.sequence = Sequence::Nothing;
+        self.back = 0;
+    }
+
+    // Closes the command line, which is kept.
+    fn hand_on(&mut self)
+        ensures place { (self.new.port ≡ self.old.port) × (self.new.escape ≡ self.old.escape) }
+        ensures line { line_of self.new ≡ None }
+        ensures past { self.new.past.items ≡ past_after Act.HandsOn (line_of self.old) self.old.past.items }
+    {
+        if self.is_open {
+            keep(&mut self.past, self.line.bytes());
+        }
+        self.is_open = false;
+    }
+
+    // Edits the command line, if one is open, and says what is drawn of that.
+    fn edit(&mut self, edit: Edit) -> Option<Redraw>
+        ensures place { (self.new.port ≡ self.old.port) × (self.new.escape ≡ self.old.escape) }
+        ensures line { line_of self.new ≡ open_after (Act.Edits edit) self.old.past.items (line_of self.old) }
+        ensures past { self.new.past ≡ self.old.past }
+        ensures redraw { result ≡ drawn (Act.Edits edit) (line_of self.old) (line_of self.new) }
+    {
+        if !self.is_open {
+            return None;
+        }
+        let old = self.line.copy();
+        self.back = back_after(edit, self.past.as_slice(), self.back);
+        edit_line(&mut self.line, edit, self.past.as_slice(), self.back);
+        self.sequence = Sequence::Nothing;
+        Some(Redraw::between(&old, &self.line))
+    }
+}
+
+// How far back one is after an edit.
+fn back_after(edit: Edit, past: &[ArrayVec<u8, MOST_BYTES>], back: usize) -> usize
+    ensures { result ≡ back_after edit past.now back }
+{
+    match edit {
+        Edit::RecallsEarlier if back < past.len() => back + 1,
+        Edit::RecallsLater => back.saturating_sub(1),
+        _ => back,
+    }
+}
+
+// Edits a line; after an edit that recalls one it is the one so far back.
+fn edit_line(line: &mut CursorLine, edit: Edit, past: &[ArrayVec<u8, MOST_BYTES>], back: usize)
+    ensures { line.new ≡ line_after edit past.now back line.old }
+{
+    match edit {
+        Edit::Adds(byte) => line.add(byte),
+        Edit::TakesBack => line.take_back(),
+        Edit::Deletes => line.delete(),
+        Edit::GoesLeft => line.go_left(),
+        Edit::GoesRight => line.go_right(),
+        Edit::GoesToBegin => line.go_to_begin(),
+        Edit::GoesToEnd => line.go_to_end(),
+        Edit::CutsFront => line.cut_front(),
+        Edit::CutsRest => line.cut_rest(),
+        Edit::RecallsEarlier | Edit::RecallsLater => line.replace(line_before(past, back)),
+    }
+}
+
+// The line that is so many lines back.
+fn line_before(past: &[ArrayVec<u8, MOST_BYTES>], back: usize) -> &[u8]
+    ensures line { result.now ≡ line_before back past.now }
+    ensures fits { length result.now ≤ MOST_BYTES }
+{
+    if back == 0 {
+        return &[];
+    }
+    match past.get(back - 1) {
+        Some(line) => line.as_slice(),
+        None => &[],
+    }
+}
+
+// Keeps a line before those that are kept, unless it has no byte.
+fn keep(past: &mut ArrayVec<ArrayVec<u8, MOST_BYTES>, MOST_LINES>, line: &[u8])
+    requires { length line.now ≤ MOST_BYTES }
+    ensures { past.new.items ≡ kept_after line.now past.old.items }
+{
+    if line.is_empty() {
+        return;
+    }
+    past.truncate(MOST_LINES - 1);
+    past.insert(0, copied(line));
 }
 
 // The terminal that one is at after an order.
@@ -143,25 +264,5 @@ fn port_after(port: Port, order: Order) -> Port
     match order {
         Order::Command(Command::Terminal(at)) => at,
         _ => port,
-    }
-}
-
-// What a byte does while a command line of this length is open.
-fn edited(escape: u8, length: usize, byte: u8) -> Act
-    ensures { result ≡ edited escape length byte }
-{
-    if byte == escape {
-        return if length == 0 {
-            Act::Key(byte)
-        } else {
-            Act::Nothing
-        };
-    }
-    match byte {
-        CARRIAGE_RETURN | LINE_FEED => Act::HandsOn,
-        BACKSPACE | DELETE if length > 0 => Act::TakesBack,
-        CONTROL_C | ESC => Act::Cancels,
-        b' '..=b'~' if length < MOST_BYTES => Act::Adds(byte),
-        _ => Act::Nothing,
     }
 }

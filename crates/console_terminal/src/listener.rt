@@ -3,15 +3,16 @@ ghost use Rattle.std.specs.Prelude.{◌≡◌, ◌++◌, ◌∷◌, ◌+◌, ◌
 ghost use Rattle.rtrb.specs.Ring.{SameProducer, known_free, sent};
 ghost use Rattle.console_terminal.specs.Commands.{Grows};
 ghost use Rattle.console_terminal.specs.Listening.{HasRoom, Listens, closed, ending_of, strokes_after};
-ghost use Rattle.console_terminal.specs.Telling.{Answers, Says, changed, closing, note_of};
+ghost use Rattle.console_terminal.specs.Telling.{Answers, Says, changed, closing, note_of, redraws};
 ghost use Rattle.console_terminal.specs.Typing.{act_of, after, command_in, line_of, order_by, place_of, strokes_by};
 
 use crate::Stroke;
 use crate::command::{Command, Order};
-use crate::desk::{Act, Desk};
+use crate::desk::{Act, Desk, Done};
 use crate::keys::{Heard, KeySource};
 use crate::note::DisplayNote;
 use crate::port::Port;
+use crate::redraw::Redraw;
 use crate::signs::Signs;
 use rtrb::Producer;
 use std::thread;
@@ -114,16 +115,16 @@ impl<S: KeySource, I: Interpreter> Listener<S, I> {
         first > 0 && second > 0 && notes > 2
     }
 
-    // Hears a key, and does what it does.
-    #[tactic(auto, using(crate::proofs::Hearing::of_none, crate::proofs::Hearing::of_byte))]
+    // Hears a key, or that none came for a while, and does what that does.
+    #[tactic(auto, using(crate::proofs::Hearing::of_none, crate::proofs::Hearing::of_heard))]
     fn turn(&mut self) -> Option<Ending>
         requires { HasRoom self.old }
         ensures heard { Listens S.left I.given result self.old self.new }
         ensures room { result ≡ None → 0 < known_free self.new.notes }
     {
         match self.source.hear() {
-            Heard::Quiet => None,
-            Heard::Key(byte) => self.take(byte),
+            Heard::Quiet => self.take(Heard::Quiet),
+            Heard::Key(byte) => self.take(Heard::Key(byte)),
             Heard::End => {
                 self.end();
                 Some(Ending::EndOfInput)
@@ -135,23 +136,23 @@ impl<S: KeySource, I: Interpreter> Listener<S, I> {
         }
     }
 
-    // Does what a byte does.
-    fn take(&mut self, byte: u8) -> Option<Ending>
+    // Does what a byte does, or a pause.
+    fn take(&mut self, heard: Heard) -> Option<Ending>
         requires { HasRoom self.old }
         ensures source { self.new.source ≡ self.old.source }
         ensures escape { self.new.desk.escape ≡ self.old.desk.escape }
-        ensures place { place_of self.new.desk ≡ after self.old.desk.escape (place_of self.old.desk) byte }
-        ensures first { sent self.new.first ≡ (sent self.old.first ++ strokes_by Port.Zero self.old.desk.port (act_of self.old.desk byte)) ++ strokes_after result }
-        ensures second { sent self.new.second ≡ (sent self.old.second ++ strokes_by Port.One self.old.desk.port (act_of self.old.desk byte)) ++ strokes_after result }
-        ensures commands { Grows (I.given self.old.interpreter) (I.given self.new.interpreter) (command_in (order_by (act_of self.old.desk byte) (line_of self.old.desk))) }
-        ensures notes { Says self.old.desk.escape (place_of self.old.desk) byte (sent self.old.notes) (sent self.new.notes) }
-        ensures ending { result ≡ ending_of (act_of self.old.desk byte) (order_by (act_of self.old.desk byte) (line_of self.old.desk)) }
+        ensures place { place_of self.new.desk ≡ after self.old.desk.escape (place_of self.old.desk) heard }
+        ensures first { sent self.new.first ≡ (sent self.old.first ++ strokes_by Port.Zero self.old.desk.port (act_of self.old.desk heard)) ++ strokes_after result }
+        ensures second { sent self.new.second ≡ (sent self.old.second ++ strokes_by Port.One self.old.desk.port (act_of self.old.desk heard)) ++ strokes_after result }
+        ensures commands { Grows (I.given self.old.interpreter) (I.given self.new.interpreter) (command_in (order_by (act_of self.old.desk heard) (line_of self.old.desk))) }
+        ensures notes { Says self.old.desk.escape (place_of self.old.desk) heard (sent self.old.notes) (sent self.new.notes) }
+        ensures ending { result ≡ ending_of (act_of self.old.desk heard) (order_by (act_of self.old.desk heard) (line_of self.old.desk)) }
         ensures rings { SameProducer self.old.first self.new.first × SameProducer self.old.second self.new.second × SameProducer self.old.notes self.new.notes }
         ensures room { 0 < known_free self.new.notes }
     {
         let port = self.desk.port;
         let was_open = self.desk.is_open();
-        let (act, order) = self.desk.take(byte);
+        let Done { act, order, redraw } = self.desk.take(heard);
         let ending = send(&mut self.first, &mut self.second, port, act, order);
         obey(
             &mut self.interpreter,
@@ -159,7 +160,7 @@ impl<S: KeySource, I: Interpreter> Listener<S, I> {
             order,
             self.desk.line(),
         );
-        tell(&mut self.notes, act, was_open, self.desk.port);
+        tell(&mut self.notes, act, was_open, redraw, self.desk.port);
         ending
     }
 
@@ -191,7 +192,7 @@ impl<S: KeySource, I: Interpreter> Listener<S, I> {
         ensures ring { SameProducer self.old.notes self.new.notes }
     {
         if self.desk.is_open() {
-            self.desk.change(Act::Cancels);
+            self.desk.close();
             self.notes
                 .push_reserved(DisplayNote::Closed(self.desk.port));
         }
@@ -284,19 +285,36 @@ fn say(notes: &mut Producer<DisplayNote>, answer: Option<String>)
     }
 }
 
-// Says what a byte did to the command line.
-fn tell(notes: &mut Producer<DisplayNote>, act: Act, was_open: bool, port: Port)
+// Says what a byte or a pause did to the command line.
+fn tell(
+    notes: &mut Producer<DisplayNote>,
+    act: Act,
+    was_open: bool,
+    redraw: Option<Redraw>,
+    port: Port,
+)
     requires { 0 < known_free notes.old }
-    ensures notes { sent notes.new ≡ sent notes.old ++ changed act was_open port }
+    ensures notes { sent notes.new ≡ sent notes.old ++ changed act was_open redraw port }
     ensures ring { SameProducer notes.old notes.new }
     ensures room { known_free notes.old ≤ known_free notes.new + 1 }
 {
     match act {
         Act::Opens => notes.push_reserved(DisplayNote::Opened),
-        Act::Adds(byte) => notes.push_reserved(DisplayNote::Typed(byte)),
-        Act::TakesBack => notes.push_reserved(DisplayNote::TakenBack),
+        Act::Edits(_) => show(notes, redraw),
         Act::Cancels | Act::HandsOn => notes.push_reserved(DisplayNote::Closed(port)),
         Act::Key(_) if was_open => notes.push_reserved(DisplayNote::Closed(port)),
-        Act::Key(_) | Act::Nothing => {}
+        Act::Key(_) | Act::Waits(_) | Act::Nothing => {}
+    }
+}
+
+// Says what is drawn of an edit, if anything.
+fn show(notes: &mut Producer<DisplayNote>, redraw: Option<Redraw>)
+    requires { 0 < known_free notes.old }
+    ensures notes { sent notes.new ≡ sent notes.old ++ redraws redraw }
+    ensures ring { SameProducer notes.old notes.new }
+    ensures room { known_free notes.old ≤ known_free notes.new + 1 }
+{
+    if let Some(redraw) = redraw {
+        notes.push_reserved(DisplayNote::Redraws(redraw));
     }
 }

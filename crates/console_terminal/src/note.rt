@@ -5,6 +5,7 @@ ghost use Rattle.console_terminal.specs.Screen.{on_a_line, text_of};
 
 use crate::command::Mistake;
 use crate::port::Port;
+use crate::redraw::{Redraw, write_redraw};
 use std::io::{self, Write};
 
 /// What becomes of the command line, and what is said to it.
@@ -12,10 +13,8 @@ use std::io::{self, Write};
 pub enum DisplayNote {
     /// It is opened: from then on the screen holds still.
     Opened,
-    /// One more byte is in it.
-    Typed(u8),
-    /// Its last byte is taken back.
-    TakenBack,
+    /// It is edited: this is written, so that it is shown as it is now.
+    Redraws(Redraw),
     Mistaken(Mistake),
     /// What a command answers; lines in it have CR LF between them, and none after the last.
     Answered(String),
@@ -29,8 +28,7 @@ pub(crate) fn write_note<W: Write>(writer: &mut W, note: &DisplayNote) -> io::Re
 {
     match note {
         DisplayNote::Opened => writer.write_all(b"\r\npair> "),
-        DisplayNote::Typed(byte) => writer.write_all(&[*byte]),
-        DisplayNote::TakenBack => writer.write_all(b"\x08 \x08"),
+        DisplayNote::Redraws(redraw) => write_redraw(writer, redraw),
         DisplayNote::Mistaken(mistake) => write_line(writer, mistake.text()),
         DisplayNote::Answered(text) => write_line(writer, text.as_str()),
         DisplayNote::Closed(_) => writer.write_all(b"\r\n"),

@@ -68,7 +68,7 @@ struct TypedCase {
     text: &'static [u8],
 }
 
-static CASES: [TypedCase; 9] = [
+static CASES: [TypedCase; 10] = [
     TypedCase {
         typed: b"ab",
         ending: Ending::EndOfInput,
@@ -116,6 +116,14 @@ static CASES: [TypedCase; 9] = [
         second: &[Stroke::End],
         commands: &[],
         text: b"\r\npair> ab\x08 \x08\r\n",
+    },
+    TypedCase {
+        typed: b"\x05satus\x01\x1b[Ct\x1b[F\rd",
+        ending: Ending::EndOfInput,
+        first: &[Stroke::Key(b'd'), Stroke::End],
+        second: &[Stroke::End],
+        commands: &[Command::Status],
+        text: b"\r\npair> satus\x08\x08\x08\x08\x08satus\x08\x08\x08\x08tatus\x08\x08\x08\x08atus\r\nfine\r\n",
     },
     TypedCase {
         typed: b"\x05sta",
