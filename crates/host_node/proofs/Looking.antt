@@ -35,8 +35,8 @@ module _ {B S : Type 0} {H : Type 0} (state : B → S) (M : Machine S) where
 
   pub polls : (of : B → Type 0) (h : Hosted B H) (given : Bool) (guest : B) → HasGuest state M h (Some (state guest))
       → (given ≡ true → of guest) → (given ≡ false → of guest → ⊥) → IsPolling state M of h given
-  polls of h true guest has yes no = record { guest = Some guest; has = has; is = yes refl }
-  polls of h false guest has yes no = record { guest = Some guest; has = has; is = no refl }
+  polls of h true guest has if_so if_not = record { guest = Some guest; has = has; is = if_so refl }
+  polls of h false guest has if_so if_not = record { guest = Some guest; has = has; is = if_not refl }
 
   pub polls_none : (of : B → Type 0) (h : Hosted B H) (given : Bool) → HasGuest state M h None → given ≡ false
       → IsPolling state M of h given
