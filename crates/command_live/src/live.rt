@@ -42,16 +42,28 @@ impl fmt::Display for EndText<'_> {
     ghost output = { λ end. Some (end_text end.as_text end.first.now end.second.now end.winner) };
 
     fn fmt<W: fmt::Write>(&self, f: &mut fmt::Formatter<W>) -> fmt::Result {
-        if self.as_text {
-            write_text(f, self.first, self.second)?;
-        } else {
-            write_bytes(f, self.first, self.second)?;
-        }
+        write_screens(f, self.as_text, self.first, self.second)?;
         match self.winner {
             None => Ok(()),
             Some(Who::Primary) => write!(f, "\nwinner: primary"),
             Some(_) => write!(f, "\nwinner: backup"),
         }
+    }
+}
+
+// What each of two terminals has accepted, as text or in hexadecimal.
+fn write_screens<W: fmt::Write>(
+    f: &mut fmt::Formatter<W>,
+    as_text: bool,
+    first: &[u8],
+    second: &[u8],
+) -> fmt::Result
+    ensures { WritesOnOk W.write_str_gives f.old result (screens_text as_text first.now second.now) f.new }
+{
+    if as_text {
+        write_text(f, first, second)
+    } else {
+        write_bytes(f, first, second)
     }
 }
 

@@ -7,4 +7,4 @@ use Rattle.command_live.proofs.text.EscapedDisplay.fmt.Given as goal
 abbrev pub invariant-loop-byte : goal.invariant-loop-byte
 invariant-loop-byte g l =
     IsPlainFormatter l.initial.f → HasWritten g.W.Write.write_str_gives l.initial.f
-    (escaped_text l.port (take l.byte-index l.byte-items)) l.f
+    (escaped_text l.port (take l.byte-index l.bytes)) l.f
