@@ -321,6 +321,11 @@ def lines_of_a_failure() -> None:
 
 # What is said at the console of a command, with what its table in docs/CONSOLE.md has for it.
 SAYS = {
+    "regs": ("regs", "flags "),
+    "look AAAA": ("look 0000", "0000  "),
+    "look AAAA K": ("look 0000 17", "0010  "),
+    "dis AAAA": ("dis 0000", "0000  "),
+    "dis AAAA K": ("dis 0000 2", "0000  "),
     "cut": ("cut", "the link loses 100 of 100 packets"),
     "mend": ("mend", "the link loses 0 of 100 packets"),
     "drop N": ("drop 30", "the link loses 30 of 100 packets"),

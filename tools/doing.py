@@ -109,7 +109,7 @@ def steps_in(path: str) -> list[Step]:
     that cannot be read."""
     try:
         with open(path, "rb") as file:
-            lines = enumerate(os.fsdecode(file.read()).splitlines(), 1)
+            lines = enumerate(map(os.fsdecode, file.read().splitlines()), 1)
     except OSError as error:
         refuse(f"{path}: {error.strerror}")
     return [step_in(f"{path}, line {number}", line) for number, line in lines if line.strip() and not line.startswith("#")]

@@ -14,7 +14,7 @@ usage: tools/options.py [COMMAND]     prints those of a command; without one, al
   --sense HH            for `console`: the sense switches, in two hexadecimal digits
   --speed N             for `console`: the machine makes at most N instructions a second, 10000 to 999999999
   --do FILE             for `console`: what is done before the first key: commands, `type TEXT`, `wait TEXT` and `sleep MS`, one a line
-  --silence SECONDS     for `console`: after the last key of a pipe: for how long a machine that runs may print nothing and write to no disk
+  --silence SECONDS     for `console`: after the last key of a pipe: for how long a machine that runs may neither print, write, nor read on another track
   --escape KEY          for `console`: the key that opens a command line, as ^E, or as two hexadecimal digits
   --hosts N             for `console`: how many processes begin, from 2 on: the primary, its backup, and spares
   --host PLACE          for `console`: a host here (`here`), or where ssh leads, as `alpha`; once for each host, in place of --hosts

@@ -13,7 +13,7 @@ use Rattle.host_frames.proofs.StreamLaws.{framed_front}
 use Rattle.host_frames.specs.Frames.{Said, Packet, Tells, Transfers, body_of, framed}
 use Rattle.host_frames.specs.Stream.{stream_of}
 use Rattle.host_frames.specs.declared.frame.Notice.TheVariants.{Suspect, Won, Lost, Gone, Begin, Join, Report, Progress, Tick, Stop}
-use Rattle.host_frames.specs.declared.frame.Transfer.TheVariants.{Byte, Key, Accepted, Write, Written, Failed, Get, Sector}
+use Rattle.host_frames.specs.declared.frame.Transfer.TheVariants.{Byte, Key, Accepted, Write, Written, Failed, Get, Sector, Inspect, Inspected}
 use Rattle.pair_protocol.proofs.Traces.Lists.{among-prefix}
 use Rattle.pair_protocol.specs.Faithful.{IsPrefix}
 use Rattle.pair_protocol.specs.Lawful.{Among}
@@ -36,6 +36,8 @@ plain (Transfers (Written number)) head e = other_tag 0x77 _ head (λ t. omega (
 plain (Transfers (Failed number)) head e = other_tag 0x66 _ head (λ t. omega (arith, t)) e
 plain (Transfers (Get a)) head e = other_tag 0x47 _ head (λ t. omega (arith, t)) e
 plain (Transfers (Sector r)) head e = other_tag 0x53 _ head (λ t. omega (arith, t)) e
+plain (Transfers (Inspect number page)) head e = other_tag 0x49 _ head (λ t. omega (arith, t)) e
+plain (Transfers (Inspected number count bytes)) head e = other_tag 0x56 _ head (λ t. omega (arith, t)) e
 plain (Tells (Suspect generation)) head e = other_tag 0x55 _ head (λ t. omega (arith, t)) e
 plain (Tells (Won generation)) head e = other_tag 0x4F _ head (λ t. omega (arith, t)) e
 plain (Tells (Lost generation)) head e = other_tag 0x4C _ head (λ t. omega (arith, t)) e

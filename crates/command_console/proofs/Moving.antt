@@ -37,7 +37,7 @@ module _ (drives : ℕ) (num : ℕ → ℕ) where
   MoveTold frames (goes.Acts meets) = Unit {0}
   MoveTold frames (goes.Hears taken place body said takes is meets) = IsTold drives (num place) said frames
   MoveTold frames (goes.Drops place body takes) = Unit {0}
-  MoveTold frames (goes.Closes place closes) = Unit {0}
+  MoveTold frames (goes.Closes place cause closes) = Unit {0}
   MoveTold frames (goes.Names begun place generation may begins names) = Unit {0}
 
   brings : (frames : List Frame) (old new : Seen) (move : Moves old new) → Fits drives num new.lines → MoveTold frames move →
@@ -46,7 +46,7 @@ module _ (drives : ℕ) (num : ℕ → ℕ) where
   brings frames old new (goes.Hears taken place body said takes is meets) fits told =
       (num place, is_host drives num taken.lines (fits_met taken new meets.pushed meets.lines fits) place, told)
   brings frames old new (goes.Drops place body takes) fits told = tt
-  brings frames old new (goes.Closes place closes) fits told = tt
+  brings frames old new (goes.Closes place cause closes) fits told = tt
   brings frames old new (goes.Names begun place generation may begins names) fits told = tt
 
   -- each frame that it pushed brings what was sent by then
@@ -59,7 +59,7 @@ module _ (drives : ℕ) (num : ℕ → ℕ) where
       all_right drives num taken.lines (fits_met taken new meets.pushed meets.lines fits) taken.devices new.devices meets.read
       meets.written frames meets.called (Some (record { place = place; said = said })) meets.pushed told meets.right
   pushes frames old new (goes.Drops place body takes) fits told = λ x among. absurd among
-  pushes frames old new (goes.Closes place closes) fits told = λ x among. absurd among
+  pushes frames old new (goes.Closes place cause closes) fits told = λ x among. absurd among
   pushes frames old new (goes.Names begun place generation may begins names) fits told =
       all_right drives num old.lines
       (fits_before old new (goes.Names begun place generation may begins names) fits) old.devices begun.devices
@@ -76,7 +76,7 @@ module _ (drives : ℕ) (num : ℕ → ℕ) where
         (sym (one_spelling said w.said body.items (framed body.items) is w.spells refl))
         (speaks_told drives (num place) w.said w.means st.fleet.sent w.spells.fits w.speaks w.sent)
     heard new (goes.Drops place body takes) delivered = tt
-    heard new (goes.Closes place closes) delivered = tt
+    heard new (goes.Closes place cause closes) delivered = tt
     heard new (goes.Names begun place generation may begins names) delivered = tt
 
     pub outside_moved : (new : Seen) (move : Moves p.outside new) → TakesDelivered p.hosts move →

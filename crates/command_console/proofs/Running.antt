@@ -4,7 +4,12 @@ use Rattle.std.proofs.KnownBytes.{Appends-trans}
 use Rattle.std.specs.Io.KnownBytes.{Appends}
 use Rattle.command_console.specs.Rings.{IsKeyboardOf, IsScreenOf}
 use Rattle.command_console.specs.declared.mirror.Mirrored.{Mirrored}
-use Rattle.command_console.specs.Places.{AddsPlaces}
+use Rattle.command_console.specs.Places.{AddsPlaces, NoneIsCut}
+use Rattle.outside_switch.proofs.Causing.{cuts_have_causes}
+use Rattle.outside_switch.specs.Causes.{AreCutForCause}
+use Rattle.outside_switch.specs.LoopRuns.{Ended}
+use Rattle.outside_switch.specs.Meets.{seen}
+use Rattle.outside_switch.specs.declared.line.HostLine.{HostLine}
 use Rattle.outside_switch.specs.declared.port.PortEnd.{PortEnd}
 use Rattle.outside_switch.specs.declared.session.HostsEnd.{HostsEnd}
 use Rattle.outside_switch.specs.declared.session.Session.{Session}
@@ -28,6 +33,7 @@ opens_later input a b o p = record {
   boots = o.boots;
   devices = p.devices ∙ o.devices;
   numbers = p.numbers o.numbers;
+  none_cut = p.none_cut o.none_cut;
   none_heard = p.counts ∙ o.none_heard;
 }
 
@@ -42,6 +48,18 @@ open_later ends a b o p = record {
   screen = subst (λ s. IsScreenOf ends.shown s) (sym p.screen) o.screen;
   notes = o.notes;
 }
+
+-- ---- whoever is cut off by then has given a cause
+
+none_yet : (lines : List HostLine) → NoneIsCut lines → AreCutForCause lines
+none_yet lines none place low shut = absurd (let both = sym (none place low) ∙ shut in (cc))
+
+causes_to : {D S : Type 0} {end : HostsEnd} {first last : Session D S} → Ended end first last →
+    NoneIsCut first.switch.lines.items → AreCutForCause last.switch.lines.items
+causes_to {first = first} {last = last} ended none =
+    cuts_have_causes (seen ended.last.switch) (seen last.switch) ended.stopped.goes.way
+    (cuts_have_causes (seen first.switch) (seen ended.last.switch) ended.went.goes.way
+    (none_yet first.switch.lines.items none))
 
 -- ---- and disks are saved
 
@@ -58,6 +76,7 @@ has_run remaining contents notes order input streams first records end writer be
       opens = opens;
       last = sat.last;
       ended = sat.ended;
+      causes = causes_to sat.ended opens.none_cut;
       heard = sat.heard;
       pieces = sat.pieces;
       appeared = sat.appeared;

@@ -11,7 +11,7 @@ use Rattle.host_frames.specs.Meaning as meaning
 use Rattle.host_frames.specs.Meaning.{IsTold, Means, Speaks, covered_at, is_report}
 use Rattle.host_frames.specs.declared.frame.Notice.TheVariants.{Gone, Join, Progress, Report, Stop, Tick}
 use Rattle.host_frames.specs.declared.frame.Report as host
-use Rattle.host_frames.specs.declared.frame.Transfer.TheVariants.{Failed}
+use Rattle.host_frames.specs.declared.frame.Transfer.TheVariants.{Failed, Inspect, Inspected}
 use Rattle.host_law.specs.Frame as law
 use Rattle.host_law.specs.Frame.{Act, Came}
 use Rattle.outside_switch.specs.Held.{Held}
@@ -102,6 +102,8 @@ only_one : (drives node : ℕ) (said : Said) (f g : law.Frame) → is_report sai
     Only drives node said f → Only drives node said g → f ≡ g
 only_one drives node (Packet place bytes) f g r j p q = one_carried bytes f g p q
 only_one drives node (Transfers (Failed number)) f g r j p q = absurd p
+only_one drives node (Transfers (Inspect number page)) f g r j p q = absurd p
+only_one drives node (Transfers (Inspected number count bytes)) f g r j p q = absurd p
 only_one drives node (Tells (Gone place)) f g r j p q = absurd p
 only_one drives node (Tells (Join generation place of count)) f g r j p q = absurd (cc)
 only_one drives node (Tells (Report report)) f g r j p q = absurd (cc)
@@ -178,6 +180,8 @@ speaks_told drives node said frames sent fits (meaning.OfParts place high low) c
     absurd (no_parts (high ∷ low ∷ []) frame (only drives node (Packet place (0x4A ∷ high ∷ low ∷ [])) frame means))
 speaks_told drives node said frames sent fits (meaning.OfEarly place part) came = λ frame means.
     absurd (no_early part frame (only drives node (Packet place (0x45 ∷ part)) frame means))
+speaks_told drives node said frames sent fits (meaning.OfInspected number count bytes) came = λ frame means.
+    absurd (only drives node (Transfers (Inspected number count bytes)) frame means)
 speaks_told drives node said frames sent fits (meaning.OfProgress place entries count) came = λ frame means.
     absurd (only drives node (Tells (Progress place entries count)) frame means)
 

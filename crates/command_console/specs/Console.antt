@@ -2,7 +2,8 @@
 use Rattle.std.specs.Prelude.{◌≡◌, ◌<◌, ℕ, List, [], ◌++◌, Option, Some, None, length, string_bytes}
 use Rattle.std.specs.Io.KnownBytes.{Appends, Consumes}
 use Rattle.command_console.specs.declared.mirror.Mirrored.{Mirrored}
-use Rattle.command_console.specs.Places.{HasFirstNumbers}
+use Rattle.command_console.specs.Places.{HasFirstNumbers, NoneIsCut}
+use Rattle.outside_switch.specs.Causes.{AreCutForCause}
 use Rattle.outside_switch.specs.Floods.{unheard}
 use Rattle.outside_switch.specs.LoopRuns.{Ended}
 use Rattle.outside_switch.specs.declared.session.HostsEnd.{HostsEnd}
@@ -29,16 +30,18 @@ pub record OpensFor {D S : Type 0} (input : ScriptInput) (first : Session D S) :
   pub boots : IsAtBoot records input.script.setup.guest.drives input.sectors.items
   pub devices : first.switch.devices ≡ record (at_boot records may_fail) { hosts = 2 }
   pub numbers : HasFirstNumbers first.switch.lines.items
+  pub none_cut : NoneIsCut first.switch.lines.items
   pub none_heard : first.flood ≡ unheard
 
--- An outside has opened for an input, and gone on to its end. What was typed and seen meanwhile is what passed between its devices and
--- the user; and the disks that are saved are as they were at the end.
+-- An outside has opened for an input, and gone on to its end. Whoever was cut off by then has given a cause. What was typed and seen
+-- meanwhile is what passed between its devices and the user; and the disks that are saved are as they were at the end.
 pub record HasRun {R W N : Type 0} (remaining : R → Option (List ℕ)) (contents : W → Option (List ℕ))
     (notes : N → Option (List ℕ)) (order : ConsoleOrder) (input : ScriptInput) (streams : Streams R W N) (end : HostsEnd) : Type 0 where
   pub first : Session Mirrored Teller
   pub opens : OpensFor input first
   pub last : Session Mirrored Teller
   pub ended : Ended end first last
+  pub causes : AreCutForCause last.switch.lines.items
   pub heard : WasHeard remaining end order.escape input.script.lines.items (passed_to ended) streams.reader
   pub pieces : List Piece
   pub appeared : HasAppeared (passed_to ended) pieces

@@ -1,5 +1,5 @@
 -- What the processes of a pair do together: one moves after another, in any order, and streams deliver only what was written.
-use Rattle.std.specs.Prelude.{◌≡◌, ℕ, Some, List, [], ◌++◌, slice_get, slice_set}
+use Rattle.std.specs.Prelude.{◌≡◌, ◌⊎◌, ℕ, Some, List, [], ◌++◌, slice_get, slice_set}
 use Rattle.host_frames.specs.StreamReading.{contents_of}
 use Rattle.guest_lockstep.specs.Machine.{Machine}
 use Rattle.guest_parts.specs.Guest.{Guest}
@@ -12,12 +12,13 @@ use Rattle.outside_switch.specs.Passing.{Passed}
 use Rattle.outside_switch.specs.Runs.{pushed_by}
 use Rattle.command_console.specs.Processes.{Delivered, IsFromHost, Processes}
 
--- the body that the outside takes in a move was delivered
+-- The body that the outside takes in a move was delivered. An empty one, which no host says, comes from the thread that has read to the
+-- end of a stream; it is dropped.
 abbrev pub TakesDelivered : {B : Type 0} {H : Type 0} → List (HostNode B H) → {old new : Seen} → outside.Moves old new → Type 0
 TakesDelivered hosts (outside.Acts meets) = Unit {0}
 TakesDelivered hosts (outside.Hears taken place body said takes is meets) = IsFromHost hosts place body.items
-TakesDelivered hosts (outside.Drops place body takes) = IsFromHost hosts place body.items
-TakesDelivered hosts (outside.Closes place closes) = Unit {0}
+TakesDelivered hosts (outside.Drops place body takes) = (body.items ≡ []) ⊎ IsFromHost hosts place body.items
+TakesDelivered hosts (outside.Closes place cause closes) = Unit {0}
 TakesDelivered hosts (outside.Names begun place generation may begins names) = Unit {0}
 
 -- one process moves
@@ -27,7 +28,7 @@ pub data Turns {B S : Type 0} {H : Type 0} (state : B → S) (M : Machine S) (co
   HostMoves : (place : ℕ) (h new : HostNode B H) → slice_get old.hosts place ≡ Some h → host.Moves state M copied h new →
       Delivered new.mail.came (contents_of (pushed_to place old.pushed)) →
       Turns state M copied old (record old { hosts = slice_set old.hosts place new })
-  -- the outside, which takes only bodies of frames that the host at the place has said
+  -- the outside, which takes only bodies of frames that the host at the place has said, and ends of streams
   OutsideMoves : (new : Seen) (move : outside.Moves old.outside new) → TakesDelivered old.hosts move →
       Turns state M copied old
       (record { hosts = old.hosts; outside = new; pushed = old.pushed ++ pushed_by move })

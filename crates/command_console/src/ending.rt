@@ -27,7 +27,7 @@ pub fn ending_of_console(end: HostsEnd) -> (u8, &'static str)
         HostsEnd::UserQuit | HostsEnd::Settled => (0, ""),
         HostsEnd::Silent => (
             8,
-            "pair: the machine, which still runs, is cut off: for as long as --silence says it has printed nothing and written to no disk",
+            "pair: the machine, which still runs, is cut off: for as long as --silence says it has printed nothing, written to no disk and read no other track than before",
         ),
         HostsEnd::Stopped => (5, ""),
         HostsEnd::NoHosts => (6, "no host is left that has the machine"),

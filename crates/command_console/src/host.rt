@@ -20,7 +20,7 @@ use guest_board::Setup;
 use host_frames::{
     ReadStream, Reading, WrittenStream, end_reading, end_writing, start_reading, start_writing,
 };
-use host_node::{End, Mail, Settings, serve};
+use host_node::{End, Inspect, Mail, Settings, serve};
 use i8080_words::{Fault, R};
 use rtrb::Consumer;
 use std::alloc::Global;
@@ -122,7 +122,7 @@ fn run_setup<
 /// all that it said is written. If it ends before the stream to it does, nobody waits for that: then nothing is said of what was
 /// read.
 pub fn run_booted<
-    B: Copies<K> + KeyRoom + OutstandingWrites + Snapshots + Drop,
+    B: Copies<K> + KeyRoom + OutstandingWrites + Snapshots + Inspect + Drop,
     K: Drop,
     H: Threads + Wait + Clock + Copy + Drop + Send + Sync + 'static,
     I: Read + Drop + Send + 'static,

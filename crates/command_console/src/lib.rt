@@ -12,6 +12,7 @@ mod hearing;
 mod host;
 mod laws;
 mod line;
+mod looking;
 mod mirror;
 mod opening;
 mod places;

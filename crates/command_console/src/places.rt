@@ -14,7 +14,7 @@ use std::fs::{File, OpenOptions};
 use std::io::Write;
 use std::sync::{Arc, Wait};
 use std::thread::{self, Parker, Threads};
-use std::time::Clock;
+use std::time::{Clock, Duration};
 
 // How many frames of one host wait at most: more than are on their way at once, which are 256 entries, all parts of an image, and 64 keys
 // of each port.
@@ -68,21 +68,39 @@ fn read_place<H: Threads + Wait + Clock + Copy + Drop + Send + Sync + 'static>(
     let wake = Arc::try_clone(mine)?;
     let pending = FrameBuffer::new(alloc)?;
     let thread = thread::spawn(&rt, move || {
-        if let Ok(source) = File::open(&files, path.as_str()) {
-            let reader = FrameReader {
-                source,
-                pending,
-                carried: CarriedBlocks::new(alloc),
-                bodies,
-            };
-            let (reader, _) = read_frames(&rt, alloc, reader, &wake);
-            drop(reader);
-        }
+        let bodies = match File::open(&files, path.as_str()) {
+            Ok(source) => {
+                let reader = FrameReader {
+                    source,
+                    pending,
+                    carried: CarriedBlocks::new(alloc),
+                    bodies,
+                };
+                let (FrameReader { bodies, .. }, _) = read_frames(&rt, alloc, reader, &wake);
+                bodies
+            }
+            Err(_) => bodies,
+        };
+        end_bodies(&rt, alloc, bodies);
         wake.unpark();
     });
     match thread {
         Ok(_) => Ok(from),
         Err(_) => Err(Fault::OutOfMemory),
+    }
+}
+
+// Hands on an empty body, which says that no more come, as soon as the ring has room for it. No frame's body is empty.
+fn end_bodies<C: Wait + Clock>(rt: &C, alloc: Global, mut bodies: Producer<Vec<u8>>) {
+    for _ in rt.forever() {
+        if !bodies.is_full() {
+            bodies.push_reserved(Vec::new(alloc));
+            return;
+        }
+        if bodies.is_abandoned() {
+            return;
+        }
+        thread::sleep(rt, Duration::from_micros(100));
     }
 }
 

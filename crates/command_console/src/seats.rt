@@ -3,10 +3,20 @@ ghost use Rattle.std.specs.Prelude.{◌≡◌};
 ghost use Rattle.command_console.specs.Seats.{seat_at};
 
 use host_frames::Report;
-use outside_switch::{HostLine, LinkState};
+use outside_switch::{HostLine, Inspection, LinkState, Sight};
 use std::alloc::Global;
 use std::sync::Mutex;
 use std::sync::atomic::{AtomicBool, AtomicU64, Ordering};
+use std::thread;
+
+// For how many ticks an answer of the host that serves is awaited: a second.
+const TICKS: u64 = 20;
+
+// How often whoever waits looks for it at most.
+const LOOKS: u64 = 100_000_000;
+
+// How many pages a memory has.
+const PAGES: u64 = 256;
 
 /// The host at a place, as its line showed it.
 #[derive(Clone, Copy)]
@@ -28,6 +38,12 @@ pub(crate) struct Seats {
     is_parted: AtomicBool,
     // In steps a second; 0 if the guest runs as fast as it can.
     speed: AtomicU64,
+    // How often the hosts were noted.
+    ticks: AtomicU64,
+    // What is asked of the machine of the host that serves: the number of the question, and a page in its low byte; 0 if nothing is.
+    asked: AtomicU64,
+    // What such a host has shown last.
+    sight: Mutex<Option<Sight>>,
 }
 
 impl Seats {
@@ -38,11 +54,16 @@ impl Seats {
             percent: AtomicU64::new(0),
             is_parted: AtomicBool::new(false),
             speed: AtomicU64::new(0),
+            ticks: AtomicU64::new(0),
+            asked: AtomicU64::new(0),
+            sight: Mutex::new(None),
         }
     }
 
     /// The hosts are so now, and so many frames of each were refused. What another thread just reads stays as it is.
     pub(crate) fn note(&self, lines: &[HostLine], refused: &[u64]) {
+        let ticks = self.ticks.load(Ordering::SeqCst);
+        self.ticks.store(ticks.wrapping_add(1), Ordering::SeqCst);
         if let Some(mut table) = self.table.try_lock() {
             table.clear();
             for place in 0..=u8::MAX {
@@ -65,6 +86,59 @@ impl Seats {
             }
         }
         None
+    }
+
+    /// What is asked of the machine of the host that serves, if anything.
+    pub(crate) fn asked(&self) -> Option<Inspection> {
+        match self.asked.load(Ordering::SeqCst) {
+            0 => None,
+            asked => Some(Inspection {
+                number: asked / PAGES,
+                page: (asked % PAGES) as u8,
+            }),
+        }
+    }
+
+    /// The host that serves has shown its machine.
+    pub(crate) fn see(&self, sight: &Sight) {
+        if let Some(mut last) = self.sight.try_lock() {
+            *last = Some(*sight);
+        }
+    }
+
+    /// Asks by this number, at least 1, what the machine of the host has that serves, and waits for the answer; none if no such host answers
+    /// within a second.
+    pub(crate) fn inspect(&self, number: u32, page: u8) -> Option<Sight> {
+        let asked = u64::from(number) * PAGES + u64::from(page);
+        self.asked.store(asked, Ordering::SeqCst);
+        let sight = self.await_sight(u64::from(number));
+        self.asked.store(0, Ordering::SeqCst);
+        sight
+    }
+
+    // The answer to the question of this number, if it comes within a second.
+    fn await_sight(&self, number: u64) -> Option<Sight> {
+        let since = self.ticks.load(Ordering::SeqCst);
+        for _ in 0..LOOKS {
+            let sight = self.sight_of(number);
+            if sight.is_some() {
+                return sight;
+            }
+            if self.ticks.load(Ordering::SeqCst).wrapping_sub(since) > TICKS {
+                return None;
+            }
+            thread::yield_now();
+        }
+        None
+    }
+
+    // The answer to the question of this number, if it has come.
+    fn sight_of(&self, number: u64) -> Option<Sight> {
+        let last = self.sight.try_lock()?;
+        match *last {
+            Some(sight) if sight.number == number => Some(sight),
+            _ => None,
+        }
     }
 
     /// From now on this becomes of packets.

@@ -4,6 +4,7 @@ ghost use Rattle.command_console.specs.Frames.{IsAnswer, do_word, picture_word, 
 ghost use Rattle.command_console.specs.Fates.{fate_of};
 
 use crate::frame::{answer, wish};
+use crate::looking::{page_of, text_of};
 use crate::mirror::Shelf;
 use crate::seats::{Seat, Seats};
 use console_terminal::{Command, HELP, Interpreter, path_in, rest_in};
@@ -22,6 +23,8 @@ pub(crate) struct Supervisor {
     shelf: Arc<Shelf>,
     // What the command looks for that started this program; empty if there is none.
     mark: String,
+    // How many questions it has asked of a machine.
+    questions: u32,
 }
 
 impl Supervisor {
@@ -36,6 +39,7 @@ impl Supervisor {
             seats,
             shelf,
             mark,
+            questions: 0,
         }
     }
 
@@ -88,6 +92,15 @@ impl Supervisor {
                     "host {place}: {name} of generation {generation}, {count} steps\r\n"
                 )
             }
+        }
+    }
+
+    // What a command looks at in the machine of the host that serves, as it is now.
+    fn look(&mut self, command: Command) -> Result<String, AllocError> {
+        self.questions = self.questions.wrapping_add(1).max(1);
+        match self.seats.inspect(self.questions, page_of(command)) {
+            Some(sight) => text_of(self.alloc, command, &sight),
+            None => format!(in self.alloc; "no host serves just now"),
         }
     }
 
@@ -236,6 +249,9 @@ impl Interpreter for Supervisor {
             Command::Thaw(host) => self.hand_on("thaw", Some(host)).ok(),
             Command::Spare => self.hand_on("spare", None).ok(),
             Command::Status => self.hand_on_status().ok(),
+            Command::Registers | Command::Memory { .. } | Command::Listing { .. } => {
+                self.look(command).ok()
+            }
             Command::Save(drive) => self.save(drive, path_in(line)).ok(),
             Command::Picture => self.picture(rest_in(line)).ok(),
             Command::Do => self.do_file(rest_in(line)).ok(),

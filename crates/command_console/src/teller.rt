@@ -6,7 +6,7 @@ use crate::line::PairLine;
 use crate::seats::Seats;
 use crate::story::Story;
 use console_terminal::Signs;
-use outside_switch::{HostEvent, HostLine, LinkState, Steward};
+use outside_switch::{HostEvent, HostLine, Inspection, LinkState, Sight, Steward};
 use rtrb::Producer;
 use std::alloc::{AllocError, Global};
 use std::sync::Arc;
@@ -69,6 +69,14 @@ impl Steward for Teller {
 
     fn looks(&mut self, lines: &[HostLine], refused: &[u64]) {
         self.seats.note(lines, refused);
+    }
+
+    fn asks(&mut self) -> Option<Inspection> {
+        self.seats.asked()
+    }
+
+    fn sees(&mut self, sight: &Sight) {
+        self.seats.see(sight);
     }
 
     // Nothing is shown any more, since it cannot be written.

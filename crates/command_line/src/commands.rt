@@ -60,7 +60,7 @@ const BEFORE_HELP: &str =
 const MOST_BEFORE: u64 = 1_099_511_627_776;
 
 const SILENCE_HELP: &str =
-    "After the end of the keys: for how many seconds a machine that runs may print nothing and write to no disk until it is cut off";
+    "After the end of the keys: for how many seconds a machine that runs may print nothing, write to no disk and read no other track until it is cut off";
 
 // The longest silence: a day.
 const MOST_SILENCE: u64 = 86_400;

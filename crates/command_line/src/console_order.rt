@@ -23,6 +23,6 @@ pub struct ConsoleOrder {
     pub attached: Vec<String>,
     /// Whether a write of such a disk is done once the file system has it, and not only once the disk has.
     pub unsynced: bool,
-    /// For how many seconds a machine that runs may print nothing and write to no disk once no more keys can come.
+    /// For how many seconds a machine that runs may print nothing, write to no disk and read no other track once no more keys can come.
     pub silence: u64,
 }

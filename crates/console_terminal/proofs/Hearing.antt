@@ -87,6 +87,7 @@ if_quit : (act : Act) (past : List (ArrayVec ℕ)) (line : Option OpenLine) → 
 if_quit (Act.Key byte) past line = tt
 if_quit Act.Opens past line = tt
 if_quit (Act.Edits edit) past line = tt
+if_quit Act.Lists past line = tt
 if_quit (Act.Waits sequence) past line = tt
 if_quit Act.Cancels past line = tt
 if_quit Act.HandsOn past line = if_any (ending_of Act.HandsOn (order_by Act.HandsOn line)) (None ≡ None) refl
@@ -105,6 +106,9 @@ quit_by_order (Order.Command Command.Mend) = refl
 quit_by_order (Order.Command (Command.Drop percent)) = refl
 quit_by_order (Order.Command (Command.Speed steps)) = refl
 quit_by_order (Order.Command Command.Status) = refl
+quit_by_order (Order.Command Command.Registers) = refl
+quit_by_order (Order.Command (Command.Memory address count)) = refl
+quit_by_order (Order.Command (Command.Listing address count)) = refl
 quit_by_order (Order.Command (Command.Terminal port)) = refl
 quit_by_order (Order.Command (Command.Save drive)) = refl
 quit_by_order (Order.Command Command.Picture) = refl
@@ -117,6 +121,7 @@ quit_by : (act : Act) (line : Option OpenLine) →
 quit_by (Act.Key byte) line = refl
 quit_by Act.Opens line = refl
 quit_by (Act.Edits edit) line = refl
+quit_by Act.Lists line = refl
 quit_by (Act.Waits sequence) line = refl
 quit_by Act.Cancels line = refl
 quit_by Act.HandsOn line = quit_by_order (order_by Act.HandsOn line)

@@ -1,6 +1,6 @@
 -- With how many equal bytes two lists begin.
 use Rattle.std.proofs.Common.{ℕ, ◌≡◌, ◌<◌, List, [], ◌∷◌, arith, length, refl}
-use Rattle.console_terminal.specs.Editing.{common}
+use Rattle.console_terminal.specs.Completing.{common}
 
 -- none, if one of them has none
 pub common_ends : (ones others : List ℕ) → length others < 1 → common ones others ≡ 0

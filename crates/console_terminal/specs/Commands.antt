@@ -44,6 +44,7 @@ keywords =
     (codes "stop", Keyword.Stop) ∷ (codes "freeze", Keyword.Freeze) ∷ (codes "thaw", Keyword.Thaw)
     ∷ (codes "spare", Keyword.Spare) ∷ (codes "cut", Keyword.Cut) ∷ (codes "part", Keyword.Part)
     ∷ (codes "mend", Keyword.Mend) ∷ (codes "drop", Keyword.Drop) ∷ (codes "speed", Keyword.Speed) ∷ (codes "status", Keyword.Status)
+    ∷ (codes "regs", Keyword.Regs) ∷ (codes "look", Keyword.Look) ∷ (codes "dis", Keyword.Dis)
     ∷ (codes "terminal", Keyword.Terminal) ∷ (codes "save", Keyword.Save) ∷ (codes "picture", Keyword.Picture)
     ∷ (codes "do", Keyword.Do) ∷ (codes "help", Keyword.Help) ∷ (codes "quit", Keyword.Quit) ∷ []
 
@@ -105,6 +106,42 @@ abbrev pub drive_of : List ℕ → Option ℕ
 drive_of (digit ∷ []) = if nat_le 48 digit && nat_le digit 51 then Some (digit - 48) else None
 drive_of _ = None
 
+-- a hexadecimal digit, in either case
+abbrev pub hexadecimal_of : ℕ → Option ℕ
+hexadecimal_of byte =
+    if nat_le 48 byte && nat_le byte 57 then Some (byte - 48)
+    else if nat_le 65 byte && nat_le byte 70 then Some (byte - 55)
+    else if nat_le 97 byte && nat_le byte 102 then Some (byte - 87)
+    else None
+
+abbrev placed : ℕ → Option ℕ → Option ℕ → Option ℕ
+placed base (Some high) (Some low) = Some (high * base + low)
+placed base _ _ = None
+
+abbrev pub byte_of : ℕ → ℕ → Option ℕ
+byte_of high low = placed 16 (hexadecimal_of high) (hexadecimal_of low)
+
+-- the address that four hexadecimal digits spell
+abbrev pub address_of : List ℕ → Option ℕ
+address_of (first ∷ second ∷ third ∷ fourth ∷ []) = placed 256 (byte_of first second) (byte_of third fourth)
+address_of _ = None
+
+abbrev as_count : ℕ → ℕ → Option ℕ
+as_count greatest count = if nat_le 1 count && nat_le count greatest then Some count else None
+
+-- how many: the number that a word spells, or the usual one if there is no word
+abbrev pub count_of : List ℕ → (usual greatest : ℕ) → Option ℕ
+count_of word usual greatest =
+    if is_empty word then Some usual else option_and_then (as_count greatest) (long_number_of word)
+
+abbrev two : Option ℕ → Option ℕ → Option (ℕ × ℕ)
+two (Some from) (Some count) = Some (from, count)
+two _ _ = None
+
+-- an address, and how many from there on
+abbrev pub span_of : (value more : List ℕ) → (usual greatest : ℕ) → Option (ℕ × ℕ)
+span_of value more usual greatest = two (address_of value) (count_of more usual greatest)
+
 -- the command of a keyword with nothing after it
 abbrev pub plain_command : Keyword → Option Command
 plain_command Keyword.Spare = Some Command.Spare
@@ -112,30 +149,39 @@ plain_command Keyword.Cut = Some Command.Cut
 plain_command Keyword.Part = Some Command.Part
 plain_command Keyword.Mend = Some Command.Mend
 plain_command Keyword.Status = Some Command.Status
+plain_command Keyword.Regs = Some Command.Registers
 plain_command Keyword.Help = Some Command.Help
 plain_command Keyword.Quit = Some Command.Quit
 plain_command _ = None
 
--- the command of a keyword with the word after it
-abbrev pub command_by : Keyword → List ℕ → Option Command
-command_by Keyword.Stop value = option_map (λ (host : ℕ). Command.Stop host) (number_of value)
-command_by Keyword.Freeze value = option_map (λ (host : ℕ). Command.Freeze host) (number_of value)
-command_by Keyword.Thaw value = option_map (λ (host : ℕ). Command.Thaw host) (number_of value)
-command_by Keyword.Drop value = option_map (λ (percent : ℕ). Command.Drop percent) (number_of value)
-command_by Keyword.Speed value = option_map (λ (steps : ℕ). Command.Speed steps) (speed_of value)
-command_by Keyword.Terminal value = option_map (λ port. Command.Terminal port) (port_of value)
-command_by Keyword.Save value = option_map (λ (drive : ℕ). Command.Save drive) (drive_of value)
-command_by Keyword.Picture value = if is_empty value then None else Some Command.Picture
-command_by Keyword.Do value = if is_empty value then None else Some Command.Do
-command_by keyword value = if is_empty value then plain_command keyword else None
+-- the command of a keyword other than of memory with the word after it
+abbrev pub command_of : Keyword → List ℕ → Option Command
+command_of Keyword.Stop value = option_map (λ (host : ℕ). Command.Stop host) (number_of value)
+command_of Keyword.Freeze value = option_map (λ (host : ℕ). Command.Freeze host) (number_of value)
+command_of Keyword.Thaw value = option_map (λ (host : ℕ). Command.Thaw host) (number_of value)
+command_of Keyword.Drop value = option_map (λ (percent : ℕ). Command.Drop percent) (number_of value)
+command_of Keyword.Speed value = option_map (λ (steps : ℕ). Command.Speed steps) (speed_of value)
+command_of Keyword.Terminal value = option_map (λ port. Command.Terminal port) (port_of value)
+command_of Keyword.Save value = option_map (λ (drive : ℕ). Command.Save drive) (drive_of value)
+command_of Keyword.Picture value = if is_empty value then None else Some Command.Picture
+command_of Keyword.Do value = if is_empty value then None else Some Command.Do
+command_of keyword value = if is_empty value then plain_command keyword else None
 
--- a line of this keyword may have this word, or none, after the one that is its value: a file is named there, or its name goes on, and
--- nothing else
-abbrev pub is_fit_end : Keyword → List ℕ → Bool
-is_fit_end Keyword.Save more = not (is_empty more)
-is_fit_end Keyword.Picture more = true
-is_fit_end Keyword.Do more = true
-is_fit_end _ more = is_empty more
+-- the command of a keyword with the two words after it
+abbrev pub command_by : Keyword → List ℕ → List ℕ → Option Command
+command_by Keyword.Look value more = option_map (λ (r : ℕ × ℕ). Command.Memory r.0 r.1) (span_of value more 16 256)
+command_by Keyword.Dis value more = option_map (λ (r : ℕ × ℕ). Command.Listing r.0 r.1) (span_of value more 8 64)
+command_by keyword value more = command_of keyword value
+
+-- a line of this keyword may have this word, or none, after the one that is its value, and this one, or none, after that: a file is named
+-- there, or its name goes on, or how many bytes or instructions are shown, and nothing else
+abbrev pub is_fit_end : Keyword → List ℕ → List ℕ → Bool
+is_fit_end Keyword.Save more rest = not (is_empty more)
+is_fit_end Keyword.Picture more rest = true
+is_fit_end Keyword.Do more rest = true
+is_fit_end Keyword.Look more rest = is_empty rest
+is_fit_end Keyword.Dis more rest = is_empty rest
+is_fit_end _ more rest = is_empty more
 
 -- the file that a line of `picture` or `do` names: all that comes after its first word
 abbrev pub rest_in : List ℕ → List ℕ
@@ -146,14 +192,16 @@ abbrev pub path_in : List ℕ → List ℕ
 path_in line = without_spaces (after_word (after_word line))
 
 -- a command, or what is wrong
-abbrev judged : Keyword → Option Command → List ℕ → Order
-judged keyword None more = Order.Mistake (Mistake.Unfit keyword)
-judged keyword (Some command) more =
-    if is_fit_end keyword more then Order.Command command else Order.Mistake (Mistake.Unfit keyword)
+abbrev judged : Keyword → Option Command → (more rest : List ℕ) → Order
+judged keyword None more rest = Order.Mistake (Mistake.Unfit keyword)
+judged keyword (Some command) more rest =
+    if is_fit_end keyword more rest then Order.Command command else Order.Mistake (Mistake.Unfit keyword)
 
 abbrev ordered : Option Keyword → List ℕ → Order
-ordered None rest = Order.Mistake Mistake.Unknown
-ordered (Some keyword) rest = judged keyword (command_by keyword (first_word rest)) (first_word (after_word rest))
+ordered None after = Order.Mistake Mistake.Unknown
+ordered (Some keyword) after =
+    judged keyword (command_by keyword (first_word after) (first_word (after_word after))) (first_word (after_word after))
+    (first_word (after_word (after_word after)))
 
 -- what a line asks for
 abbrev pub order_of : List ℕ → Order
@@ -173,6 +221,10 @@ mistake_text (Mistake.Unfit Keyword.Freeze) = codes "`freeze` is followed by the
 mistake_text (Mistake.Unfit Keyword.Thaw) = codes "`thaw` is followed by the number of a host"
 mistake_text (Mistake.Unfit Keyword.Drop) = codes "`drop` is followed by a number from 0 to 99"
 mistake_text (Mistake.Unfit Keyword.Speed) = codes "`speed` is followed by 0, or by a number from 10000 to 999999999"
+mistake_text (Mistake.Unfit Keyword.Look) =
+    codes "`look` is followed by an address, four hexadecimal digits, and how many, 1 to 256"
+mistake_text (Mistake.Unfit Keyword.Dis) =
+    codes "`dis` is followed by an address, four hexadecimal digits, and how many, 1 to 64"
 mistake_text (Mistake.Unfit Keyword.Terminal) = codes "`terminal` is followed by 0 or 1"
 mistake_text (Mistake.Unfit Keyword.Save) = codes "`save` is followed by a drive, 0 to 3, and the name of a file"
 mistake_text (Mistake.Unfit Keyword.Picture) = codes "`picture` is followed by the name of a file"

@@ -1,4 +1,5 @@
 pub mod Commands
+pub mod Completing
 pub mod Editing
 pub mod Greeting
 pub mod Keys

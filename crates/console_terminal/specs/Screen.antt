@@ -8,6 +8,7 @@ use Rattle.console_terminal.specs.Lines.{shown_at}
 use Rattle.console_terminal.specs.declared.screen.Shown.{Shown}
 use Rattle.rtrb.specs.Ring.{SameConsumer, known_items, received}
 use Rattle.console_terminal.specs.Commands.{mistake_text, number_of_port}
+use Rattle.console_terminal.specs.Completing.{words_for}
 use Rattle.console_terminal.specs.declared.note.DisplayNote.{DisplayNote}
 use Rattle.console_terminal.specs.declared.port.Port.{Port}
 use Rattle.console_terminal.specs.declared.display.Display.{Display}
@@ -20,6 +21,8 @@ on_a_line text = 13 ∷ 10 ∷ text
 abbrev pub text_of : DisplayNote → List ℕ
 text_of DisplayNote.Opened = on_a_line (codes "pair> ")
 text_of (DisplayNote.Redraws redraw) = redrawn_text redraw
+text_of (DisplayNote.Lists redraw) =
+    on_a_line (words_for redraw.text.items ++ (on_a_line (codes "pair> ") ++ redrawn_text redraw))
 text_of (DisplayNote.Mistaken mistake) = on_a_line (mistake_text mistake)
 text_of (DisplayNote.Answered text) = on_a_line (string_bytes text)
 text_of (DisplayNote.Closed port) = on_a_line []

@@ -2,7 +2,7 @@
 use Rattle.std.specs.Prelude.{◌≡◌, ℕ, Bool, true, false, if◌then◌else◌, List, [], ◌∷◌, ◌++◌, Option, None, Some}
 use Rattle.std.specs.Global.{Global}
 use Rattle.std.specs.declared.string.String.{String}
-use Rattle.console_terminal.specs.Editing.{redrawn}
+use Rattle.console_terminal.specs.Editing.{no_bytes, redrawn}
 use Rattle.console_terminal.specs.Typing.{OpenLine, Place, after, done_by, order_at}
 use Rattle.console_terminal.specs.declared.command.Order.{Order}
 use Rattle.console_terminal.specs.declared.desk.Act.{Act}
@@ -26,14 +26,19 @@ answered (Order.Command command) answer = note_of answer
 abbrev pub Answers : Order → List DisplayNote → List DisplayNote → Type 0
 Answers order before now = (answer : Option (String Global)) × (now ≡ before ++ answered order answer)
 
--- what is drawn of an edit, by the command line before it and after it
+-- what is drawn of an edit, or after a list, by the command line before it and after it
 abbrev pub drawn : Act → Option OpenLine → Option OpenLine → Option Redraw
 drawn (Act.Edits edit) (Some old) (Some new) = Some (redrawn old.line new.line)
+drawn Act.Lists (Some old) (Some new) = Some (redrawn no_bytes new.line)
 drawn act old new = None
 
 abbrev pub redraws : Option Redraw → List DisplayNote
 redraws None = []
 redraws (Some redraw) = DisplayNote.Redraws redraw ∷ []
+
+abbrev pub lists : Option Redraw → List DisplayNote
+lists None = []
+lists (Some redraw) = DisplayNote.Lists redraw ∷ []
 
 -- what is said of a byte, or of a pause, that does this; one is at the terminal of this port after it
 abbrev pub changed : Act → Bool → Option Redraw → Port → List DisplayNote
@@ -41,6 +46,7 @@ changed (Act.Key byte) false redraw port = []
 changed (Act.Key byte) true redraw port = DisplayNote.Closed port ∷ []
 changed Act.Opens was_open redraw port = DisplayNote.Opened ∷ []
 changed (Act.Edits edit) was_open redraw port = redraws redraw
+changed Act.Lists was_open redraw port = lists redraw
 changed (Act.Waits sequence) was_open redraw port = []
 changed Act.Cancels was_open redraw port = DisplayNote.Closed port ∷ []
 changed Act.HandsOn was_open redraw port = DisplayNote.Closed port ∷ []

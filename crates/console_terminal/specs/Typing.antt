@@ -3,7 +3,7 @@ use Rattle.std.specs.Prelude.{ℕ, ◌==◌, ◌&&◌, ◌||◌, Bool, nat_le, i
 use Rattle.std.specs.Option.{option_map}
 use Rattle.arrayvec.specs.ArrayVec.{ArrayVec}
 use Rattle.console_terminal.specs.Commands.{order_of}
-use Rattle.console_terminal.specs.Editing.{CursorLine, back_after, kept_after, line_after, no_bytes}
+use Rattle.console_terminal.specs.Editing.{CursorLine, back_after, kept_after, line_after, lists, no_bytes}
 use Rattle.console_terminal.specs.Sequences.{edit_of_final, edit_of_number}
 use Rattle.console_terminal.specs.declared.command.Command.{Command}
 use Rattle.console_terminal.specs.declared.command.Order.{Order}
@@ -40,11 +40,13 @@ edited_in byte =
     -- Ctrl-A, Ctrl-E
     (if byte == 1 then Act.Edits Edit.GoesToBegin else
     (if byte == 5 then Act.Edits Edit.GoesToEnd else
+    -- Tab
+    (if byte == 9 then Act.Edits Edit.Completes else
     -- Ctrl-K, Ctrl-U
     (if byte == 11 then Act.Edits Edit.CutsRest else
     (if byte == 21 then Act.Edits Edit.CutsFront else
-    -- what can be printed
-    (if is_between 32 126 byte then Act.Edits (Edit.Adds byte) else Act.Nothing)))))
+    -- what can be printed, and all bytes of other characters
+    (if is_between 32 126 byte || nat_le 128 byte then Act.Edits (Edit.Adds byte) else Act.Nothing))))))
 
 -- While a command line is open, and outside of an escape sequence: the first row that the byte fits.
 abbrev pub edited : ℕ → Bool → ℕ → Act
@@ -102,10 +104,15 @@ abbrev pub paused : Sequence → Act
 paused Sequence.Escape = Act.Cancels
 paused sequence = Act.Nothing
 
+-- commands are listed, if the line cannot be completed since several begin as it does
+abbrev pub listing : CursorLine → Act → Act
+listing l (Act.Edits Edit.Completes) = if lists l then Act.Lists else Act.Edits Edit.Completes
+listing l act = act
+
 -- what that which is heard does, by the command line that is open
 abbrev pub done_by : ℕ → Option OpenLine → Heard → Act
 done_by escape None (Heard.Key byte) = typed escape byte
-done_by escape (Some o) (Heard.Key byte) = done_in escape (has_none o) o.sequence byte
+done_by escape (Some o) (Heard.Key byte) = listing o.line (done_in escape (has_none o) o.sequence byte)
 done_by escape (Some o) Heard.Quiet = paused o.sequence
 done_by escape line heard = Act.Nothing
 
@@ -127,6 +134,7 @@ open_after (Act.Edits edit) past line = option_map (after_edit edit past) line
 open_after (Act.Waits sequence) past line = option_map (in_sequence sequence) line
 open_after Act.Cancels past line = None
 open_after Act.HandsOn past line = None
+open_after Act.Lists past line = option_map (in_sequence Sequence.Nothing) line
 open_after Act.Nothing past line = option_map (in_sequence Sequence.Nothing) line
 
 -- the lines that are kept after it

@@ -14,6 +14,8 @@ const CONTROL_E: u8 = 0x05;
 
 const BACKSPACE: u8 = 0x08;
 
+const TAB: u8 = 0x09;
+
 const LINE_FEED: u8 = 0x0A;
 
 const CONTROL_K: u8 = 0x0B;
@@ -85,9 +87,10 @@ fn edited_in(byte: u8) -> Act
         BACKSPACE | DELETE => Act::Edits(Edit::TakesBack),
         CONTROL_A => Act::Edits(Edit::GoesToBegin),
         CONTROL_E => Act::Edits(Edit::GoesToEnd),
+        TAB => Act::Edits(Edit::Completes),
         CONTROL_K => Act::Edits(Edit::CutsRest),
         CONTROL_U => Act::Edits(Edit::CutsFront),
-        b' '..=b'~' => Act::Edits(Edit::Adds(byte)),
+        b' '..=b'~' | 0x80.. => Act::Edits(Edit::Adds(byte)),
         _ => Act::Nothing,
     }
 }

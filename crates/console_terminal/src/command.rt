@@ -1,6 +1,6 @@
 //! The commands of a console, and how a line spells them.
-ghost use Rattle.std.specs.Prelude.{◌≡◌, ◌≤◌, length, map};
-ghost use Rattle.console_terminal.specs.Commands.{after_word, bytes_before_space, command_by, digit_of, drive_of, first_word, is_fit_end, is_same_word, keyword_among, keyword_of, long_number_of, longer, mistake_text, number_of, order_of, path_in, plain_command, port_of, rest_in, spaces_before, speed_of};
+ghost use Rattle.std.specs.Prelude.{◌≡◌, ◌<◌, ◌≤◌, IfSome, length, map};
+ghost use Rattle.console_terminal.specs.Commands.{address_of, after_word, byte_of, bytes_before_space, command_by, command_of, count_of, digit_of, drive_of, first_word, hexadecimal_of, is_fit_end, is_same_word, keyword_among, keyword_of, long_number_of, longer, mistake_text, number_of, order_of, path_in, plain_command, port_of, rest_in, spaces_before, span_of, speed_of};
 
 use crate::port::Port;
 
@@ -27,6 +27,12 @@ pub enum Command {
     Speed(u32),
     /// How the pair is.
     Status,
+    /// The registers of the guest that serves are shown.
+    Registers,
+    /// So many bytes of its memory are shown, from an address on.
+    Memory { from: u16, count: u16 },
+    /// So many instructions in its memory are shown, from an address on.
+    Listing { from: u16, count: u16 },
     /// One turns to the terminal of this port.
     Terminal(Port),
     /// The disk of this drive is saved to the file that the line names.
@@ -54,6 +60,9 @@ pub enum Keyword {
     Drop,
     Speed,
     Status,
+    Regs,
+    Look,
+    Dis,
     Terminal,
     Save,
     Picture,
@@ -95,6 +104,9 @@ mend         the link delivers every packet\r\n\
 drop N       the link loses N of 100 packets\r\n\
 speed N      at most N steps a second (2 MHz: about 300000); 0 is no limit\r\n\
 status       how the pair is\r\n\
+regs         the registers of the machine that serves, as it is now\r\n\
+look A K     K bytes of its memory, 1 to 256, from address A on; 16 if K is left out\r\n\
+dis A K      K instructions, 1 to 64, in its memory from address A on; 8 if K is left out\r\n\
 terminal P   turns to the terminal of port 0 or 1\r\n\
 save D FILE  the disk of drive D, 0 to 3, as it is now, is written to a file\r\n\
 picture FILE what has become of the hosts so far is drawn, as an SVG file\r\n\
@@ -102,10 +114,11 @@ do FILE      what the lines of a file say is done, as by --do\r\n\
 help         these lines\r\n\
 quit         ends the console\r\n\
 The escape key once more types that key itself; ESC or Ctrl-C leaves the line.\r\n\
-Cursor keys, Home, End, Backspace, Delete, Ctrl-U and Ctrl-K edit it; Up and Down call lines back.";
+Cursor keys, Home, End, Backspace, Delete, Ctrl-U and Ctrl-K edit it; Up and Down call lines back.\r\n\
+Tab completes a command, or lists those that begin so.";
 
-// Each keyword with its word.
-static KEYWORDS: [(&[u8], Keyword); 16] = [
+/// Each keyword with its word.
+pub(crate) static KEYWORDS: [(&[u8], Keyword); 19] = [
     (b"stop", Keyword::Stop),
     (b"freeze", Keyword::Freeze),
     (b"thaw", Keyword::Thaw),
@@ -116,6 +129,9 @@ static KEYWORDS: [(&[u8], Keyword); 16] = [
     (b"drop", Keyword::Drop),
     (b"speed", Keyword::Speed),
     (b"status", Keyword::Status),
+    (b"regs", Keyword::Regs),
+    (b"look", Keyword::Look),
+    (b"dis", Keyword::Dis),
     (b"terminal", Keyword::Terminal),
     (b"save", Keyword::Save),
     (b"picture", Keyword::Picture),
@@ -136,19 +152,21 @@ pub fn order_of(line: &[u8]) -> Order
         return Order::Mistake(Mistake::Unknown);
     };
     let (value, after) = next_word(after);
-    let (more, _) = next_word(after);
-    match command_by(keyword, value) {
-        Some(command) if is_fit_end(keyword, more) => Order::Command(command),
+    let (more, after) = next_word(after);
+    let (rest, _) = next_word(after);
+    match command_by(keyword, value, more) {
+        Some(command) if is_fit_end(keyword, more, rest) => Order::Command(command),
         _ => Order::Mistake(Mistake::Unfit(keyword)),
     }
 }
 
-// Whether a line of this keyword may have this word, or none, after the one that is its value.
-fn is_fit_end(keyword: Keyword, more: &[u8]) -> bool
-    ensures { result ≡ is_fit_end keyword more.now }
+// Whether a line of this keyword may have this word, or none, after the one that is its value, and this one, or none, after that.
+fn is_fit_end(keyword: Keyword, more: &[u8], rest: &[u8]) -> bool
+    ensures { result ≡ is_fit_end keyword more.now rest.now }
 {
     match keyword {
         Keyword::Save => !more.is_empty(),
+        Keyword::Look | Keyword::Dis => rest.is_empty(),
         Keyword::Picture | Keyword::Do => true,
         _ => more.is_empty(),
     }
@@ -219,16 +237,33 @@ fn keyword_among(rows: &[(&[u8], Keyword)], word: &[u8]) -> Option<Keyword>
     None
 }
 
-// Whether two words are the same but for the case of letters.
-fn is_same_word(a: &[u8], b: &[u8]) -> bool
+/// Whether two words are the same but for the case of letters.
+pub(crate) fn is_same_word(a: &[u8], b: &[u8]) -> bool
     ensures { result ≡ is_same_word a.now b.now }
 {
     a.eq_ignore_ascii_case(b)
 }
 
-// The command of a keyword with the word after it, which is empty if there is none.
-fn command_by(keyword: Keyword, value: &[u8]) -> Option<Command>
-    ensures { result ≡ command_by keyword value.now }
+// The command of a keyword with the two words after it, each of which is empty if there is none.
+fn command_by(keyword: Keyword, value: &[u8], more: &[u8]) -> Option<Command>
+    ensures { result ≡ command_by keyword value.now more.now }
+{
+    match keyword {
+        Keyword::Look => {
+            let (from, count) = span_of(value, more, 16, 256)?;
+            Some(Command::Memory { from, count })
+        }
+        Keyword::Dis => {
+            let (from, count) = span_of(value, more, 8, 64)?;
+            Some(Command::Listing { from, count })
+        }
+        _ => command_of(keyword, value),
+    }
+}
+
+// The command of a keyword other than of memory with the word after it, which is empty if there is none.
+fn command_of(keyword: Keyword, value: &[u8]) -> Option<Command>
+    ensures { result ≡ command_of keyword value.now }
 {
     match keyword {
         Keyword::Stop => Some(Command::Stop(number_of(value)?)),
@@ -255,6 +290,7 @@ fn plain_command(keyword: Keyword) -> Option<Command>
         Keyword::Part => Some(Command::Part),
         Keyword::Mend => Some(Command::Mend),
         Keyword::Status => Some(Command::Status),
+        Keyword::Regs => Some(Command::Registers),
         Keyword::Help => Some(Command::Help),
         Keyword::Quit => Some(Command::Quit),
         _ => None,
@@ -268,6 +304,64 @@ fn port_of(word: &[u8]) -> Option<Port>
     match word {
         [b'0'] => Some(Port::Zero),
         [b'1'] => Some(Port::One),
+        _ => None,
+    }
+}
+
+// An address, and how many from there on: as many as usual if no second word says it.
+fn span_of(value: &[u8], more: &[u8], usual: u16, greatest: u16) -> Option<(u16, u16)>
+    ensures { result ≡ span_of value.now more.now usual greatest }
+{
+    let from = address_of(value)?;
+    let count = count_of(more, usual, greatest)?;
+    Some((from, count))
+}
+
+// The number, from 1 to the greatest, that a word spells; the usual one if there is no word.
+fn count_of(word: &[u8], usual: u16, greatest: u16) -> Option<u16>
+    ensures { result ≡ count_of word.now usual greatest }
+{
+    if word.is_empty() {
+        return Some(usual);
+    }
+    let count = long_number_of(word)?;
+    if 1 <= count && count <= u32::from(greatest) {
+        Some(count as u16)
+    } else {
+        None
+    }
+}
+
+// The address that four hexadecimal digits spell.
+fn address_of(word: &[u8]) -> Option<u16>
+    ensures { result ≡ address_of word.now }
+{
+    let [first, second, third, fourth] = word else {
+        return None;
+    };
+    let high = byte_of(*first, *second)?;
+    let low = byte_of(*third, *fourth)?;
+    Some(u16::from(high) * 256 + u16::from(low))
+}
+
+// The byte that two hexadecimal digits spell.
+fn byte_of(high: u8, low: u8) -> Option<u8>
+    ensures { result ≡ byte_of high low }
+{
+    let high = hexadecimal_of(high)?;
+    let low = hexadecimal_of(low)?;
+    Some(high * 16 + low)
+}
+
+// The number that a hexadecimal digit is.
+fn hexadecimal_of(byte: u8) -> Option<u8>
+    ensures digit { result ≡ hexadecimal_of byte }
+    ensures within { IfSome result (λ digit. digit < 16) }
+{
+    match byte {
+        b'0'..=b'9' => Some(byte - b'0'),
+        b'A'..=b'F' => Some(byte - b'A' + 10),
+        b'a'..=b'f' => Some(byte - b'a' + 10),
         _ => None,
     }
 }
@@ -351,6 +445,12 @@ impl Mistake {
             Mistake::Unfit(Keyword::Drop) => "`drop` is followed by a number from 0 to 99",
             Mistake::Unfit(Keyword::Speed) => {
                 "`speed` is followed by 0, or by a number from 10000 to 999999999"
+            }
+            Mistake::Unfit(Keyword::Look) => {
+                "`look` is followed by an address, four hexadecimal digits, and how many, 1 to 256"
+            }
+            Mistake::Unfit(Keyword::Dis) => {
+                "`dis` is followed by an address, four hexadecimal digits, and how many, 1 to 64"
             }
             Mistake::Unfit(Keyword::Terminal) => "`terminal` is followed by 0 or 1",
             Mistake::Unfit(Keyword::Save) => {

@@ -1,7 +1,9 @@
 //! A line with a cursor.
-ghost use Rattle.std.specs.Prelude.{◌≡◌, ◌≤◌, length};
-ghost use Rattle.console_terminal.specs.Editing.{added, deleted, ending_in, no_bytes, taken_back, to_begin, to_end, to_left, to_right, without_front, without_rest};
+ghost use Rattle.std.specs.Prelude.{◌≡◌, ◌≤◌, ◌+◌, ◌-◌, ◌++◌, drop, length, take};
+ghost use Rattle.console_terminal.specs.Editing.{added, added_all, completed, deleted, ending_in, first_size, last_size, lists, no_bytes, taken_back, to_begin, to_end, to_left, to_right, without_front, without_rest};
 
+use crate::character::{first_size, last_size};
+use crate::completing::{completion, is_open_still};
 use arrayvec::ArrayVec;
 use std::marker::Model;
 
@@ -75,32 +77,28 @@ impl CursorLine {
     pub(crate) fn take_back(&mut self)
         ensures { self.new ≡ taken_back self.old }
     {
-        if self.at > 0 {
-            self.at -= 1;
-            let _ = self.bytes.remove(self.at);
-        }
+        let begin = left_of(self.bytes.as_slice(), self.at);
+        self.bytes = without(self.bytes.as_slice(), begin, self.at);
+        self.at = begin;
     }
 
     pub(crate) fn delete(&mut self)
         ensures { self.new ≡ deleted self.old }
     {
-        if self.at < self.bytes.len() {
-            let _ = self.bytes.remove(self.at);
-        }
+        let end = right_of(self.bytes.as_slice(), self.at);
+        self.bytes = without(self.bytes.as_slice(), self.at, end);
     }
 
     pub(crate) fn go_left(&mut self)
         ensures { self.new ≡ to_left self.old }
     {
-        self.at = self.at.saturating_sub(1);
+        self.at = left_of(self.bytes.as_slice(), self.at);
     }
 
     pub(crate) fn go_right(&mut self)
         ensures { self.new ≡ to_right self.old }
     {
-        if self.at < self.bytes.len() {
-            self.at += 1;
-        }
+        self.at = right_of(self.bytes.as_slice(), self.at);
     }
 
     pub(crate) fn go_to_begin(&mut self)
@@ -129,6 +127,38 @@ impl CursorLine {
         self.bytes.truncate(self.at);
     }
 
+    /// At its end it is continued by what the commands have in common that begin as it does, and by a space after the only one.
+    pub(crate) fn complete(&mut self)
+        ensures { self.new ≡ completed self.old }
+    {
+        if self.at < self.bytes.len() {
+            return;
+        }
+        let (count, tail) = completion(self.bytes.as_slice());
+        self.add_all(tail);
+        if count == 1 {
+            self.add(b' ');
+        }
+    }
+
+    // Adds these bytes, one after another.
+    fn add_all(&mut self, bytes: &[u8])
+        ensures { self.new ≡ added_all bytes.now self.old }
+    {
+        let mut rest = bytes;
+        'bytes: while let [byte, after @ ..] = rest {
+            self.add(*byte);
+            rest = after;
+        }
+    }
+
+    /// Whether the cursor is at its end, and several commands begin as it does and have nothing in common after that.
+    pub(crate) fn lists(&self) -> bool
+        ensures { result ≡ lists self.now }
+    {
+        self.at >= self.bytes.len() && is_open_still(self.bytes.as_slice())
+    }
+
     /// Puts these bytes in place of its own, and the cursor after them.
     pub(crate) fn replace(&mut self, bytes: &[u8])
         requires { length bytes.now ≤ MOST_BYTES }
@@ -137,6 +167,39 @@ impl CursorLine {
         self.bytes = copied(bytes);
         self.at = self.bytes.len();
     }
+}
+
+// Where the character before a place begins.
+fn left_of(bytes: &[u8], at: usize) -> usize
+    requires { at ≤ length bytes.now }
+    ensures place { result ≡ at - last_size (take at bytes.now) }
+    ensures within { result ≤ at }
+{
+    let (front, _) = bytes.split_at(at);
+    at - last_size(front)
+}
+
+// Where the character at a place ends.
+fn right_of(bytes: &[u8], at: usize) -> usize
+    requires { at ≤ length bytes.now }
+    ensures place { result ≡ at + first_size (drop at bytes.now) }
+    ensures within { result ≤ length bytes.now }
+    ensures after { at ≤ result }
+{
+    let (_, rest) = bytes.split_at(at);
+    at + first_size(rest)
+}
+
+// Bytes without those between two places.
+fn without(bytes: &[u8], begin: usize, end: usize) -> ArrayVec<u8, MOST_BYTES>
+    requires { (length bytes.now ≤ MOST_BYTES) × (begin ≤ end) × (end ≤ length bytes.now) }
+    ensures { result.items ≡ take begin bytes.now ++ drop end bytes.now }
+{
+    let (front, _) = bytes.split_at(begin);
+    let (_, rest) = bytes.split_at(end);
+    let mut left = copied(front);
+    let _ = left.try_extend_from_slice(rest);
+    left
 }
 
 // These bytes in a place of their own.

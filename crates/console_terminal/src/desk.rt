@@ -2,7 +2,7 @@
 ghost use Rattle.std.specs.Prelude.{◌≡◌, ◌≤◌, [], None, length};
 ghost use Rattle.console_terminal.specs.Editing.{back_after, kept_after, line_after, line_before};
 ghost use Rattle.console_terminal.specs.Telling.{drawn};
-ghost use Rattle.console_terminal.specs.Typing.{act_of, after, line_of, open_after, order_by, past_after, place_of, port_after};
+ghost use Rattle.console_terminal.specs.Typing.{act_of, after, line_of, listing, open_after, order_by, past_after, place_of, port_after};
 
 use crate::acts::{done_in, paused, typed};
 use crate::command::{Command, Order, order_of};
@@ -26,6 +26,8 @@ pub enum Act {
     Opens,
     /// It edits the command line.
     Edits(Edit),
+    /// It has the commands listed that begin as the command line does.
+    Lists,
     /// It is of an escape sequence, of which so much has come.
     Waits(Sequence),
     /// It closes the command line, which is forgotten.
@@ -80,17 +82,25 @@ impl Desk {
         ensures { result ≡ act_of self.now heard }
     {
         match heard {
-            Heard::Key(byte) if self.is_open => {
-                done_in(
-                    self.escape,
-                    self.line.bytes().is_empty(),
-                    self.sequence,
-                    byte,
-                )
-            }
+            Heard::Key(byte) if self.is_open => self.listing(done_in(
+                self.escape,
+                self.line.bytes().is_empty(),
+                self.sequence,
+                byte,
+            )),
             Heard::Key(byte) => typed(self.escape, byte),
             Heard::Quiet if self.is_open => paused(self.sequence),
             _ => Act::Nothing,
+        }
+    }
+
+    // What is done in place of completing a line: if several commands begin as it does they are listed.
+    fn listing(&self, act: Act) -> Act
+        ensures { result ≡ listing self.now.line act }
+    {
+        match act {
+            Act::Edits(Edit::Completes) if self.line.lists() => Act::Lists,
+            _ => act,
         }
     }
 
@@ -154,6 +164,7 @@ impl Desk {
             Act::HandsOn => self.hand_on(),
             Act::Opens => self.open(),
             Act::Edits(edit) => return self.edit(edit),
+            Act::Lists => return self.list(),
             Act::Waits(sequence) => self.sequence = sequence,
             Act::Nothing => self.sequence = Sequence::Nothing,
         }
@@ -182,6 +193,20 @@ impl Desk {
             keep(&mut self.past, self.line.bytes());
         }
         self.is_open = false;
+    }
+
+    // What is drawn of the command line after a list, if one is open.
+    fn list(&mut self) -> Option<Redraw>
+        ensures place { (self.new.port ≡ self.old.port) × (self.new.escape ≡ self.old.escape) }
+        ensures line { line_of self.new ≡ open_after Act.Lists self.old.past.items (line_of self.old) }
+        ensures past { self.new.past ≡ self.old.past }
+        ensures redraw { result ≡ drawn Act.Lists (line_of self.old) (line_of self.new) }
+    {
+        self.sequence = Sequence::Nothing;
+        if !self.is_open {
+            return None;
+        }
+        Some(Redraw::between(&CursorLine::new(), &self.line))
     }
 
     // Edits the command line, if one is open, and says what is drawn of that.
@@ -227,6 +252,7 @@ fn edit_line(line: &mut CursorLine, edit: Edit, past: &[ArrayVec<u8, MOST_BYTES>
         Edit::GoesToEnd => line.go_to_end(),
         Edit::CutsFront => line.cut_front(),
         Edit::CutsRest => line.cut_rest(),
+        Edit::Completes => line.complete(),
         Edit::RecallsEarlier | Edit::RecallsLater => line.replace(line_before(past, back)),
     }
 }

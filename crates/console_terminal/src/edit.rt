@@ -17,6 +17,8 @@ pub enum Edit {
     CutsFront,
     /// All from the cursor on goes.
     CutsRest,
+    /// What the commands have in common that begin as the line does comes in, if the cursor is at its end.
+    Completes,
     /// The line before this one, of those that were carried out, takes its place.
     RecallsEarlier,
     /// The one after it does.

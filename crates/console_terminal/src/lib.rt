@@ -3,7 +3,9 @@
 #![tactic(auto)]
 
 mod acts;
+mod character;
 mod command;
+mod completing;
 mod cursor_line;
 mod desk;
 mod display;

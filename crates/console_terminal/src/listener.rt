@@ -3,7 +3,7 @@ ghost use Rattle.std.specs.Prelude.{◌≡◌, ◌++◌, ◌∷◌, ◌+◌, ◌
 ghost use Rattle.rtrb.specs.Ring.{SameProducer, known_free, sent};
 ghost use Rattle.console_terminal.specs.Commands.{Grows};
 ghost use Rattle.console_terminal.specs.Listening.{HasRoom, Listens, closed, ending_of, strokes_after};
-ghost use Rattle.console_terminal.specs.Telling.{Answers, Says, changed, closing, note_of, redraws};
+ghost use Rattle.console_terminal.specs.Telling.{Answers, Says, changed, closing, lists, note_of, redraws};
 ghost use Rattle.console_terminal.specs.Typing.{act_of, after, command_in, line_of, order_by, place_of, strokes_by};
 
 use crate::Stroke;
@@ -301,6 +301,7 @@ fn tell(
     match act {
         Act::Opens => notes.push_reserved(DisplayNote::Opened),
         Act::Edits(_) => show(notes, redraw),
+        Act::Lists => list(notes, redraw),
         Act::Cancels | Act::HandsOn => notes.push_reserved(DisplayNote::Closed(port)),
         Act::Key(_) if was_open => notes.push_reserved(DisplayNote::Closed(port)),
         Act::Key(_) | Act::Waits(_) | Act::Nothing => {}
@@ -316,5 +317,17 @@ fn show(notes: &mut Producer<DisplayNote>, redraw: Option<Redraw>)
 {
     if let Some(redraw) = redraw {
         notes.push_reserved(DisplayNote::Redraws(redraw));
+    }
+}
+
+// Says what is listed, and drawn after that.
+fn list(notes: &mut Producer<DisplayNote>, redraw: Option<Redraw>)
+    requires { 0 < known_free notes.old }
+    ensures notes { sent notes.new ≡ sent notes.old ++ lists redraw }
+    ensures ring { SameProducer notes.old notes.new }
+    ensures room { known_free notes.old ≤ known_free notes.new + 1 }
+{
+    if let Some(redraw) = redraw {
+        notes.push_reserved(DisplayNote::Lists(redraw));
     }
 }

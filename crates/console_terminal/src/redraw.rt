@@ -1,8 +1,10 @@
 //! What is written so that a screen which shows a line shows the line after an edit.
 ghost use Rattle.std.specs.Prelude.{◌≡◌, ◌≤◌, ◌++◌, OnOk, length, replicate};
 ghost use Rattle.std.specs.Io.KnownBytes.{Appends};
-ghost use Rattle.console_terminal.specs.Editing.{common, redrawn, redrawn_text};
+ghost use Rattle.console_terminal.specs.Completing.{common};
+ghost use Rattle.console_terminal.specs.Editing.{kept_of, redrawn, redrawn_text};
 
+use crate::character::{begins_inner, columns, last_size};
 use crate::cursor_line::{CursorLine, MOST_BYTES, copied};
 use arrayvec::ArrayVec;
 use std::io::{self, Write};
@@ -27,21 +29,41 @@ impl Redraw {
         ensures { result ≡ redrawn old.now new.now }
     {
         let (front, _) = old.bytes().split_at(old.at());
-        let kept = common(front, new.bytes());
+        let kept = kept_of(common(front, new.bytes()), old.bytes(), new.bytes());
+        let (_, gone) = front.split_at(kept);
         let (_, text) = new.bytes().split_at(kept);
-        let blanks = old.bytes().len().saturating_sub(new.bytes().len());
+        let (_, after) = new.bytes().split_at(new.at());
+        let blanks = columns(old.bytes()).saturating_sub(columns(new.bytes()));
         Redraw {
-            back: old.at() - kept,
+            back: columns(gone),
             text: copied(text),
             blanks,
-            left: blanks + (new.bytes().len() - new.at()),
+            left: blanks + columns(after),
         }
     }
 }
 
-// With how many equal bytes two slices begin.
+// How many bytes of an old line stay of so many that are equal.
+fn kept_of(count: usize, old: &[u8], new: &[u8]) -> usize
+    requires { (count ≤ length old.now) × (count ≤ length new.now) }
+    ensures exact { result ≡ kept_of count old.now new.now }
+    ensures within { result ≤ count }
+{
+    if count == old.len() {
+        return count;
+    }
+    let (_, old_rest) = old.split_at(count);
+    let (equal, new_rest) = new.split_at(count);
+    if begins_inner(old_rest) || begins_inner(new_rest) {
+        count - last_size(equal)
+    } else {
+        count
+    }
+}
+
+/// With how many equal bytes two slices begin.
 #[tactic(auto, using(crate::proofs::Redraws::common_ends))]
-fn common(first: &[u8], second: &[u8]) -> usize
+pub(crate) fn common(first: &[u8], second: &[u8]) -> usize
     ensures exact { result ≡ common first.now second.now }
     ensures within { (result ≤ length first.now) × (result ≤ length second.now) }
 {

@@ -1,6 +1,6 @@
 -- The frame that a body is read as, and no other, is the one whose body it is.
 use Rattle.std.proofs.Common.{◌≡◌, ℕ, Bool, true, false, cond, eqb, ltb, List, [], ◌∷◌, length, Option, Some, None, refl, sym, ap, subst, ◌∙◌, arith}
-use Rattle.std.specs.Prelude.{IfErr, IfOk}
+use Rattle.std.specs.Prelude.{◌&&◌, IfErr, IfOk}
 use Rattle.std.specs.Option.{ok_or, option_map}
 use Rattle.std.proofs.lemmas.Bool.{eqb-true, ltb-true}
 use Rattle.std.proofs.lemmas.Option.{same_Some, none-some}
@@ -14,7 +14,7 @@ use Rattle.host_frames.specs.declared.frame.Frame.{Frame}
 use Rattle.host_frames.specs.declared.frame.Notice.{Notice}
 use Rattle.host_frames.specs.declared.frame.Notice.TheVariants.{Suspect, Won, Lost, Gone, Begin, Join, Report, Progress, Tick, Stop}
 use Rattle.host_frames.specs.declared.frame.Transfer.{Transfer}
-use Rattle.host_frames.specs.declared.frame.Transfer.TheVariants.{Byte, Key, Accepted, Write, Written, Failed, Get, Sector}
+use Rattle.host_frames.specs.declared.frame.Transfer.TheVariants.{Byte, Key, Accepted, Write, Written, Failed, Get, Sector, Inspect, Inspected}
 use Rattle.host_frames.proofs.FieldLaws.{first_true}
 use Rattle.host_frames.proofs.KindLaws.{Has, no_notice, notice_again, notice_takes, read_notice, read_transfer, transfer_again, transfer_takes}
 
@@ -66,6 +66,8 @@ transfer_tagged (Written n) = refl
 transfer_tagged (Failed n) = refl
 transfer_tagged (Get a) = refl
 transfer_tagged (Sector r) = refl
+transfer_tagged (Inspect n p) = refl
+transfer_tagged (Inspected m n bs) = refl
 
 notice_tagged : (n : Notice) → frame_at (notice_body n) ≡ read_others (notice_body n)
 unfolding frame_at
@@ -125,6 +127,10 @@ body_within (Transfers (Failed n)) e = record { some = omega arith; most = omega
 body_within (Transfers (Get a)) e = record { some = omega arith; most = omega arith }
 body_within (Transfers (Sector w)) e =
     let whole = eqb-true (length w.bytes) 137 (first_true (eqb (length w.bytes) 137) (is_number w.number) e) in
+    record { some = omega arith; most = omega (arith, whole) }
+body_within (Transfers (Inspect n p)) e = record { some = omega arith; most = omega arith }
+body_within (Transfers (Inspected m n bs)) e =
+    let whole = eqb-true (length bs) 526 (first_true (eqb (length bs) 526) (is_number m && is_number n) e) in
     record { some = omega arith; most = omega (arith, whole) }
 body_within (Tells (Suspect g)) e = record { some = omega arith; most = omega arith }
 body_within (Tells (Won g)) e = record { some = omega arith; most = omega arith }

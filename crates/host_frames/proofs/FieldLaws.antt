@@ -16,7 +16,7 @@ use Rattle.log_entry.proofs.ReadingLaws.{IsBytes-take, not_refused}
 use Rattle.pair_events.specs.declared.reply.Role.{Role}
 use Rattle.pair_events.specs.declared.reply.Role.TheVariants.{Primary, Backup, Joining, Draining, Alone, Halted}
 use Rattle.host_frames.specs.Frames.{are_numbers, flag_code, is_drives, is_generation, is_number, is_port, is_standing, role_code}
-use Rattle.host_frames.specs.Reading.{address, begin, content, drives, flag, generation, is_role, join, key, measures, port, port_count, progress, report, role, role_of, standing, tick, two_numbers, word}
+use Rattle.host_frames.specs.Reading.{address, begin, content, drives, flag, generation, inspect, is_role, join, key, measures, port, port_count, progress, report, role, role_of, sight, standing, tick, two_numbers, word}
 
 -- ---- tests
 
@@ -216,6 +216,27 @@ content_again a n bs l k =
 pub content_spells : Spells content (λ r. Anything r.0 × ((is_number r.1.0 ≡ true) × (length r.1.1 ≡ 137)))
 unfolding content
 content_spells = both_spells address _ address_spells (both_spells number (bytes 137) is_number_spells (bytes_spells 137))
+
+pub inspect_again : (p n : ℕ) → is_number n ≡ true → Again inspect (p, n)
+unfolding inspect
+inspect_again p n k = both_again one number p n (one_again p) (is_number_again n k)
+
+pub inspect_spells : Spells inspect (λ r. Anything r.0 × (is_number r.1 ≡ true))
+unfolding inspect
+inspect_spells = both_spells one number any_byte is_number_spells
+
+pub sight_again : (m n : ℕ) (bs : List ℕ) → length bs ≡ 526 → is_number m ≡ true → is_number n ≡ true
+    → Again sight (m, (n, bs))
+unfolding sight
+sight_again m n bs l h k =
+    both_again number _ m (n, bs) (is_number_again m h)
+    (both_again number (bytes 526) n bs (is_number_again n k) (bytes_again 526 bs l))
+
+pub sight_spells : Spells sight
+    (λ r. (is_number r.0 ≡ true) × ((is_number r.1.0 ≡ true) × (length r.1.1 ≡ 526)))
+unfolding sight
+sight_spells =
+    both_spells number _ is_number_spells (both_spells number (bytes 526) is_number_spells (bytes_spells 526))
 
 pub begin_again : (g h : ℕ) → is_generation g ≡ true → Again begin (g, h)
 unfolding begin

@@ -11,12 +11,12 @@ use Rattle.disk_dcdd.specs.declared.address.SectorAddress.{SectorAddress}
 use Rattle.log_entry.specs.Numbers.{◌>>=◌, IsBytes}
 use Rattle.log_entry.proofs.ReadingLaws.{admitted, first_read}
 use Rattle.host_frames.specs.Frames.{are_measures, are_numbers, is_drives, is_generation, is_notice, is_number, is_port, is_standing, is_transfer, notice_body, transfer_body}
-use Rattle.host_frames.specs.Reading.{address, begin, content, drives, flag, generation, join, key, kind, measures, notice_at, only_tag, port, port_count, progress, read_with, report, report_with, role, standing, tick, transfer_at, two_numbers, word, write_with}
+use Rattle.host_frames.specs.Reading.{address, begin, content, drives, flag, generation, inspect, join, key, kind, measures, notice_at, only_tag, port, port_count, progress, read_with, report, report_with, role, sight, standing, tick, transfer_at, two_numbers, word, write_with}
 use Rattle.host_frames.specs.declared.frame.Notice.{Notice}
 use Rattle.host_frames.specs.declared.frame.Notice.TheVariants.{Suspect, Won, Lost, Gone, Begin, Join, Report, Progress, Tick, Stop}
 use Rattle.host_frames.specs.declared.frame.Transfer.{Transfer}
-use Rattle.host_frames.specs.declared.frame.Transfer.TheVariants.{Byte, Key, Accepted, Write, Written, Failed, Get, Sector}
-use Rattle.host_frames.proofs.FieldLaws.{address_again, address_spells, any_byte, begin_again, begin_spells, both_are, content_again, content_spells, first_true, generation_is, generation_spells, is_number_again, is_number_spells, join_again, join_spells, key_again, key_spells, measures_again, port_count_again, port_count_spells, progress_again, progress_spells, report_again, report_spells, second_true, tick_again, tick_spells}
+use Rattle.host_frames.specs.declared.frame.Transfer.TheVariants.{Byte, Key, Accepted, Write, Written, Failed, Get, Sector, Inspect, Inspected}
+use Rattle.host_frames.proofs.FieldLaws.{address_again, address_spells, any_byte, begin_again, begin_spells, both_are, content_again, content_spells, first_true, generation_is, generation_spells, inspect_again, inspect_spells, is_number_again, is_number_spells, join_again, join_spells, key_again, key_spells, measures_again, port_count_again, port_count_spells, progress_again, progress_spells, report_again, report_spells, second_true, sight_again, sight_spells, tick_again, tick_spells}
 
 -- what is in range and has this body
 abbrev pub Has : {B : Type 0} → (B → Bool) → (B → List ℕ) → ℕ → List ℕ → B → Type 0
@@ -56,7 +56,7 @@ by_tag {B} tag k {this} {rest} y Goal e here after = cases (eqb tag k) refl e
 
 pub transfer_takes : (tag : ℕ) (xs : List ℕ) (t : Transfer) → IsBytes xs → transfer_at tag xs ≡ Some t
     → Has is_transfer transfer_body tag xs t
-unfolding transfer_at key port port_count content address both by only one number bytes
+unfolding transfer_at key port port_count content address inspect sight both by only one number bytes
 transfer_takes tag xs t all e =
     let goal : ℕ → Type 0 = λ j. Has is_transfer transfer_body j xs t in
     by_tag tag 0x42 t goal e
@@ -79,10 +79,22 @@ transfer_takes tag xs t all e =
     (kind_takes is_transfer transfer_body 0x47 address address_spells (λ a. Get a) (λ a h. refl) (λ a. refl) xs t all) (λ e.
     by_tag tag 0x53 t goal e
     (kind_takes is_transfer transfer_body 0x53 content content_spells (λ r. Sector (read_with r))
-    (λ r h. whole (length r.1.1) r.1.0 h.1.1 h.1.0) (λ r. refl) xs t all) (λ e. absurd (none-some t e)))))))))
+    (λ r h. whole (length r.1.1) r.1.0 h.1.1 h.1.0) (λ r. refl) xs t all) (λ e.
+    by_tag tag 0x49 t goal e
+    (kind_takes is_transfer transfer_body 0x49 inspect inspect_spells (λ r. Inspect r.1 r.0) (λ r h. h.1) (λ r. refl) xs t all)
+    (λ e.
+    by_tag tag 0x56 t goal e
+    (kind_takes is_transfer transfer_body 0x56 sight sight_spells (λ r. Inspected r.0 r.1.0 r.1.1)
+    (λ r h. seen (length r.1.1) r.0 r.1.0 h.1.1 h.0 h.1.0) (λ r. refl) xs t all) (λ e. absurd (none-some t e)))))))))))
   where
     whole : (l n : ℕ) → l ≡ 137 → is_number n ≡ true → (eqb l 137 && is_number n) ≡ true
     whole l n same small = both_are (eqb l 137) (is_number n) (rw same refl) small
+
+    seen : (l m n : ℕ) → l ≡ 526 → is_number m ≡ true → is_number n ≡ true
+        → (eqb l 526 && (is_number m && is_number n)) ≡ true
+    seen l m n same first second =
+        both_are (eqb l 526) (is_number m && is_number n) (rw same refl)
+        (both_are (is_number m) (is_number n) first second)
 
 -- what a body is read as, if it is that of a transfer or of a notice
 abbrev pub read_transfer : List ℕ → Option Transfer
@@ -95,7 +107,7 @@ read_notice (tag ∷ xs) = notice_at tag xs
 
 -- what a transfer is read as
 pub transfer_again : (t : Transfer) → is_transfer t ≡ true → read_transfer (transfer_body t) ≡ Some t
-unfolding transfer_at key port port_count content address both by only one number bytes
+unfolding transfer_at key port port_count content address inspect sight both by only one number bytes
 transfer_again (Byte p n b) e =
     kind_again key (λ r. Byte r.0 r.1.1 r.1.0) (p, (b, n))
     (key_again p b n (first_true (is_port p) (is_number n) e) (second_true (is_port p) (is_number n) e))
@@ -118,6 +130,13 @@ transfer_again (Sector r) e =
     let at : SectorAddress = record { drive = r.drive; track = r.track; sector = r.sector } in
     kind_again content (λ r. Sector (read_with r)) (at, (r.number, r.bytes))
     (content_again at r.number r.bytes whole (second_true (eqb (length r.bytes) 137) (is_number r.number) e))
+transfer_again (Inspect n p) e = kind_again inspect (λ r. Inspect r.1 r.0) (p, n) (inspect_again p n e)
+transfer_again (Inspected m n bs) e =
+    let numbers = is_number m && is_number n in
+    let rest = second_true (eqb (length bs) 526) numbers e in
+    kind_again sight (λ r. Inspected r.0 r.1.0 r.1.1) (m, (n, bs))
+    (sight_again m n bs (eqb-true (length bs) 526 (first_true (eqb (length bs) 526) numbers e))
+    (first_true (is_number m) (is_number n) rest) (second_true (is_number m) (is_number n) rest))
 
 -- no notice has the tag of a transfer
 pub no_notice : (t : Transfer) → read_notice (transfer_body t) ≡ None
@@ -130,6 +149,8 @@ no_notice (Written n) = refl
 no_notice (Failed n) = refl
 no_notice (Get a) = refl
 no_notice (Sector r) = refl
+no_notice (Inspect n p) = refl
+no_notice (Inspected m n bs) = refl
 
 -- ---- notices
 

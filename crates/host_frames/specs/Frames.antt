@@ -12,7 +12,7 @@ use Rattle.host_frames.specs.declared.frame.Notice.{Notice}
 use Rattle.host_frames.specs.declared.frame.Notice.TheVariants.{Suspect, Won, Lost, Gone, Begin, Join, Report, Progress, Tick, Stop}
 use Rattle.host_frames.specs.declared.frame.Report as host
 use Rattle.host_frames.specs.declared.frame.Transfer.{Transfer}
-use Rattle.host_frames.specs.declared.frame.Transfer.TheVariants.{Byte, Key, Accepted, Write, Written, Failed, Get, Sector}
+use Rattle.host_frames.specs.declared.frame.Transfer.TheVariants.{Byte, Key, Accepted, Write, Written, Failed, Get, Sector, Inspect, Inspected}
 
 -- what a frame says, wherever the bytes of its packet lie
 pub data Said : Type 0 where
@@ -57,6 +57,8 @@ transfer_body (Written number) = 0x77 ∷ big_bytes 8 number
 transfer_body (Failed number) = 0x66 ∷ big_bytes 8 number
 transfer_body (Get a) = 0x47 ∷ a.drive ∷ a.track ∷ a.sector ∷ []
 transfer_body (Sector r) = 0x53 ∷ r.drive ∷ r.track ∷ r.sector ∷ big_bytes 8 r.number ++ r.bytes
+transfer_body (Inspect number page) = 0x49 ∷ page ∷ big_bytes 8 number
+transfer_body (Inspected number count bytes) = 0x56 ∷ big_bytes 8 number ++ (big_bytes 8 count ++ bytes)
 
 abbrev pub notice_body : Notice → List ℕ
 notice_body (Suspect generation) = 0x55 ∷ big_bytes 4 generation
@@ -119,6 +121,8 @@ is_transfer (Written number) = is_number number
 is_transfer (Failed number) = is_number number
 is_transfer (Get a) = true
 is_transfer (Sector r) = length r.bytes == 137 && is_number r.number
+is_transfer (Inspect number page) = is_number number
+is_transfer (Inspected number count bytes) = length bytes == 526 && (is_number number && is_number count)
 
 abbrev pub is_notice : Notice → Bool
 is_notice (Suspect generation) = is_generation generation

@@ -1,5 +1,6 @@
 -- What a frame means in the law of processes, on the stream from or to the host of a node. Ticks, the end of a stream, a
--- stop, a refused write, progress, packets without bytes, early parts and the other fields of a report mean nothing there.
+-- stop, a refused write, progress, packets without bytes, early parts, what a machine has and the other fields of a report mean
+-- nothing there.
 use Rattle.std.specs.Prelude.{◌≡◌, ℕ, ◌<◌, ◌^◌, ◌==◌, Bool, true, false, if◌then◌else◌, unwrap_or, slice_get, slice_index, List, [], ◌∷◌, ◌++◌, Option, Some}
 use Rattle.clone_state.specs.Parts.{PartMessage, message_bytes}
 use Rattle.disk_dcdd.specs.declared.address.SectorAddress.{SectorAddress}
@@ -17,7 +18,7 @@ use Rattle.shared_disk.specs.declared.disk.SectorRead.{SectorRead}
 use Rattle.host_frames.specs.Frames.{IsBodyOf, Said, Packet, Transfers, Tells}
 use Rattle.host_frames.specs.declared.frame.Notice.TheVariants.{Suspect, Won, Lost, Begin, Join, Report, Progress}
 use Rattle.host_frames.specs.declared.frame.Report as host
-use Rattle.host_frames.specs.declared.frame.Transfer.TheVariants.{Byte, Key, Accepted, Write, Written, Get, Sector}
+use Rattle.host_frames.specs.declared.frame.Transfer.TheVariants.{Byte, Key, Accepted, Write, Written, Get, Sector, Inspected}
 
 -- a part of an image that bytes spell
 pub record IsPart (m : PartMessage) : Type 0 where
@@ -98,3 +99,5 @@ pub data Speaks (drives node : ℕ) : Said → List law.Frame → Type 0 where
   -- a part of an image that is sent early, before a generation has begun
   OfEarly : (place : ℕ) (part : List ℕ) → Speaks drives node (Packet place (0x45 ∷ part)) []
   OfProgress : (place entries count : ℕ) → Speaks drives node (Tells (Progress place entries count)) []
+  -- what its machine has
+  OfInspected : (number count : ℕ) (bytes : List ℕ) → Speaks drives node (Transfers (Inspected number count bytes)) []

@@ -14,7 +14,7 @@ use Rattle.host_frames.specs.declared.frame.Notice.{Notice}
 use Rattle.host_frames.specs.declared.frame.Notice.TheVariants.{Suspect, Won, Lost, Gone, Begin, Join, Report, Progress, Tick, Stop}
 use Rattle.host_frames.specs.declared.frame.Report as host
 use Rattle.host_frames.specs.declared.frame.Transfer.{Transfer}
-use Rattle.host_frames.specs.declared.frame.Transfer.TheVariants.{Byte, Key, Accepted, Write, Written, Failed, Get, Sector}
+use Rattle.host_frames.specs.declared.frame.Transfer.TheVariants.{Byte, Key, Accepted, Write, Written, Failed, Get, Sector, Inspect, Inspected}
 
 -- ---- small values
 
@@ -70,6 +70,14 @@ port_count = both port number
 
 unfoldable pub content : Codec (SectorAddress × (ℕ × List ℕ))
 content = both address (both number (bytes 137))
+
+-- a page, and the number by which a machine is asked for
+unfoldable pub inspect : Codec (ℕ × ℕ)
+inspect = both one number
+
+-- what a machine has, which was asked for by a number, when it has made so many steps
+unfoldable pub sight : Codec (ℕ × (ℕ × List ℕ))
+sight = both number (both number (bytes 526))
 
 unfoldable pub begin : Codec (ℕ × ℕ)
 begin = both generation one
@@ -131,6 +139,8 @@ transfer_at tag xs =
     else if tag == 0x66 then kind number (λ n. Failed n) xs
     else if tag == 0x47 then kind address (λ a. Get a) xs
     else if tag == 0x53 then kind content (λ r. Sector (read_with r)) xs
+    else if tag == 0x49 then kind inspect (λ r. Inspect r.1 r.0) xs
+    else if tag == 0x56 then kind sight (λ r. Inspected r.0 r.1.0 r.1.1) xs
     else None
 
 unfoldable pub notice_at : ℕ → List ℕ → Option Notice

@@ -3,6 +3,7 @@ ghost use Rattle.std.specs.Prelude.{◌≡◌, option_map};
 ghost use Rattle.clone_state.specs.Codec.{number, one, read_all};
 ghost use Rattle.host_frames.specs.Reading as grammar;
 
+use crate::frame::SIGHT_BYTES;
 use crate::ranges::{is_drives, is_port};
 use disk_dcdd::{SECTOR_BYTES, SectorAddress};
 use log_entry::{generation_at, number_at};
@@ -104,6 +105,29 @@ pub(crate) fn content_of(bytes: &[u8]) -> Option<(SectorAddress, u64, [u8; SECTO
     let (number, rest) = number_at(rest)?;
     let (content, rest) = rest.split_first_chunk::<SECTOR_BYTES>()?;
     rest.is_empty().then_some((address, number, *content))
+}
+
+/// A page and a number.
+#[tactic(auto, unfolding(crate::specs::Reading::inspect, clone_state::specs::Codec::both, clone_state::specs::Codec::one, clone_state::specs::Codec::number))]
+pub(crate) fn inspect_of(bytes: &[u8]) -> Option<(u8, u64)>
+    ensures { result ≡ read_all grammar.inspect bytes.now }
+{
+    let [page, rest @ ..] = bytes else {
+        return None;
+    };
+    let (number, rest) = number_at(rest)?;
+    rest.is_empty().then_some((*page, number))
+}
+
+/// Two numbers, and what a machine has.
+#[tactic(auto, unfolding(crate::specs::Reading::sight, clone_state::specs::Codec::both, clone_state::specs::Codec::number, clone_state::specs::Codec::bytes))]
+pub(crate) fn sight_of(bytes: &[u8]) -> Option<(u64, u64, [u8; SIGHT_BYTES])>
+    ensures { option_map (λ found. (found.0, (found.1, found.2))) result ≡ read_all grammar.sight bytes.now }
+{
+    let (number, rest) = number_at(bytes)?;
+    let (count, rest) = number_at(rest)?;
+    let (sight, rest) = rest.split_first_chunk::<SIGHT_BYTES>()?;
+    rest.is_empty().then_some((number, count, *sight))
 }
 
 /// A generation and a host.

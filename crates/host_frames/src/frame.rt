@@ -19,11 +19,22 @@ pub enum Frame<'a> {
 #[derive(Clone, Copy)]
 pub enum Transfer {
     /// A released byte of a port.
-    Byte { port: u8, number: u64, byte: u8 },
+    Byte {
+        port: u8,
+        number: u64,
+        byte: u8,
+    },
     /// The key that was typed at a port as the one of this index.
-    Key { port: u8, index: u64, byte: u8 },
+    Key {
+        port: u8,
+        index: u64,
+        byte: u8,
+    },
     /// The terminal of a port has accepted so many bytes.
-    Accepted { port: u8, count: u64 },
+    Accepted {
+        port: u8,
+        count: u64,
+    },
     /// A released write.
     Write(SectorWrite),
     /// The write of this number is on the disk.
@@ -34,7 +45,21 @@ pub enum Transfer {
     Get(SectorAddress),
     /// What the disk has there.
     Sector(SectorRead),
+    /// Whoever is outside asks for the so manieth time what a machine has: its processor, a page of its memory, and the one after it.
+    Inspect {
+        number: u64,
+        page: u8,
+    },
+    /// What the machine has that was asked for by this number, when it has made so many steps.
+    Inspected {
+        number: u64,
+        count: u64,
+        bytes: [u8; SIGHT_BYTES],
+    },
 }
+
+/// How many bytes show a machine: 14 of its processor, and 256 of each of two pages.
+pub const SIGHT_BYTES: usize = 526;
 
 /// What is said between a host and the arbiter or the switch. Generations are at least 1.
 #[derive(Clone, Copy)]

@@ -26,7 +26,7 @@ mod writer;
 pub use buffer::{BUFFER_BYTES, FrameBuffer};
 pub use carried::CarriedBlocks;
 pub use failures::{Deserted, ReadFailed, Unwritten, WriteFailed};
-pub use frame::{Frame, Notice, Report, Transfer};
+pub use frame::{Frame, Notice, Report, SIGHT_BYTES, Transfer};
 pub use laws::{frames_spell_one_way, streams_come_out, streams_stand_apart};
 pub use read_thread::{ReadEnd, ReadStream, Reading, ReadsAll, end_reading, start_reading};
 pub use reader::{FrameReader, StreamEnd, read_frames};

@@ -2,7 +2,7 @@
 ghost use Rattle.std.specs.Prelude.{◌≡◌, ◌==◌, ◌&&◌, length};
 ghost use Rattle.host_frames.specs.Frames as table;
 
-use crate::frame::{Notice, Report, Transfer};
+use crate::frame::{Notice, Report, SIGHT_BYTES, Transfer};
 use disk_dcdd::SECTOR_BYTES;
 use event_callbacks::PORTS;
 use i8080_words::GREATEST_NUMBER;
@@ -61,6 +61,14 @@ fn is_content(number: u64, bytes: &[u8; SECTOR_BYTES]) -> bool
     bytes.len() == SECTOR_BYTES && is_number(number)
 }
 
+// Two numbers, and what a machine has.
+fn is_sight(number: u64, count: u64, bytes: &[u8; SIGHT_BYTES]) -> bool
+    ensures { result ≡ (length bytes.now == 526 && (table.is_number number && table.is_number count)) }
+{
+    let bytes: &[u8] = bytes;
+    bytes.len() == SIGHT_BYTES && (is_number(number) && is_number(count))
+}
+
 // How far its machine is, and what waits.
 fn are_measures(report: &Report) -> bool
     ensures { result ≡ table.are_measures report.now }
@@ -93,6 +101,12 @@ pub(crate) fn is_transfer(transfer: &Transfer) -> bool
         Transfer::Written(number) | Transfer::Failed(number) => is_number(*number),
         Transfer::Get(_) => true,
         Transfer::Sector(read) => is_content(read.number, &read.bytes),
+        Transfer::Inspect { number, .. } => is_number(*number),
+        Transfer::Inspected {
+            number,
+            count,
+            bytes,
+        } => is_sight(*number, *count, bytes),
     }
 }
 

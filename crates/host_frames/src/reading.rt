@@ -5,8 +5,8 @@ ghost use Rattle.host_frames.specs.Frames.{IsBodyOf, Said, said_by};
 ghost use Rattle.host_frames.specs.Reading as grammar;
 
 use crate::fields::{
-    address_of, begin_of, byte_of, content_of, generation_of, join_of, key_of, number_of,
-    port_count_of, progress_of, tick_of,
+    address_of, begin_of, byte_of, content_of, generation_of, inspect_of, join_of, key_of,
+    number_of, port_count_of, progress_of, sight_of, tick_of,
 };
 use crate::frame::{Frame, Notice, Transfer};
 use crate::report::report_of;
@@ -132,6 +132,18 @@ fn transfer_of(tag: u8, rest: &[u8]) -> Option<Transfer>
         0x77 => Some(Transfer::Written(number_of(rest)?)),
         0x66 => Some(Transfer::Failed(number_of(rest)?)),
         0x47 => Some(Transfer::Get(address_of(rest)?)),
+        0x49 => {
+            let (page, number) = inspect_of(rest)?;
+            Some(Transfer::Inspect { number, page })
+        }
+        0x56 => {
+            let (number, count, bytes) = sight_of(rest)?;
+            Some(Transfer::Inspected {
+                number,
+                count,
+                bytes,
+            })
+        }
         _ => None,
     }
 }

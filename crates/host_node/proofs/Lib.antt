@@ -16,3 +16,4 @@ pub mod Waiting
 pub mod EarlyParts
 pub mod Ending
 pub mod Booting
+pub mod Joined

@@ -11,3 +11,4 @@ pub mod Early
 pub mod Speeds
 pub mod Ends
 pub mod Boots
+pub mod Sights

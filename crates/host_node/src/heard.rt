@@ -45,6 +45,8 @@ pub enum FrameOutcome {
     Asked { generation: u32, host: u8 },
     /// A part of an image came early, of this index.
     Early(u16),
+    /// Whoever is outside asks by this number what the machine has, with its memory from this page on.
+    Inspect { number: u64, page: u8 },
     /// The outside is there, by its tick of this number, and a guest makes at most so many steps a second; 0 if it runs as fast as it can.
     Tick { number: u64, speed: u64 },
 }

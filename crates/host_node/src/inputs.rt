@@ -41,9 +41,14 @@ impl<B: Copies<H> + Drop, H: Drop> HostNode<B, H> {
             Transfer::Written(number) => self.take_written(*number),
             Transfer::Failed(number) => Ok(FrameOutcome::Failed(*number)),
             Transfer::Sector(read) => self.take_sector(read),
-            Transfer::Byte { .. } | Transfer::Write(_) | Transfer::Get(_) => Ok(
-                FrameOutcome::Nothing,
-            ),
+            Transfer::Inspect { number, page } => Ok(FrameOutcome::Inspect {
+                number: *number,
+                page: *page,
+            }),
+            Transfer::Byte { .. }
+            | Transfer::Write(_)
+            | Transfer::Get(_)
+            | Transfer::Inspected { .. } => Ok(FrameOutcome::Nothing),
         }
     }
 

@@ -8,6 +8,7 @@ mod heard;
 mod hearing;
 mod host;
 mod inputs;
+mod inspecting;
 mod joining;
 mod lag;
 mod lagging;
@@ -22,6 +23,7 @@ mod speed;
 
 pub use heard::FrameOutcome;
 pub use host::{HostNode, Hosted};
+pub use inspecting::Inspect;
 pub use laws::hosts_boot;
 pub use mail::{KEYS, KeptKey, Mail};
 pub use pace::{End, Settings, TICK};

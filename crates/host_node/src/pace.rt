@@ -202,6 +202,7 @@ impl Schedule {
             FrameOutcome::Nothing
             | FrameOutcome::Malformed
             | FrameOutcome::Lost
+            | FrameOutcome::Inspect { .. }
             | FrameOutcome::Asked { .. } => {}
         }
     }

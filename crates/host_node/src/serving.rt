@@ -4,7 +4,9 @@ ghost use Rattle.host_node.specs.Ends.{HasNoMachine, IsEnd, IsRefusal};
 ghost use Rattle.host_node.specs.Goes.{Goes};
 ghost use Rattle.host_node.specs.declared.pace.End.TheVariants as of_end;
 
+use crate::heard::FrameOutcome;
 use crate::host::HostNode;
+use crate::inspecting::Inspect;
 use crate::pace::{End, Schedule, Settings, TICK};
 use crate::reporting::Known;
 use board_image::{KeyRoom, OutstandingWrites, Snapshots};
@@ -38,7 +40,7 @@ pub struct Serving<B: Copies<H> + Drop, H: Drop> {
 /// parker.
 #[tactic(auto, using(crate::proofs::Going::stays, crate::proofs::Going::and_then))]
 pub fn serve<
-    B: Copies<H> + KeyRoom + OutstandingWrites + Snapshots + Drop,
+    B: Copies<H> + KeyRoom + OutstandingWrites + Snapshots + Inspect + Drop,
     H: Drop,
     C: Wait + Clock,
 >(rt: &C, host: HostNode<B, H>, settings: Settings, wake: &Parker) -> (HostNode<B, H>, End)
@@ -55,7 +57,10 @@ pub fn serve<
     (serving.host, end)
 }
 
-impl<B: Copies<H> + KeyRoom + OutstandingWrites + Snapshots + Drop, H: Drop> Serving<B, H> {
+impl<B: Copies<H> + KeyRoom + OutstandingWrites + Snapshots + Inspect + Drop, H: Drop> Serving<
+    B,
+    H,
+> {
     // Takes turns until there is a reason to end.
     #[tactic(auto, using(crate::proofs::Going::stays, crate::proofs::Going::and_then, crate::proofs::Ending::ends_since))]
     fn serve_all<C: Wait + Clock>(&mut self, rt: &C, wake: &Parker) -> End
@@ -120,7 +125,18 @@ impl<B: Copies<H> + KeyRoom + OutstandingWrites + Snapshots + Drop, H: Drop> Ser
         let peer = self.host.peer();
         self.pace.note(heard, peer);
         self.prepare(heard);
+        self.answer(heard);
         Ok(true)
+    }
+
+    // Shows what the machine has if that was asked, as it is now. Without room or memory for the answer it is asked again.
+    #[tactic(auto, using(crate::proofs::Going::stays))]
+    fn answer(&mut self, heard: FrameOutcome)
+        ensures { Goes B.state B.machine B.copied self.old.host self.new.host }
+    {
+        if let FrameOutcome::Inspect { number, page } = heard {
+            let _ = self.host.show(number, page).is_ok();
+        }
     }
 
     // Goes on, unless no frame can come any more.

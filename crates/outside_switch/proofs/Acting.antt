@@ -26,7 +26,7 @@ use Rattle.host_frames.specs.declared.frame.Notice.{Notice}
 use Rattle.host_frames.specs.declared.frame.Notice.TheVariants.{Begin, Gone, Join, Progress, Report, Stop, Suspect, Tick, Won}
 use Rattle.host_frames.specs.declared.frame.Notice.TheVariants as notice
 use Rattle.host_frames.specs.declared.frame.Report as host
-use Rattle.host_frames.specs.declared.frame.Transfer.TheVariants.{Accepted, Byte, Failed, Get, Key, Sector, Write, Written}
+use Rattle.host_frames.specs.declared.frame.Transfer.TheVariants.{Accepted, Byte, Failed, Get, Inspect, Key, Sector, Write, Written}
 use Rattle.host_law.specs.Frame as law
 use Rattle.host_law.specs.Frame.{Act, Came}
 use Rattle.outside_switch.specs.DeviceCalls.{Asks, Puts, Reads, admitted_after, arrived_after, is_accepted, key_answer, terminal_at, told_after, typed_after, typed_answer}
@@ -345,6 +345,14 @@ key_met place port index byte r a b key devices posts =
     one_met None a b _ _ place (Transfers (Key port index byte)) r
     (called_one a.devices b.devices _ (calls.SendsKey port index byte key devices))
     (λ drives frames brings. tt) (λ bytes drives host frame is means. inl (only drives host _ frame means)) posts
+
+-- a host was asked what its machine has, which means nothing
+pub inspect_met : (place number page : ℕ) (r : Bool) (a b : Seen) → b.devices ≡ a.devices →
+    Posts place (Transfers (Inspect number page)) r a.lines b.lines → MeetsWith [] None a b
+inspect_met place number page r a b devices posts =
+    one_met None a b [] [] place (Transfers (Inspect number page)) r (called_none a.devices b.devices devices)
+    (λ drives frames brings. tt)
+    (λ bytes drives host frame is means. absurd (only drives host (Transfers (Inspect number page)) frame means)) posts
 
 pub typed_met : (port byte index : ℕ) (a b : Seen) → typed_answer a.devices.terminals port ≡ Ok index →
     b.devices ≡ record a.devices { terminals = typed_after a.devices.terminals port byte } → b.lines ≡ a.lines →

@@ -39,13 +39,13 @@ kept_open a place before after there same n = go (n == place) refl
 
 -- ---- the moves of a switch
 
-came_open : (a b : List HostLine) (place : ℕ) (body : Vec ℕ) → OneLine place (LineGoes (body ∷ []) []) a b → (n : ℕ) →
+pub came_open : (a b : List HostLine) (place : ℕ) (body : Vec ℕ) → OneLine place (LineGoes (body ∷ []) []) a b → (n : ℕ) →
     open_in (slice_get b n) ≡ open_in (slice_get a n)
 came_open a b place body one n =
     ap (λ l. open_in (slice_get l n)) one.set
     ∙ kept_open a place one.before one.after one.there (took_none-same [] one.before.to one.after.to one.becomes.gone) n
 
-named_open : (a b : List HostLine) (place number : ℕ) → AtPlace place (IsNamed number) a b → (n : ℕ) →
+pub named_open : (a b : List HostLine) (place number : ℕ) → AtPlace place (IsNamed number) a b → (n : ℕ) →
     open_in (slice_get b n) ≡ open_in (slice_get a n)
 named_open a b place number at n = elim at [
   | inl one ↦ ap (λ l. open_in (slice_get l n)) one.set
@@ -66,7 +66,7 @@ shut_by a b (goes.Acts meets) n shut = still_open meets.pushed a.lines b.lines n
 shut_by a b (goes.Hears taken place body said takes is meets) n shut =
     still_open meets.pushed taken.lines b.lines n meets.lines ∙ came_open a.lines taken.lines place body takes.lines n ∙ shut
 shut_by a b (goes.Drops place body takes) n shut = came_open a.lines b.lines place body takes.lines n ∙ shut
-shut_by a b (goes.Closes place closes) n shut = closed_shut a.lines b.lines place closes.lines n shut
+shut_by a b (goes.Closes place cause closes) n shut = closed_shut a.lines b.lines place closes.lines n shut
 shut_by a b (goes.Names begun place generation may begins names) n shut =
     named_open begun.lines b.lines place generation names.lines n
     ∙ still_open begins.meets.pushed a.lines begun.lines n begins.meets.lines ∙ shut
@@ -78,7 +78,7 @@ shut_on a b (goes.Next {mid = mid} new before move) n shut = shut_by mid new mov
 -- ---- what is counted
 
 -- only the count of one place is another
-one_other : (xs : List ℕ) (i n x : ℕ) →
+pub one_other : (xs : List ℕ) (i n x : ℕ) →
     (n ≡ i) ⊎ (slice_index_or (slice_set xs i x) n 0 ≡ slice_index_or xs n 0)
 one_other [] i n x = inr refl
 one_other (y ∷ ys) zero zero x = inl refl
@@ -94,7 +94,7 @@ none_there [] i = refl
 none_there (y ∷ ys) zero = refl
 none_there (y ∷ ys) (suc i) = none_there ys i
 
-set_at_most : (xs : List ℕ) (i x : ℕ) → slice_index_or (slice_set xs i x) i 0 ≤ x
+pub set_at_most : (xs : List ℕ) (i x : ℕ) → slice_index_or (slice_set xs i x) i 0 ≤ x
 set_at_most [] i x = subst (λ (k : ℕ). k ≤ x) (sub_self x) (sub-le x x)
 set_at_most (y ∷ ys) zero x = le_refl x
 set_at_most (y ∷ ys) (suc i) x = set_at_most ys i x
@@ -122,7 +122,7 @@ module _ {D S : Type 0} where
   ]
 
   -- a body was taken: a host that has sent too much by that is cut off
-  taken_is : (c : Bool) (place : ℕ) (a b : Session D S) → TakesOne c place a b → b.flood.sent ≡ counted_one a.flood.sent place
+  pub taken_is : (c : Bool) (place : ℕ) (a b : Session D S) → TakesOne c place a b → b.flood.sent ≡ counted_one a.flood.sent place
   taken_is true place a b taken = ap (λ (f : Flood). f.sent) taken.flood_is
   taken_is false place a b taken = ap (λ (f : Flood). f.sent) taken.flood_is
 

@@ -6,6 +6,7 @@ use Rattle.host_frames.specs.Frames.{IsBodyOf, Said}
 use Rattle.outside_switch.proofs.Acting.{nothing_met}
 use Rattle.outside_switch.specs.declared.line.HostLine.{HostLine}
 use Rattle.std.specs.Prelude.{List, [], Option, None, Some, drop, length, take}
+use Rattle.outside_switch.specs.Causes.{MayCut}
 use Rattle.outside_switch.specs.Goes as goes
 use Rattle.outside_switch.specs.Goes.{Begins, Goes, GoesWith, HearsBody, HearsFrame, Lines, Moves, NextSo, Takes, passed_by, passed_in}
 use Rattle.outside_switch.specs.Lines.{HearsAt, IsClosed, IsNamed, LinesGo, MayBeGiven}
@@ -45,8 +46,8 @@ once a b move = record { way = goes.Next b goes.Rests move; passes = refl }
 pub acts : (a b : Seen) (passed : List Passed) → MeetsWith passed None a b → GoesWith passed a b
 acts a b passed m = subst (λ l. GoesWith l a b) m.passes (once a b (goes.Acts m.meets))
 
-pub closes : (a b : Seen) (place : ℕ) → Lines place IsClosed a b → GoesWith [] a b
-closes a b place is = once a b (goes.Closes place is)
+pub closes : (a b : Seen) (place : ℕ) → MayCut a.lines place → Lines place IsClosed a b → GoesWith [] a b
+closes a b place cause is = once a b (goes.Closes place cause is)
 
 hears : (a taken b : Seen) (passed : List Passed) (place : ℕ) (body : Vec ℕ) (said : Said) → Takes place body a taken →
     IsBodyOf said body.items → HearsFrame passed place said taken b → GoesWith passed a b

@@ -15,5 +15,8 @@ pub mod DeviceSteps
 pub mod Typing
 pub mod TurnsPassing
 pub mod Cutting
+pub mod Coming
+pub mod Causing
+pub mod Counting
 pub mod TurnsGoing
 pub mod Deserted

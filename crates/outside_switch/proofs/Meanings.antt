@@ -9,7 +9,7 @@ use Rattle.host_frames.specs.Frames.{Said, Packet, Transfers, Tells}
 use Rattle.host_frames.specs.Meaning as meaning
 use Rattle.host_frames.specs.Meaning.{IsPart, Means, address_of_read}
 use Rattle.host_frames.specs.declared.frame.Notice.TheVariants.{Begin, Gone, Join, Lost, Progress, Report, Stop, Suspect, Tick, Won}
-use Rattle.host_frames.specs.declared.frame.Transfer.TheVariants.{Accepted, Byte, Failed, Get, Key, Sector, Write, Written}
+use Rattle.host_frames.specs.declared.frame.Transfer.TheVariants.{Accepted, Byte, Failed, Get, Inspect, Inspected, Key, Sector, Write, Written}
 use Rattle.host_law.specs.Frame as law
 use Rattle.log_channel.specs.Packet.{IsPacket, packet_bytes}
 use Rattle.log_channel.specs.declared.packet.Packet as channel
@@ -42,6 +42,8 @@ Only drives host (Transfers (Failed number)) frame = ⊥
 Only drives host (Transfers (Get address)) frame = frame ≡ law.AsksSector address
 Only drives host (Transfers (Sector read)) frame =
     frame ≡ law.Carries (message.SectorRead (address_of_read read) read.number read.bytes)
+Only drives host (Transfers (Inspect number page)) frame = ⊥
+Only drives host (Transfers (Inspected number count bytes)) frame = ⊥
 Only drives host (Tells (Suspect generation)) frame = frame ≡ law.AsksArbiter host generation
 Only drives host (Tells (Won generation)) frame = frame ≡ law.HasWon generation host
 Only drives host (Tells (Lost generation)) frame = frame ≡ law.HasLost generation host

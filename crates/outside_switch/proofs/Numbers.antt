@@ -137,7 +137,7 @@ moved_numbers old new (goes.Hears taken place body said takes is meets) n =
     inl (same_numbers meets.pushed taken.lines new.lines meets.lines n
     ∙ one_numbers old.lines taken.lines place body takes.lines n)
 moved_numbers old new (goes.Drops place body takes) n = inl (one_numbers old.lines new.lines place body takes.lines n)
-moved_numbers old new (goes.Closes place closes) n = inl (closed_numbers old.lines new.lines place closes.lines n)
+moved_numbers old new (goes.Closes place cause closes) n = inl (closed_numbers old.lines new.lines place closes.lines n)
 moved_numbers old new (goes.Names begun place generation may begins names) n =
     named old begun new place generation n may begins.counted
     (same_numbers begins.meets.pushed old.lines begun.lines begins.meets.lines) names

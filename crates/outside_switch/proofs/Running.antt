@@ -72,7 +72,7 @@ moved_more old new (goes.Hears taken place body said takes is meets) =
     let same = ap (λ (h : Held). h.hosts) takes.devices in
     omega (arith, more, same)
 moved_more old new (goes.Drops place body takes) = no_fewer old.devices new.devices (ap (λ (h : Held). h.hosts) takes.devices)
-moved_more old new (goes.Closes place closes) = no_fewer old.devices new.devices (ap (λ (h : Held). h.hosts) closes.devices)
+moved_more old new (goes.Closes place cause closes) = no_fewer old.devices new.devices (ap (λ (h : Held). h.hosts) closes.devices)
 moved_more old new (goes.Names begun place generation may begins names) =
     let more = called_more old.devices begun.devices begins.meets.read begins.meets.written begins.meets.called in
     let same = ap (λ (h : Held). h.hosts) names.devices in
@@ -244,7 +244,7 @@ module _ {S : Type 0} (M : Machine S) (drives : ℕ) where
       (stays old.devices taken.devices o takes.devices shows) few brings
   move_runs frames old new (goes.Drops place body takes) o shows few brings =
       still_runs frames o old.devices new.devices takes.devices shows
-  move_runs frames old new (goes.Closes place closes) o shows few brings =
+  move_runs frames old new (goes.Closes place cause closes) o shows few brings =
       still_runs frames o old.devices new.devices closes.devices shows
   move_runs frames old new (goes.Names begun place generation may begins names) o shows few brings =
       let m = met_runs frames None old begun begins.meets o shows

@@ -11,12 +11,13 @@ use Rattle.outside_switch.specs.declared.heard.BodyOutcome.{BodyOutcome}
 use Rattle.outside_switch.specs.declared.heard.BodyOutcome.TheVariants as heard
 use Rattle.console_terminal.specs.Lines.{HasRoom, HasShown, IsSameStart, with_byte}
 use Rattle.console_terminal.specs.declared.screen.Screen.{Screen}
+use Rattle.outside_switch.proofs.Counting.{counted_on, counted_paid, counted_rested, counted_taken, none_flooded, none_yet}
 use Rattle.outside_switch.proofs.Cutting.{cut_on, cut_paid, cut_rested, cut_taken}
 use Rattle.outside_switch.proofs.TurnsPassing.{looked, shows_both, shows_byte, shows_none, shows_typings, typed_here, typed_there}
 use Rattle.outside_switch.proofs.Typing.{types_both, types_rest}
 use Rattle.outside_switch.specs.Floods as floods
-use Rattle.outside_switch.specs.Floods.{accepted_one, has_flooded, rested, sent_one}
-use Rattle.outside_switch.specs.Judging.{FloodersAreCut, HearsOne, TakesOne}
+use Rattle.outside_switch.specs.Floods.{accepted_one, cleared, has_flooded, rested, sent_one}
+use Rattle.outside_switch.specs.Judging.{AreCounted, FloodersAreCut, HasOneMore, HearsOne, TakesOne}
 use Rattle.outside_switch.specs.Ports.{Rests, Types, TypesKeys, typings}
 use Rattle.outside_switch.specs.LoopRuns.{IsTold, MayShow, Shows, Went}
 use Rattle.outside_switch.specs.declared.flood.Flood.{Flood}
@@ -52,24 +53,27 @@ module _ {D S : Type 0} where
         (types_both a.second b.second c.second (typed_at 1 p.passed) (typed_at 1 q.passed) p.second q.second);
     screen = shows_both p.passed q.passed a.screen b.screen c.screen p.screen q.screen;
     cut = λ all. q.cut (p.cut all);
+    counted = λ all. q.counted (p.counted all);
   }
 
-  -- nothing was typed and shown, and whoever has sent too much is cut off
+  -- nothing was typed and shown, and whoever has sent too much is cut off; of none is counted what has not come
   silently : (a b : Session D S) → GoesWith [] (seen a.switch) (seen b.switch) → Rests a.first b.first →
-      Rests a.second b.second → b.screen ≡ a.screen → (FloodersAreCut a → FloodersAreCut b) → Went a b
-  silently a b goes first second screen cut = record {
+      Rests a.second b.second → b.screen ≡ a.screen → (FloodersAreCut a → FloodersAreCut b) → (AreCounted a → AreCounted b) → Went a b
+  silently a b goes first second screen cut counted = record {
     passed = [];
     goes = goes;
     first = types_rest a.first b.first first;
     second = types_rest a.second b.second second;
     screen = as_before a.screen b.screen screen;
     cut = cut;
+    counted = counted;
   }
 
   -- nothing was counted either
   quietly : (a b : Session D S) → GoesWith [] (seen a.switch) (seen b.switch) → Rests a.first b.first →
       Rests a.second b.second → b.screen ≡ a.screen → b.flood.sent ≡ a.flood.sent → Went a b
-  quietly a b goes first second screen counts = silently a b goes first second screen (cut_on a b [] goes counts)
+  quietly a b goes first second screen counts =
+      silently a b goes first second screen (cut_on a b [] goes counts) (counted_on a b [] goes counts)
 
   -- the switch did something of its own, or two things
   pub switched : (a b : Session D S) → GoesWith [] (seen a.switch) (seen b.switch) → b.first ≡ a.first → b.second ≡ a.second →
@@ -117,13 +121,14 @@ module _ {D S : Type 0} where
   rested_one a b place flood is first second screen =
       silently a b (stood a b is) (unchanged a.first b.first first) (unchanged a.second b.second second) screen
       (cut_rested a.flood.has_ticked a b place (stood a b is) flood)
+      (counted_rested a.flood.has_ticked a b place (stood a b is) flood)
 
   -- what one brought was accepted
   pub paid_one : (a b : Session D S) (place : ℕ) → b.flood ≡ accepted_one place a.flood → b.switch ≡ a.switch →
       b.first ≡ a.first → b.second ≡ a.second → b.screen ≡ a.screen → Went a b
   paid_one a b place flood is first second screen =
       silently a b (stood a b is) (unchanged a.first b.first first) (unchanged a.second b.second second) screen
-      (cut_paid a b place (stood a b is) flood)
+      (cut_paid a b place (stood a b is) flood) (counted_paid a b place (stood a b is) flood)
 
   -- one was refused
   pub refused_one : (a b : Session D S) (place : ℕ) → b.flood ≡ floods.refused_one place a.flood → b.switch ≡ a.switch →
@@ -133,10 +138,18 @@ module _ {D S : Type 0} where
 
   -- one was taken, and its host may be cut off
   pub takes : (a b : Session D S) (place : ℕ) → TakesOne (has_flooded (sent_one place a.flood) place) place a b →
-      GoesWith [] (seen a.switch) (seen b.switch) → b.first ≡ a.first → b.second ≡ a.second → b.screen ≡ a.screen → Went a b
-  takes a b place taken goes first second screen =
+      GoesWith [] (seen a.switch) (seen b.switch) → HasOneMore place a → b.first ≡ a.first → b.second ≡ a.second →
+      b.screen ≡ a.screen → Went a b
+  takes a b place taken goes room first second screen =
       silently a b goes (unchanged a.first b.first first) (unchanged a.second b.second second) screen
-      (cut_taken a b place goes taken)
+      (cut_taken a b place goes taken) (counted_taken a b place goes taken room)
+
+  -- counts begin anew
+  pub clears : (a b : Session D S) → b.flood ≡ cleared a.flood → b.switch ≡ a.switch → b.first ≡ a.first →
+      b.second ≡ a.second → b.screen ≡ a.screen → Went a b
+  clears a b flood is first second screen =
+      silently a b (stood a b is) (unchanged a.first b.first first) (unchanged a.second b.second second) screen
+      (λ all. none_flooded a b flood) (λ all. none_yet a b flood)
 
   -- keys were typed at the first port, or at the second one
   pub types_first : (a b : Session D S) → TypesKeys 0 a.first b.first (seen a.switch) (seen b.switch) → b.second ≡ a.second →
@@ -148,6 +161,7 @@ module _ {D S : Type 0} where
     second = typed_elsewhere 0 1 t.keys refl a.second b.second second;
     screen = subst (λ s. Shows (typings 0 t.keys) a.screen s) (sym screen) (shows_typings 0 t.keys a.screen);
     cut = cut_on a b (typings 0 t.keys) t.goes counts;
+    counted = counted_on a b (typings 0 t.keys) t.goes counts;
   }
 
   pub types_second : (a b : Session D S) → TypesKeys 1 a.second b.second (seen a.switch) (seen b.switch) → b.first ≡ a.first →
@@ -159,6 +173,7 @@ module _ {D S : Type 0} where
     second = typed_port 1 a.second b.second (seen a.switch) (seen b.switch) t;
     screen = subst (λ s. Shows (typings 1 t.keys) a.screen s) (sym screen) (shows_typings 1 t.keys a.screen);
     cut = cut_on a b (typings 1 t.keys) t.goes counts;
+    counted = counted_on a b (typings 1 t.keys) t.goes counts;
   }
 
   -- the screen was looked at, a host was heard, and what is to be shown of it was
@@ -175,6 +190,7 @@ module _ {D S : Type 0} where
     screen = shows_both [] passed a.screen b.screen c.screen
         (subst (λ s. Shows [] a.screen s) (sym screen) looks.screen) told.screen;
     cut = cut_on a c passed gone (ap (λ (f : Flood). f.sent) (told.flood ∙ flood ∙ looks.flood));
+    counted = counted_on a c passed gone (ap (λ (f : Flood). f.sent) (told.flood ∙ flood ∙ looks.flood));
   }
     where
       gone : GoesWith passed (seen a.switch) (seen c.switch)
@@ -232,12 +248,14 @@ pub types_nothing : (heard : BodyOutcome) (port : ℕ) → typed_at port (passed
 types_nothing (heard.Shown port byte) at = refl
 types_nothing heard.Nothing at = refl
 types_nothing heard.Met at = refl
+types_nothing (heard.Read address) at = refl
 types_nothing heard.Written at = refl
 types_nothing heard.Unwritten at = refl
 types_nothing (heard.Became role) at = refl
 types_nothing (heard.Won generation) at = refl
 types_nothing (heard.Lost generation) at = refl
 types_nothing heard.Failed at = refl
+types_nothing heard.Ended at = refl
 
 -- a screen that has room may show
 pub may_show : (room : Bool) (screen : Screen) → (room ≡ true → HasRoom screen.ring) → (heard : BodyOutcome) →

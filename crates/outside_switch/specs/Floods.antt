@@ -15,6 +15,7 @@ accepted_if is_open = if is_open then Accepted else Refused
 
 abbrev pub came_of : BodyOutcome → Bool → Came
 came_of heard.Nothing is_open = Nothing
+came_of heard.Ended is_open = Nothing
 came_of heard.Failed is_open = Refused
 came_of (heard.Shown port byte) is_open = accepted_if is_open
 came_of heard.Written is_open = accepted_if is_open
@@ -51,6 +52,10 @@ rested place flood = if flood.has_ticked then record flood { sent = slice_set fl
 
 abbrev pub ticked : Bool → Flood → Flood
 ticked has_ticked flood = record flood { has_ticked = has_ticked }
+
+-- nothing is counted yet
+abbrev pub cleared : Flood → Flood
+cleared flood = record flood { sent = replicate 256 0 }
 
 -- a host has sent too much
 abbrev pub has_flooded : Flood → ℕ → Bool

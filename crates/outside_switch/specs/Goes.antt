@@ -5,6 +5,7 @@ use Rattle.host_frames.specs.Frames.{IsBodyOf, IsSpelling, Said, Tells, Transfer
 use Rattle.host_frames.specs.declared.frame.Notice.TheVariants.{Begin}
 use Rattle.host_frames.specs.declared.frame.Transfer.TheVariants.{Key}
 use Rattle.i8080_words.specs.declared.refusal.Fault.{Fault}
+use Rattle.outside_switch.specs.Causes.{CameOn, MayCut}
 use Rattle.outside_switch.specs.Heeds.{HeedsBody}
 use Rattle.outside_switch.specs.declared.heard.BodyOutcome.{BodyOutcome}
 use Rattle.outside_switch.specs.declared.heard.BodyOutcome.TheVariants.{Nothing}
@@ -47,8 +48,8 @@ pub data Moves (old new : Seen) : Type 0 where
       IsBodyOf said body.items → Meets (Some (record { place = place; said = said })) taken new → Moves old new
   -- what came from a host was dropped
   Drops : (place : ℕ) (body : Vec ℕ) → Takes place body old new → Moves old new
-  -- a host is cut off
-  Closes : (place : ℕ) → Lines place IsClosed old new → Moves old new
+  -- a host is cut off, for a cause
+  Closes : (place : ℕ) → MayCut old.lines place → Lines place IsClosed old new → Moves old new
   -- a host is this one of the law from now on: it was given to a generation, and has its number
   Names : (begun : Seen) (place generation : ℕ) → MayBeGiven generation place old.lines →
       Begins place generation old begun → Lines place (IsNamed generation) begun new → Moves old new
@@ -63,7 +64,7 @@ abbrev pub passed_by : {old new : Seen} → Moves old new → List Passed
 passed_by (Acts meets) = passed_by_calls meets.called
 passed_by (Hears taken place body said takes is meets) = passed_by_calls meets.called
 passed_by (Drops place body takes) = []
-passed_by (Closes place closes) = []
+passed_by (Closes place cause closes) = []
 passed_by (Names begun place generation may begins names) = passed_by_calls begins.meets.called
 
 abbrev pub passed_in : {first last : Seen} → Goes first last → List Passed
@@ -118,6 +119,7 @@ pub record HearsNext (place : ℕ) (rooms : List Bool) (old new : Seen) (heard :
   pub taken : Seen
   pub next : NextSo place body old taken
   pub heeds : HeedsNext place rooms body taken new heard
+  pub on : CameOn taken.lines new.lines
 
 -- ---- before it goes
 

@@ -1,13 +1,14 @@
 -- What the devices do of what a host says, and what whoever calls is told of it.
 use Rattle.std.specs.Prelude.{◌≡◌, ◌⊎◌, ◌<◌, ℕ, ◌==◌, Bool, true, false, not, is_none, nat_lt, if◌then◌else◌, List, length, slice_index, slice_index_or, slice_get, Option, Some, None, Result, Ok, Err}
 use Rattle.arbiter_core.specs.declared.arbiter.Won as arbiter
+use Rattle.disk_dcdd.specs.declared.address.SectorAddress.{SectorAddress}
 use Rattle.disk_dcdd.specs.declared.sector.SectorWrite.{SectorWrite}
 use Rattle.event_callbacks.specs.declared.devices.TheConstants.{PORTS}
 use Rattle.host_frames.specs.Frames.{IsBodyOf, Said, Packet, Transfers, Tells}
 use Rattle.host_frames.specs.declared.frame.Notice.{Notice}
 use Rattle.host_frames.specs.declared.frame.Notice.TheVariants.{Join, Progress, Report, Suspect}
 use Rattle.host_frames.specs.declared.frame.Transfer.{Transfer}
-use Rattle.host_frames.specs.declared.frame.Transfer.TheVariants.{Byte, Get, Write}
+use Rattle.host_frames.specs.declared.frame.Transfer.TheVariants.{Byte, Get, Inspected, Write}
 use Rattle.i8080_words.specs.declared.refusal.Fault.{Fault}
 use Rattle.i8080_words.specs.declared.refusal.Fault.TheVariants as fault
 use Rattle.outside_switch.specs.DeviceCalls.{Asks, Puts, Reads, arrived_after, is_accepted, told_after}
@@ -16,7 +17,7 @@ use Rattle.outside_switch.specs.Terminal.{KeptTerminal}
 use Rattle.shared_disk.specs.declared.disk.SectorRead.{SectorRead}
 use Rattle.outside_switch.specs.Lines.{number_at}
 use Rattle.outside_switch.specs.declared.heard.BodyOutcome.{BodyOutcome}
-use Rattle.outside_switch.specs.declared.heard.BodyOutcome.TheVariants.{Became, Failed, Lost, Met, Shown, Unwritten, Won, Written}
+use Rattle.outside_switch.specs.declared.heard.BodyOutcome.TheVariants.{Became, Failed, Lost, Met, Read, Shown, Unwritten, Won, Written, Ended, Nothing}
 use Rattle.outside_switch.specs.declared.line.HostLine.{HostLine}
 
 -- whether the screen of a port has room
@@ -38,6 +39,11 @@ told_unless terminals port keys = if keys == 0 then terminals else told_after te
 abbrev pub Stays : Held → Held → BodyOutcome → BodyOutcome → Type 0
 Stays old new heard is = (new ≡ old) × (heard ≡ is)
 
+-- a sector was read, or was not
+abbrev pub read_if : Result SectorRead Fault → SectorAddress → BodyOutcome
+read_if (Ok read) address = Read address
+read_if (Err why) address = Met
+
 -- a write is put or refused
 abbrev pub Writes : SectorWrite → Held → Held → BodyOutcome → Type 0
 Writes write old new Written = Puts old.records write (Ok tt) new.records
@@ -50,7 +56,8 @@ HeedsTransfer rooms (Byte port number byte) old new heard =
     × (heard ≡ shown_if (is_accepted old.terminals port number (room_of rooms port)) port byte)
 HeedsTransfer rooms (Write write) old new heard = Writes write old new heard
 HeedsTransfer rooms (Get address) old new heard =
-    ((result : Result SectorRead Fault) × Reads old.records address result new.records) × (heard ≡ Met)
+    (result : Result SectorRead Fault) × (Reads old.records address result new.records × (heard ≡ read_if result address))
+HeedsTransfer rooms (Inspected number count bytes) old new heard = Stays old new heard Met
 HeedsTransfer rooms transfer old new heard = Stays old new heard Failed
 
 -- the arbiter is asked by the host of a number
@@ -93,12 +100,25 @@ open_in (Some line) = not (is_none line.to)
 abbrev pub OthersStay : ℕ → List HostLine → List HostLine → Type 0
 OthersStay place old new = (other : ℕ) → (other ≡ place → ⊥) → open_in (slice_get new other) ≡ open_in (slice_get old other)
 
--- what comes from a host that is cut off is dropped, and one that sends what is no frame has failed
-abbrev pub HeedsOpen : Bool → ℕ → List Bool → List ℕ → List HostLine → Held → Held → BodyOutcome → Type 0
-HeedsOpen false place rooms body lines old new heard = Stays old new heard Met
-HeedsOpen true place rooms body lines old new heard =
+-- whether a body says that its stream has ended: it is empty, which no frame's body is
+abbrev pub is_end : List ℕ → Bool
+is_end body = length body == 0
+
+-- an end is no body that was dropped
+abbrev pub dropped_as : List ℕ → BodyOutcome
+dropped_as body = if is_end body then Nothing else Met
+
+-- one that sends what is no frame has failed
+abbrev pub HeedsUnless : Bool → ℕ → List Bool → List ℕ → List HostLine → Held → Held → BodyOutcome → Type 0
+HeedsUnless true place rooms body lines old new heard = Stays old new heard Ended
+HeedsUnless false place rooms body lines old new heard =
     ((said : Said) × IsBodyOf said body × HeedsAt place rooms said lines old new heard)
     ⊎ (((said : Said) → IsBodyOf said body → ⊥) × Stays old new heard Failed)
+
+-- what comes from a host that is cut off is dropped
+abbrev pub HeedsOpen : Bool → ℕ → List Bool → List ℕ → List HostLine → Held → Held → BodyOutcome → Type 0
+HeedsOpen false place rooms body lines old new heard = Stays old new heard (dropped_as body)
+HeedsOpen true place rooms body lines old new heard = HeedsUnless (is_end body) place rooms body lines old new heard
 
 abbrev pub HeedsBody : ℕ → List Bool → List ℕ → List HostLine → Held → Held → BodyOutcome → Type 0
 HeedsBody place rooms body lines old new heard =

@@ -1,11 +1,12 @@
 -- What becomes of a host by what it sends.
-use Rattle.std.specs.Prelude.{◌≡◌, ℕ, ◌-◌, nat_le, Bool, false, true, List, slice_get}
+use Rattle.std.specs.Prelude.{◌≡◌, ℕ, ◌-◌, ◌<◌, ◌≤◌, nat_le, Bool, false, true, List, length, slice_get}
+use Rattle.outside_switch.specs.Causes.{came_at}
 use Rattle.outside_switch.specs.Goes.{HearsNext}
 use Rattle.outside_switch.specs.Heeds.{OthersStay, open_in}
 use Rattle.outside_switch.specs.Meets.{seen}
 use Rattle.outside_switch.specs.declared.heard.BodyOutcome.{BodyOutcome}
 use Rattle.outside_switch.specs.declared.switch.Switch.{Switch}
-use Rattle.outside_switch.specs.Floods.{accepted_one, came_of, has_flooded, refused_one, rested, sent_one}
+use Rattle.outside_switch.specs.Floods.{accepted_one, came_of, count_at, has_flooded, refused_one, rested, sent_one}
 use Rattle.outside_switch.specs.declared.flood.Came.{Came}
 use Rattle.outside_switch.specs.declared.flood.Came.TheVariants.{Accepted, Nothing, Refused, Taken}
 use Rattle.outside_switch.specs.declared.flood.Flood.{Flood}
@@ -18,6 +19,14 @@ is_open switch place = open_in (slice_get switch.lines.items place)
 -- whoever has sent too much is cut off
 abbrev pub FloodersAreCut : {D S : Type 0} → Session D S → Type 0
 FloodersAreCut s = (place : ℕ) → has_flooded s.flood place ≡ true → is_open s.switch place ≡ false
+
+-- no more bodies are counted of a host than have come from it
+abbrev pub AreCounted : {D S : Type 0} → Session D S → Type 0
+AreCounted s = (place : ℕ) → count_at s.flood.sent place ≤ length (came_at s.switch.lines.items place)
+
+-- one body has come from a host that is not counted
+abbrev pub HasOneMore : {D S : Type 0} → ℕ → Session D S → Type 0
+HasOneMore place s = count_at s.flood.sent place < length (came_at s.switch.lines.items place)
 
 -- the counts are these now, and no host is cut off
 pub record IsCounted {D S : Type 0} (flood : Flood) (old new : Session D S) : Type 0 where

@@ -2,6 +2,7 @@ pub mod Lines
 pub mod Calls
 pub mod Says
 pub mod Heeds
+pub mod Causes
 pub mod Passing
 pub mod Meets
 pub mod Goes
@@ -17,4 +18,5 @@ pub mod Ran
 pub mod Floods
 pub mod Judging
 pub mod Ports
+pub mod Silence
 pub mod LoopRuns

@@ -12,7 +12,7 @@ use Rattle.outside_switch.specs.declared.heard.BodyOutcome.TheVariants.{Shown}
 use Rattle.outside_switch.specs.declared.line.HostLine.{HostLine}
 use Rattle.console_terminal.specs.Lines.{HasRoom, HasShown, IsSameStart}
 use Rattle.console_terminal.specs.declared.screen.Screen.{Screen}
-use Rattle.outside_switch.specs.Judging.{FloodersAreCut}
+use Rattle.outside_switch.specs.Judging.{AreCounted, FloodersAreCut}
 use Rattle.outside_switch.specs.Ports.{BeginsAt, IsOver, Types}
 use Rattle.outside_switch.specs.declared.live.Live.{Live}
 use Rattle.outside_switch.specs.declared.session.HostsEnd.{HostsEnd}
@@ -26,7 +26,7 @@ pub record Shows (passed : List Passed) (old new : Screen) : Type 0 where
   pub shown : (at : ℕ) (before : List ℕ) → HasShown old at before → HasShown new at (before ++ shown_at at passed)
 
 -- The switch went on, and what passed meanwhile between its devices and the user was typed at both ports and shown. A host that has
--- sent too much was cut off.
+-- sent too much was cut off; of none was counted what has not come.
 pub record Went {D S : Type 0} (old new : Session D S) : Type 0 where
   pub passed : List Passed
   pub goes : GoesWith passed (seen old.switch) (seen new.switch)
@@ -34,6 +34,7 @@ pub record Went {D S : Type 0} (old new : Session D S) : Type 0 where
   pub second : Types (typed_at 1 passed) old.second new.second
   pub screen : Shows passed old.screen new.screen
   pub cut : FloodersAreCut old → FloodersAreCut new
+  pub counted : AreCounted old → AreCounted new
 
 -- this was shown, and all else is as it was
 pub record IsTold {D S : Type 0} (passed : List Passed) (old new : Session D S) : Type 0 where
@@ -88,7 +89,7 @@ pub record HasIdleGuest (lines : List HostLine) : Type 0 where
   pub is : IsLive lines live
   pub idle : live.report.is_idle ≡ true
 
--- by its last turn nothing has moved for as long as it may be so: no key was typed, and nothing was shown and written
+-- by its last turn nothing has moved for as long as it may be so: no key was typed, nothing was shown and written, and none read on another track
 abbrev pub is_silent : {D S : Type 0} → Session D S → Bool
 is_silent s = nat_le s.silence (s.moments.turned - s.moments.moved)
 

@@ -7,6 +7,7 @@ use Rattle.shared_disk.specs.declared.store.Record.{Record}
 use Rattle.outside_switch.specs.Held.{Held, at_boot}
 use Rattle.outside_switch.specs.Ran.{OutsideRan}
 use Rattle.outside_switch.specs.Shown.{Shows}
+use Rattle.outside_switch.specs.Causes.{AreCutForCause}
 use Rattle.outside_switch.specs.Goes as goes
 use Rattle.outside_switch.specs.Goes.{Goes, Moves, passed_by}
 use Rattle.outside_switch.specs.Lines.{AreApart, Pushed, number_at}
@@ -21,21 +22,21 @@ abbrev pub read_by : {old new : Seen} → Moves old new → List Frame
 read_by (goes.Acts meets) = meets.read
 read_by (goes.Hears taken place body said takes is meets) = meets.read
 read_by (goes.Drops place body takes) = []
-read_by (goes.Closes place closes) = []
+read_by (goes.Closes place cause closes) = []
 read_by (goes.Names begun place generation may begins names) = begins.meets.read
 
 abbrev pub written_by : {old new : Seen} → Moves old new → List Frame
 written_by (goes.Acts meets) = meets.written
 written_by (goes.Hears taken place body said takes is meets) = meets.written
 written_by (goes.Drops place body takes) = []
-written_by (goes.Closes place closes) = []
+written_by (goes.Closes place cause closes) = []
 written_by (goes.Names begun place generation may begins names) = begins.meets.written
 
 abbrev pub pushed_by : {old new : Seen} → Moves old new → List Pushed
 pushed_by (goes.Acts meets) = meets.pushed
 pushed_by (goes.Hears taken place body said takes is meets) = meets.pushed
 pushed_by (goes.Drops place body takes) = []
-pushed_by (goes.Closes place closes) = []
+pushed_by (goes.Closes place cause closes) = []
 pushed_by (goes.Names begun place generation may begins names) = begins.meets.pushed
 
 -- what a host said brings what it means
@@ -44,7 +45,7 @@ MoveBrings drives frames (goes.Acts meets) = Unit {0}
 MoveBrings drives frames (goes.Hears taken place body said takes is meets) =
     Brings drives taken.lines (Some (record { place = place; said = said })) frames
 MoveBrings drives frames (goes.Drops place body takes) = Unit {0}
-MoveBrings drives frames (goes.Closes place closes) = Unit {0}
+MoveBrings drives frames (goes.Closes place cause closes) = Unit {0}
 MoveBrings drives frames (goes.Names begun place generation may begins names) = Unit {0}
 
 -- what was shown is what terminals of the law have accepted, in order and each once, and what was typed was typed at them
@@ -76,6 +77,11 @@ SwitchBegins S = (M : Machine S) (drives : ℕ) (records : List Record) (may_fai
 -- hosts come, and none goes
 abbrev pub HostsStay : Type 0
 HostsStay = (old new : Seen) → Moves old new → old.devices.hosts ≤ new.devices.hosts
+
+-- ---- causes
+
+abbrev pub CutsHaveCauses : Type 0
+CutsHaveCauses = (first last : Seen) → Goes first last → AreCutForCause first.lines → AreCutForCause last.lines
 
 -- ---- numbers
 

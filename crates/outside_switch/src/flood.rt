@@ -1,6 +1,6 @@
 //! How many bodies of each host were taken lately, and how many were refused.
 ghost use Rattle.std.specs.Prelude.{◌≡◌};
-ghost use Rattle.outside_switch.specs.Floods.{accepted_if, accepted_one, came_of, count_at, has_flooded, one_more, refused_one, rested, sent_one, taken_if, ticked, unheard};
+ghost use Rattle.outside_switch.specs.Floods.{accepted_if, accepted_one, came_of, cleared, count_at, has_flooded, one_more, refused_one, rested, sent_one, taken_if, ticked, unheard};
 
 use crate::BodyOutcome;
 
@@ -18,7 +18,7 @@ const PLACES: usize = 256;
 /// What became of the next body of a host.
 #[derive(Clone, Copy)]
 pub(crate) enum Came {
-    /// None waited.
+    /// None waited, or its stream has ended.
     Nothing,
     /// It is no frame or means nothing where it comes from, or its host was cut off before.
     Refused,
@@ -33,8 +33,10 @@ pub(crate) fn came_of(heard: BodyOutcome, is_open: bool) -> Came
 {
     match heard {
         BodyOutcome::Nothing => Came::Nothing,
+        BodyOutcome::Ended => Came::Nothing,
         BodyOutcome::Failed => Came::Refused,
         BodyOutcome::Met => taken_if(is_open),
+        BodyOutcome::Read(_) => taken_if(is_open),
         BodyOutcome::Shown { .. } => accepted_if(is_open),
         BodyOutcome::Written => accepted_if(is_open),
         BodyOutcome::Unwritten => taken_if(is_open),
@@ -81,6 +83,13 @@ impl Flood {
             refused: [0; PLACES],
             has_ticked: false,
         }
+    }
+
+    /// No body of any host was taken lately.
+    pub(crate) fn clear(&mut self)
+        ensures { self.new ≡ cleared self.old }
+    {
+        self.sent = [0; PLACES];
     }
 
     /// A turn ends, at whose end is a tick or none.

@@ -10,7 +10,7 @@ use std::alloc::Global;
 use std::sync::Arc;
 use std::thread::Parker;
 
-/// The line to the host at one place: the bodies that come from it, the frames that go to it, and what is known of it.
+/// The line to the host at one place: the bodies that come from it, of which an empty one says that no more come, the frames that go to it, and what is known of it.
 #[derive(Drop)]
 pub struct HostLine {
     from: Consumer<Vec<u8>>,
@@ -50,16 +50,6 @@ impl HostLine {
         ensures { Hears result self.old self.new }
     {
         self.from.pop().ok()
-    }
-
-    /// Whether the stream from the host has ended, and all its bodies were taken.
-    pub(crate) fn has_ended(&mut self) -> bool
-        ensures { LineGoes [] [] self.old self.new }
-    {
-        if !self.from.is_abandoned() {
-            return false;
-        }
-        self.from.is_empty()
     }
 
     /// Sends a frame. Returns false, and the frame is lost, if the host is cut off, if its ring is full, if there is no memory

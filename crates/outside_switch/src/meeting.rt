@@ -13,6 +13,7 @@ ghost use Rattle.outside_switch.specs.Says.{IsPassed};
 
 use crate::heard::BodyOutcome;
 use crate::places;
+use crate::sight::Sight;
 use crate::switch::Switch;
 use disk_dcdd::{SectorAddress, SectorWrite};
 use event_callbacks::PORTS;
@@ -60,6 +61,19 @@ impl<D: SectorStore> Switch<D> {
             }
             Transfer::Write(write) => self.meet_write(alloc, place, &write),
             Transfer::Get(address) => self.meet_get(alloc, place, address),
+            Transfer::Inspected {
+                number,
+                count,
+                bytes,
+            } => {
+                self.sight = Some(Sight {
+                    place,
+                    number,
+                    count,
+                    bytes,
+                });
+                BodyOutcome::Met
+            }
             _ => BodyOutcome::Failed,
         }
     }
@@ -169,7 +183,7 @@ impl<D: SectorStore> Switch<D> {
         };
         let answer = Frame::Transfer(Transfer::Sector(read));
         let _ = places::post(&mut self.lines, alloc, place, &answer);
-        BodyOutcome::Met
+        BodyOutcome::Read(address)
     }
 
     // The arbiter is asked, in the name of the host that is at the place.

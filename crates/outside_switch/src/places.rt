@@ -81,17 +81,6 @@ pub(crate) fn keep(lines: &mut [HostLine], place: u8, report: &Report) -> bool
     lines[place].keep(report)
 }
 
-/// Whether the stream from the host at a place has ended, and all its bodies were taken.
-pub(crate) fn has_ended(lines: &mut [HostLine], place: u8) -> bool
-    ensures { table.LinesGo [] lines.old lines.new }
-{
-    let place = usize::from(place);
-    if place >= lines.len() {
-        return false;
-    }
-    lines[place].has_ended()
-}
-
 /// The next body from the host at a place.
 pub(crate) fn next(lines: &mut [HostLine], place: u8) -> Option<Vec<u8>>
     ensures { table.HearsAt place result lines.old lines.new }

@@ -1,4 +1,5 @@
 //! The loop of the outside.
+ghost use Rattle.outside_switch.specs.Judging.{AreCounted};
 ghost use Rattle.outside_switch.specs.LoopRuns.{Ended, IsWhy, Went};
 
 use crate::session::{HostsEnd, Session};
@@ -23,6 +24,7 @@ pub fn run_hosts<D: SectorStore, S: Steward + Drop, C: Wait + Clock>(
 ) -> HostsEnd
     ensures { Ended result session.old session.new }
 {
+    session.flood.clear();
     let end = serve(rt, alloc, session, wake);
     session.switch.stop(alloc);
     end
@@ -36,6 +38,7 @@ fn serve<D: SectorStore, S: Steward + Drop, C: Wait + Clock>(
     session: &mut Session<D, S>,
     wake: &Parker,
 ) -> HostsEnd
+    requires { AreCounted session.old }
     ensures went { Went session.old session.new }
     ensures why { IsWhy result session.new }
 {

@@ -12,6 +12,7 @@ use crate::flood::Flood;
 use crate::port::PortEnd;
 use crate::steward::Steward;
 use console_terminal::{Keyboard, Screen};
+use disk_dcdd::SectorAddress;
 use i8080_words::R;
 use rtrb::{Consumer, Producer};
 use shared_disk::{SectorStore, SharedDisk};
@@ -30,8 +31,8 @@ pub enum HostsEnd {
     UserQuit,
     /// No more keys can come, all that came were taken, and the guest waits for one, with nothing on its way to a device.
     Settled,
-    /// No more keys can come, all that came were taken, and for as long as the session says the pair has shown and written nothing, though its
-    /// guest runs.
+    /// No more keys can come, all that came were taken, and for as long as the session says the pair has shown and written nothing and read
+    /// on no other track than before, though its guest runs.
     Silent,
     /// No host is left that has the machine.
     NoHosts,
@@ -63,8 +64,12 @@ pub(crate) struct Moments {
     // The number of the last tick.
     pub(crate) tick: u64,
     pub(crate) begun: u64,
-    // A key was typed, or the pair has shown or written something.
+    // A key was typed, or the pair has shown or written something, or read on another track than before; and what it read last.
     pub(crate) moved: u64,
+    pub(crate) read: Option<SectorAddress>,
+    // When the live host was asked last what its machine has, and the number of that question; 0 if it was not.
+    pub(crate) inspected: u64,
+    pub(crate) inspection: u64,
     // The user has asked for the end; and the number of the last tick by then.
     pub(crate) asked: Option<(u64, u64)>,
     // Which host is live, and of which generation.
@@ -108,6 +113,9 @@ impl<D: SectorStore, S: Steward + Drop> Session<D, S> {
                 tick: 0,
                 begun: 0,
                 moved: 0,
+                read: None,
+                inspected: 0,
+                inspection: 0,
                 asked: None,
                 live: None,
                 left: None,

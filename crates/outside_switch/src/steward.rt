@@ -1,6 +1,6 @@
 //! Whoever is told what becomes of the hosts, and says what becomes of packets between them, and how fast the guest runs.
 
-use crate::{HostLine, LinkState};
+use crate::{HostLine, Inspection, LinkState, Sight};
 use pair_events::Role;
 
 /// What becomes of the host at a place.
@@ -34,6 +34,14 @@ pub trait Steward {
     /// The hosts are so now, what each reported last, and how many of its frames were refused, by their places. It is told so now
     /// and then.
     fn looks(&mut self, _lines: &[HostLine], _refused: &[u64]) {}
+
+    /// What it asks of the machine of the host that serves, if anything. It is asked so in each turn, and asks until it is answered.
+    fn asks(&mut self) -> Option<Inspection> {
+        None
+    }
+
+    /// The host that serves has shown its machine.
+    fn sees(&mut self, _sight: &Sight) {}
 
     /// Whether all is to end, for a reason of the caller's own.
     fn is_over(&mut self) -> bool {

@@ -1,15 +1,18 @@
 //! The devices, the lines to all hosts, and the calls that a loop makes of them.
-ghost use Rattle.std.specs.Prelude.{◌≡◌, [], IfOk, OnErr, OnOk, Some, IfErr, IsOkUnless, false, if◌then◌else◌, nat_lt, length, slice_get};
+ghost use Rattle.std.specs.Prelude.{◌≡◌, ◌⊎◌, ℕ, [], List, IfOk, OnErr, OnOk, Some, IfErr, IsOkUnless, false, if◌then◌else◌, nat_lt, length, slice_get};
 ghost use Rattle.i8080_words.specs.declared.refusal.Fault.TheVariants.{OutOfMemory, Unknown};
 ghost use Rattle.outside_switch.specs.declared.heard.BodyOutcome.TheVariants as of_heard;
 ghost use Rattle.outside_switch.specs.declared.line.HostLine.{HostLine};
-ghost use Rattle.host_frames.specs.Frames.{Tells, said_by};
+ghost use Rattle.host_frames.specs.Frames.{IsBodyOf, Tells, Transfers, said_by};
+ghost use Rattle.pair_protocol.specs.Lawful.{Among};
 ghost use Rattle.host_frames.specs.declared.frame.Notice.TheVariants as notice;
+ghost use Rattle.host_frames.specs.declared.frame.Transfer.TheVariants as of_transfer;
 ghost use Rattle.outside_switch.specs.Held.{at_boot};
+ghost use Rattle.outside_switch.specs.Causes.{MayCut, came_at};
 ghost use Rattle.outside_switch.specs.DeviceCalls.{key_answer, typed_after, typed_answer};
 ghost use Rattle.outside_switch.specs.Goes.{Adds, BeginsSo, BegunSo, GoesWith, HearsBody, HearsFrame, HearsNext, Lines, NextSo, SendsKey, first_number};
-ghost use Rattle.outside_switch.specs.Heeds.{HasRoomFor, HeedsAt, HeedsBody, OthersStay, open_in};
-ghost use Rattle.outside_switch.specs.Lines.{IsClosed, IsNamed, PostsAll};
+ghost use Rattle.outside_switch.specs.Heeds.{HasRoomFor, HeedsAt, HeedsBody, OthersStay, dropped_as, open_in};
+ghost use Rattle.outside_switch.specs.Lines.{IsClosed, IsNamed, Posts, PostsAll};
 ghost use Rattle.outside_switch.specs.Meets.{seen};
 ghost use Rattle.outside_switch.specs.Passing.{passed_of, typed_of};
 
@@ -18,6 +21,7 @@ use crate::heard::BodyOutcome;
 use crate::line::HostLine;
 use crate::link::{Link, LinkState};
 use crate::places::{self, Audience};
+use crate::sight::{Inspection, Sight};
 use event_callbacks::PORTS;
 use host_frames::{Frame, Notice, Transfer, frame_of};
 use i8080_words::{Fault, R};
@@ -34,6 +38,8 @@ pub struct Switch<D: SectorStore> {
     pub(crate) devices: OutsideDevices<D>,
     pub(crate) lines: Vec<HostLine>,
     pub(crate) link: Link,
+    // What a host has shown of its machine that was not handed on yet.
+    pub(crate) sight: Option<Sight>,
 }
 
 impl<D: SectorStore> Switch<D> {
@@ -50,6 +56,7 @@ impl<D: SectorStore> Switch<D> {
             devices,
             lines: Vec::new(alloc),
             link: Link::new(),
+            sight: None,
         })
     }
 
@@ -90,11 +97,11 @@ impl<D: SectorStore> Switch<D> {
     }
 
     /// Takes the next body of the host at a place, and does what it asks for. The screen of each port may have room. A host that has
-    /// failed is cut off, and what comes from one that was cut off is dropped.
+    /// failed, or whose stream has ended, is cut off, and what comes from one that was cut off is dropped.
     pub fn hear(&mut self, alloc: Global, place: u8, rooms: [bool; PORTS]) -> BodyOutcome
         ensures goes { GoesWith (passed_of result) (seen self.old) (seen self.new) }
         ensures hears { HearsNext place rooms (seen self.old) (seen self.new) result }
-        ensures cut { result ≡ of_heard.Failed → open_in (slice_get self.new.lines.items place) ≡ false }
+        ensures cut { (result ≡ of_heard.Failed) ⊎ (result ≡ of_heard.Ended) → open_in (slice_get self.new.lines.items place) ≡ false }
         ensures room { HasRoomFor rooms result }
     {
         match self.next(place) {
@@ -103,7 +110,7 @@ impl<D: SectorStore> Switch<D> {
         }
     }
 
-    // Does what a body asks for that came from the host at a place.
+    // Does what a body asks for that came from the host at a place. An empty one says that the stream from it has ended.
     fn hear_body(
         &mut self,
         alloc: Global,
@@ -111,12 +118,17 @@ impl<D: SectorStore> Switch<D> {
         body: &[u8],
         rooms: [bool; PORTS],
     ) -> BodyOutcome
+        requires { Among body.now (came_at self.old.lines.items place) }
         ensures goes { HearsBody (passed_of result) place body.now (seen self.old) (seen self.new) }
         ensures heeds { HeedsBody place rooms body.now self.old.lines.items self.old.devices self.new.devices result }
-        ensures cut { result ≡ of_heard.Failed → open_in (slice_get self.new.lines.items place) ≡ false }
+        ensures cut { (result ≡ of_heard.Failed) ⊎ (result ≡ of_heard.Ended) → open_in (slice_get self.new.lines.items place) ≡ false }
     {
         if !places::is_open(&self.lines, place) {
-            return BodyOutcome::Met;
+            return dropped_as(body);
+        }
+        if body.is_empty() {
+            self.gone(alloc, place);
+            return BodyOutcome::Ended;
         }
         match frame_of(body) {
             Ok(frame) => self.hear_frame(alloc, place, frame, rooms),
@@ -142,9 +154,10 @@ impl<D: SectorStore> Switch<D> {
         frame: Frame<'_>,
         rooms: [bool; PORTS],
     ) -> BodyOutcome
+        requires { (body : List ℕ) × Among body (came_at self.old.lines.items place) × IsBodyOf (said_by frame) body }
         ensures goes { HearsFrame (passed_of result) place (said_by frame.entry) (seen self.old) (seen self.new) }
         ensures heeds { HeedsAt place rooms (said_by frame.entry) self.old.lines.items self.old.devices self.new.devices result }
-        ensures cut { result ≡ of_heard.Failed → open_in (slice_get self.new.lines.items place) ≡ false }
+        ensures cut { (result ≡ of_heard.Failed) ⊎ (result ≡ of_heard.Ended) → open_in (slice_get self.new.lines.items place) ≡ false }
     {
         match self.meet(alloc, place, frame, rooms) {
             BodyOutcome::Failed => {
@@ -155,19 +168,10 @@ impl<D: SectorStore> Switch<D> {
         }
     }
 
-    /// Whether the stream from the host at a place has ended now: it was not cut off before.
-    pub fn has_ended(&mut self, place: u8) -> bool
-        ensures { GoesWith [] (seen self.old) (seen self.new) }
-    {
-        if !places::is_open(&self.lines, place) {
-            return false;
-        }
-        places::has_ended(&mut self.lines, place)
-    }
-
-    /// The host at a place is gone: it is cut off, and all others are told.
+    /// The host at a place is gone, for a cause: it is cut off, and all others are told.
     #[tactic(auto, using(crate::proofs::Acting::gone_met, crate::proofs::Going::acts, crate::proofs::Going::closes, crate::proofs::Going::then_with))]
-    pub fn gone(&mut self, alloc: Global, place: u8)
+    pub(crate) fn gone(&mut self, alloc: Global, place: u8)
+        requires { MayCut self.old.lines.items place }
         ensures goes { GoesWith [] (seen self.old) (seen self.new) }
         ensures devices { self.new.devices ≡ self.old.devices }
         ensures cut { open_in (slice_get self.new.lines.items place) ≡ false }
@@ -213,6 +217,17 @@ impl<D: SectorStore> Switch<D> {
             return false;
         };
         let frame = Frame::Transfer(Transfer::Key { port, index, byte });
+        places::post(&mut self.lines, alloc, place, &frame)
+    }
+
+    /// Asks the host at a place what its machine has. Returns false if the frame is lost.
+    pub fn inspect(&mut self, alloc: Global, place: u8, asked: Inspection) -> bool
+        ensures goes { GoesWith [] (seen self.old) (seen self.new) }
+        ensures posts { Posts place (Transfers (of_transfer.Inspect asked.number asked.page)) result
+            self.old.lines.items self.new.lines.items }
+    {
+        let Inspection { number, page } = asked;
+        let frame = Frame::Transfer(Transfer::Inspect { number, page });
         places::post(&mut self.lines, alloc, place, &frame)
     }
 
@@ -280,6 +295,17 @@ impl<D: SectorStore> Switch<D> {
     {
         let Switch { devices, .. } = self;
         devices.into_disk()
+    }
+}
+
+// What becomes of a body of a host that was cut off before.
+fn dropped_as(body: &[u8]) -> BodyOutcome
+    ensures { result ≡ dropped_as body.now }
+{
+    if body.is_empty() {
+        BodyOutcome::Nothing
+    } else {
+        BodyOutcome::Met
     }
 }
 

@@ -1,13 +1,16 @@
 //! One turn of the outside.
 ghost use Rattle.std.specs.Prelude.{◌≡◌, ◌∷◌, []};
+ghost use Rattle.outside_switch.specs.Causes.{MayCut};
 ghost use Rattle.outside_switch.specs.Goes.{GoesWith};
 ghost use Rattle.outside_switch.specs.Meets.{seen};
 ghost use Rattle.outside_switch.specs.Passing.{Shown, passed_of};
 ghost use Rattle.outside_switch.specs.declared.heard.BodyOutcome.{BodyOutcome};
 ghost use Rattle.outside_switch.specs.declared.heard.BodyOutcome.TheVariants as of_heard;
 ghost use Rattle.outside_switch.specs.Heeds.{HasRoomFor};
+ghost use Rattle.outside_switch.specs.declared.flood.Came.TheVariants as of_came;
 ghost use Rattle.outside_switch.specs.Floods.{has_flooded, refused_one, sent_one, ticked};
-ghost use Rattle.outside_switch.specs.Judging.{HearsAndCounts, HearsOne, IsCutOff, Judges, TakesOne, is_due, is_open};
+ghost use Rattle.outside_switch.specs.Judging.{HearsAndCounts, HearsOne, IsCutOff, Judges, TakesOne, is_due, is_open, AreCounted, HasOneMore};
+ghost use Rattle.outside_switch.specs.Silence.{after_read, is_again, remembered};
 ghost use Rattle.outside_switch.specs.LoopRuns.{IsTold, MayShow, SeesLive, Went};
 
 use crate::flood::{Came, came_of};
@@ -15,6 +18,7 @@ use crate::live::{Live, live_of, spare_for};
 use crate::session::Session;
 use crate::steward::{HostEvent, Steward};
 use crate::{BodyOutcome, HostLine};
+use disk_dcdd::SectorAddress;
 use event_callbacks::PORTS;
 use pair_events::Role;
 use shared_disk::SectorStore;
@@ -35,14 +39,15 @@ const STOPPED: u64 = 250_000;
 impl<D: SectorStore, S: Steward + Drop> Session<D, S> {
     /// One turn, at this time. Returns whether anything has come.
     pub(crate) fn turn(&mut self, alloc: Global, now: u64) -> bool
+        requires { AreCounted self.old }
         ensures { Went self.old self.new }
     {
         self.see_stop(now);
         self.see_fate();
         let has_keys = self.take_keys(now);
         let has_bodies = self.hear_all(alloc, now);
-        self.see_ends(alloc);
         self.see_left();
+        self.see_sight();
         self.serve_live(alloc, now);
         self.tick(alloc, now);
         has_keys || has_bodies
@@ -108,6 +113,7 @@ impl<D: SectorStore, S: Steward + Drop> Session<D, S> {
     // Hears the hosts at all places.
     #[tactic(auto, using(crate::proofs::TurnsGoing::stays, crate::proofs::TurnsGoing::and_then))]
     fn hear_all(&mut self, alloc: Global, now: u64) -> bool
+        requires { AreCounted self.old }
         ensures { Went self.old self.new }
     {
         let mut has_heard = false;
@@ -128,6 +134,7 @@ impl<D: SectorStore, S: Steward + Drop> Session<D, S> {
     // Hears the host at one place.
     #[tactic(auto, using(crate::proofs::TurnsGoing::stays, crate::proofs::TurnsGoing::and_then))]
     fn hear_host(&mut self, alloc: Global, now: u64, place: u8) -> bool
+        requires { AreCounted self.old }
         ensures { Went self.old self.new }
     {
         let mut has_heard = false;
@@ -143,6 +150,7 @@ impl<D: SectorStore, S: Steward + Drop> Session<D, S> {
     // Hears the next body of a host, and counts it. Returns false if there is none.
     #[tactic(auto, using(crate::proofs::TurnsGoing::and_then))]
     fn hear_next(&mut self, alloc: Global, now: u64, place: u8) -> bool
+        requires { AreCounted self.old }
         ensures went { Went self.old self.new }
         ensures hears { HearsAndCounts place self.old self.new }
     {
@@ -166,6 +174,7 @@ impl<D: SectorStore, S: Steward + Drop> Session<D, S> {
     fn hear_one(&mut self, alloc: Global, now: u64, place: u8) -> BodyOutcome
         ensures went { Went self.old self.new }
         ensures hears { HearsOne place result self.old self.new }
+        ensures moments { self.new.moments ≡ remembered now result self.old.moments }
     {
         let rooms = self.rooms();
         let heard = self.switch.hear(alloc, place, rooms);
@@ -176,6 +185,7 @@ impl<D: SectorStore, S: Steward + Drop> Session<D, S> {
     // Counts what became of the next body of a host.
     #[tactic(auto, using(crate::proofs::TurnsGoing::rested_one, crate::proofs::TurnsGoing::refused_one, crate::proofs::TurnsGoing::paid_one))]
     fn judge(&mut self, alloc: Global, place: u8, came: Came)
+        requires { came ≡ of_came.Taken → HasOneMore place self.old }
         ensures went { Went self.old self.new }
         ensures judges { Judges came place self.old self.new }
     {
@@ -190,6 +200,7 @@ impl<D: SectorStore, S: Steward + Drop> Session<D, S> {
     // Counts a body that was taken of a host, which is cut off if that is one too many.
     #[tactic(auto, using(crate::proofs::TurnsGoing::takes, crate::proofs::Cutting::few, crate::proofs::Cutting::many))]
     fn take(&mut self, alloc: Global, place: u8)
+        requires { HasOneMore place self.old }
         ensures went { Went self.old self.new }
         ensures takes { TakesOne (has_flooded (sent_one place self.old.flood) place) place self.old self.new }
     {
@@ -200,6 +211,7 @@ impl<D: SectorStore, S: Steward + Drop> Session<D, S> {
 
     // Cuts off a host that has sent too much; what was too much is refused.
     fn cut_off(&mut self, alloc: Global, place: u8)
+        requires { MayCut self.old.switch.lines.items place }
         ensures goes { GoesWith [] (seen self.old.switch) (seen self.new.switch) }
         ensures cut { IsCutOff place (refused_one place self.old.flood) self.old self.new }
         ensures ports { (self.new.first ≡ self.old.first) × (self.new.second ≡ self.old.second) }
@@ -213,6 +225,7 @@ impl<D: SectorStore, S: Steward + Drop> Session<D, S> {
     // Whether the screen has room for a byte of each port.
     fn rooms(&mut self) -> [bool; PORTS]
         ensures told { IsTold [] self.old self.new }
+        ensures moments { self.new.moments ≡ self.old.moments }
         ensures room { (heard : BodyOutcome) → HasRoomFor result heard → MayShow self.new.screen heard }
     {
         let has_room = self.screen.has_room();
@@ -223,16 +236,19 @@ impl<D: SectorStore, S: Steward + Drop> Session<D, S> {
     #[tactic(auto, using(crate::proofs::TurnsGoing::tells_nothing))]
     fn tell(&mut self, now: u64, place: u8, heard: BodyOutcome)
         requires { MayShow self.old.screen heard }
-        ensures { IsTold (passed_of heard) self.old self.new }
+        ensures told { IsTold (passed_of heard) self.old self.new }
+        ensures moments { self.new.moments ≡ remembered now heard self.old.moments }
     {
         match heard {
             BodyOutcome::Shown { port, byte } => self.show(now, port, byte),
+            BodyOutcome::Read(address) => self.see_read(now, address),
             BodyOutcome::Written => self.moments.moved = now,
             BodyOutcome::Nothing | BodyOutcome::Met => {}
             BodyOutcome::Unwritten => self.steward.hears(place, HostEvent::Unwritten),
             BodyOutcome::Became(role) => self.see_role(place, role),
             BodyOutcome::Won(generation) => self.steward.hears(place, HostEvent::Won(generation)),
             BodyOutcome::Lost(generation) => self.steward.hears(place, HostEvent::Lost(generation)),
+            BodyOutcome::Ended => self.steward.hears(place, HostEvent::Gone),
             BodyOutcome::Failed => self.steward.hears(place, HostEvent::Failed),
         }
     }
@@ -241,45 +257,35 @@ impl<D: SectorStore, S: Steward + Drop> Session<D, S> {
     #[tactic(auto, using(crate::proofs::TurnsGoing::shows))]
     fn show(&mut self, now: u64, port: u8, byte: u8)
         requires { MayShow self.old.screen (of_heard.Shown port byte) }
-        ensures { IsTold (Shown port byte ∷ []) self.old self.new }
+        ensures told { IsTold (Shown port byte ∷ []) self.old self.new }
+        ensures moments { self.new.moments ≡ record self.old.moments { moved = now } }
     {
         self.moments.moved = now;
         self.screen.show(port, byte);
     }
 
+    // A sector was read: the pair goes on if its track is another one than before.
+    #[tactic(auto, using(crate::proofs::TurnsGoing::tells_nothing))]
+    fn see_read(&mut self, now: u64, address: SectorAddress)
+        ensures told { IsTold [] self.old self.new }
+        ensures moments { self.new.moments ≡ after_read now address self.old.moments }
+    {
+        if is_again(self.moments.read, address) {
+            return;
+        }
+        self.moments.moved = now;
+        self.moments.read = Some(address);
+    }
+
     // The host at a place reports another role.
     #[tactic(auto, using(crate::proofs::TurnsGoing::tells_nothing))]
     fn see_role(&mut self, place: u8, role: Option<Role>)
-        ensures { IsTold [] self.old self.new }
+        ensures told { IsTold [] self.old self.new }
+        ensures moments { self.new.moments ≡ self.old.moments }
     {
         let generation = generation_at(self.switch.lines(), place);
         self.steward
             .hears(place, HostEvent::Became(generation, role));
-    }
-
-    // Hosts whose streams have ended are gone.
-    #[tactic(auto, using(crate::proofs::TurnsGoing::stays, crate::proofs::TurnsGoing::and_then))]
-    fn see_ends(&mut self, alloc: Global)
-        ensures { Went self.old self.new }
-    {
-        for place in 0..=u8::MAX {
-            if !self.has_place(place) {
-                break;
-            }
-            self.see_end(alloc, place);
-        }
-    }
-
-    // If the stream of the host at a place has ended, it is gone.
-    #[tactic(auto, using(crate::proofs::TurnsGoing::switched, crate::proofs::TurnsGoing::switched_twice))]
-    fn see_end(&mut self, alloc: Global, place: u8)
-        ensures { Went self.old self.new }
-    {
-        if !self.switch.has_ended(place) {
-            return;
-        }
-        self.switch.gone(alloc, place);
-        self.steward.hears(place, HostEvent::Gone);
     }
 
     // Sends the live host its keys, and has it begin with a spare if it is alone.
@@ -292,6 +298,7 @@ impl<D: SectorStore, S: Steward + Drop> Session<D, S> {
         };
         self.see_live(&live);
         self.send_keys(alloc, now, &live);
+        self.inspect(alloc, now, &live);
         if live.report.role == Some(Role::Alone) {
             self.begin(alloc, now, &live);
         }
@@ -333,6 +340,37 @@ impl<D: SectorStore, S: Steward + Drop> Session<D, S> {
             .send_keys(&mut self.switch, alloc, now, (live.place, 0), first);
         self.second
             .send_keys(&mut self.switch, alloc, now, (live.place, 1), second);
+    }
+
+    // Asks the live host what its machine has if the steward asks that, and again after a while.
+    #[tactic(auto, using(crate::proofs::TurnsGoing::stays, crate::proofs::TurnsGoing::same, crate::proofs::TurnsGoing::switched))]
+    fn inspect(&mut self, alloc: Global, now: u64, live: &Live)
+        ensures { Went self.old self.new }
+    {
+        let Some(asked) = self.steward.asks() else {
+            return;
+        };
+        let is_old = self.moments.inspection == asked.number;
+        if is_old && now.saturating_sub(self.moments.inspected) < TICK {
+            return;
+        }
+        self.moments.inspected = now;
+        self.moments.inspection = asked.number;
+        let _ = self.switch.inspect(alloc, live.place, asked);
+    }
+
+    // Hands on what the live host has shown of its machine. What another one shows is dropped.
+    #[tactic(auto, using(crate::proofs::TurnsGoing::stays, crate::proofs::TurnsGoing::seen_same))]
+    fn see_sight(&mut self)
+        ensures { Went self.old self.new }
+    {
+        let Some(sight) = self.switch.sight else {
+            return;
+        };
+        self.switch.sight = None;
+        if is_live(self.switch.lines(), sight.place) {
+            self.steward.sees(&sight);
+        }
     }
 
     // Has a host that is alone begin with a spare, if there is one.
@@ -379,6 +417,14 @@ impl<D: SectorStore, S: Steward + Drop> Session<D, S> {
     }
 }
 
+// Whether the host at a place is live.
+fn is_live(lines: &[HostLine], place: u8) -> bool {
+    match live_of(lines) {
+        Some(live) => live.place == place,
+        None => false,
+    }
+}
+
 // Of which generation the host at a place is, by what it reported last; 0 if it has reported nothing.
 fn generation_at(lines: &[HostLine], place: u8) -> u32 {
     let Some(line) = lines.get(usize::from(place)) else {
@@ -387,5 +433,15 @@ fn generation_at(lines: &[HostLine], place: u8) -> u32 {
     match line.report() {
         Some(report) => report.generation,
         None => 0,
+    }
+}
+
+// Whether a sector is on the track of the last that was read.
+fn is_again(last: Option<SectorAddress>, address: SectorAddress) -> bool
+    ensures { result ≡ is_again last address }
+{
+    match last {
+        Some(last) => last.drive == address.drive && last.track == address.track,
+        None => false,
     }
 }

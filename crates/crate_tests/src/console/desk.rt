@@ -3,7 +3,7 @@
 use console_terminal::{Act, Command, Desk, Edit, Heard, Mistake, Order, Port, Sequence};
 
 // Some bytes, what the last of them does, and the command line then, if one is open.
-static BYTES: [(&[u8], Act, Option<&[u8]>); 38] = [
+static BYTES: [(&[u8], Act, Option<&[u8]>); 44] = [
     (b"a", Act::Key(b'a'), None),
     (b"\x03", Act::Key(0x03), None),
     (b"\r", Act::Key(b'\r'), None),
@@ -13,7 +13,27 @@ static BYTES: [(&[u8], Act, Option<&[u8]>); 38] = [
     (b"\x05a", Act::Edits(Edit::Adds(b'a')), Some(b"a")),
     (b"\x05~", Act::Edits(Edit::Adds(b'~')), Some(b"~")),
     (b"\x05\x1f", Act::Nothing, Some(b"")),
-    (b"\x05\xe4", Act::Nothing, Some(b"")),
+    // Bytes of any character, in UTF-8 two of each.
+    (b"\x05\xe4", Act::Edits(Edit::Adds(0xe4)), Some(b"\xe4")),
+    (
+        b"\x05a\xc3\xa4\x7f",
+        Act::Edits(Edit::TakesBack),
+        Some(b"a"),
+    ),
+    (
+        b"\x05\xc3\xa4\x1b[Da",
+        Act::Edits(Edit::Adds(b'a')),
+        Some(b"a\xc3\xa4"),
+    ),
+    (
+        b"\x05\xc3\xa4\xc3\x9f\x01\x1b[C\x1b[3~",
+        Act::Edits(Edit::Deletes),
+        Some(b"\xc3\xa4"),
+    ),
+    // Tab.
+    (b"\x05he\t", Act::Edits(Edit::Completes), Some(b"help ")),
+    (b"\x05s\t", Act::Lists, Some(b"s")),
+    (b"\x05x\t", Act::Edits(Edit::Completes), Some(b"x")),
     (b"\x05\x05", Act::Key(0x05), None),
     (b"\x05a\x05", Act::Nothing, Some(b"a")),
     (b"\x05ab\x08", Act::Edits(Edit::TakesBack), Some(b"a")),

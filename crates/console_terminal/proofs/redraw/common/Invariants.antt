@@ -1,6 +1,6 @@
 -- What is left of both begins with as many equal bytes as are not counted yet.
 use Rattle.std.proofs.Common.{◌≡◌, ◌+◌, length}
-use Rattle.console_terminal.specs.Editing.{common}
+use Rattle.console_terminal.specs.Completing.{common}
 use Rattle.console_terminal.proofs.redraw.common.Given as goal
 
 abbrev pub invariant-equal : goal.invariant-equal

@@ -11,10 +11,10 @@ pub returns-clause-went : goal.returns-clause-went
 returns-clause-went g c =
     hears c.args.self.now c.rooms-rooms.new.self (record c.rooms-rooms.new.self { switch = c.hear-heard.new.self })
     c.tell.new.self (passed_of c.hear-heard.result) (types_nothing c.hear-heard.result 0) (types_nothing c.hear-heard.result 1)
-    c.rooms-rooms.ensures.told c.hear-heard.ensures.goes refl refl refl refl c.tell.ensures
+    c.rooms-rooms.ensures.told c.hear-heard.ensures.goes refl refl refl refl c.tell.ensures.told
 
 pub returns-clause-hears : goal.returns-clause-hears
 returns-clause-hears g c =
     hears_one c.args.self.now c.rooms-rooms.new.self (record c.rooms-rooms.new.self { switch = c.hear-heard.new.self })
     c.tell.new.self c.args.place c.rooms-rooms.result c.hear-heard.result c.rooms-rooms.ensures.told
-    c.hear-heard.ensures.hears refl c.tell.ensures
+    c.hear-heard.ensures.hears refl c.tell.ensures.told

@@ -10,7 +10,7 @@ pub returns-clause-goes : goal.returns-clause-goes
 returns-clause-goes g c =
     let mid = seen c.close.new.self in
     let new = seen c.post_all.new.self in
-    then_with (seen c.args.self.now) mid new [] [] (closes (seen c.args.self.now) mid c.args.place c.close.ensures)
+    then_with (seen c.args.self.now) mid new [] [] (closes (seen c.args.self.now) mid c.args.place c.requires c.close.ensures)
     (acts mid new [] (gone_met c.args.place mid new c.post_all.ensures.devices c.post_all.ensures.posts))
 
 pub returns-clause-cut : goal.returns-clause-cut
