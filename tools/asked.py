@@ -6,9 +6,9 @@ import shlex
 
 import disks
 from doing import steps_in
-from files import hex_lines, image_in, place_for, read, refuse_missing, save_all
+from files import attached_words, hex_lines, image_in, place_for, read, refuse_missing, save_all, synced_words
 from hosts import ROLES
-from options import accepted, complain, count_in, drives_in, key_in, key_lines, key_name, memory_line, numbered, sense_line, spelled, taken, told
+from options import accepted, complain, count_in, drives_in, key_in, key_lines, key_name, memory_line, numbered, sense_line, spelled, taken, told, word_in
 from places import is_place
 
 # The options that say how many hosts there are, and how they are run.
@@ -26,13 +26,6 @@ ESCAPE = 0x05
 def escape_in(word):
     """The byte that the escape key sends, as the program's option names it."""
     return key_in("--escape", word)
-
-
-def word_in(option, word, words):
-    """The word that an option was given, if it is one of two."""
-    if word not in words:
-        complain(f"{option} {word}: expected `{words[0]}` or `{words[1]}`")
-    return word
 
 
 class Asked:
@@ -70,9 +63,9 @@ class Asked:
             drive, path = numbered(option, value, 3)
             self.saves[drive] = place_for(self.saves, drive, path)
         elif option == "--attach":
-            self.attach(*numbered(option, value, 3))
+            self.own += attached_words(self.attached, *numbered(option, value, 3))
         elif option == "--sync":
-            self.own += ["--unsynced"] * (word_in(option, value, ("on", "off")) == "off")
+            self.own += synced_words(value)
         elif option == "--speed":
             self.steps.insert(0, (None, b"speed %d" % count_in(option, value, 10_000)))
         elif option == "--silence":
@@ -85,13 +78,6 @@ class Asked:
             self.take_hosts(option, value)
         else:
             self.take_guest(option, value)
-
-    def attach(self, drive, path):
-        """A file is the disk of a drive. The program opens it, and refuses it if it has to."""
-        if drive in self.attached or not path:
-            complain(f"--attach {drive}={path}: " + ("expected the name of a file" if not path else f"drive {drive} has {self.attached[drive]}"))
-        self.attached[drive] = path
-        self.own += [f"--attach{drive}={path}"]
 
     def take_hosts(self, option, value):
         """How many hosts there are, and how they are run."""

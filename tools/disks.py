@@ -6,6 +6,8 @@ import re
 import stat
 import tempfile
 
+from holding import refuse_locked
+
 TRACKS, SECTORS, SECTOR_BYTES = 77, 32, 137
 IMAGE_BYTES = TRACKS * SECTORS * SECTOR_BYTES
 PLACES = [(track, sector) for track in range(TRACKS) for sector in range(SECTORS)]
@@ -70,9 +72,11 @@ def mode_at(path):
 
 
 def write(path, image):
-    """Writes a file whole, or leaves it as it was. A symbolic link is followed, and a file that is replaced keeps its mode."""
+    """Writes a file whole, or leaves it as it was, as one that somebody else has. A symbolic link is followed, and a file that is replaced
+    keeps its mode."""
     path = os.path.realpath(path)
     mode = mode_at(path)
+    refuse_locked(path)
     with tempfile.NamedTemporaryFile(dir=os.path.dirname(path), delete=False) as file:
         try:
             file.write(image)

@@ -5,7 +5,8 @@ import re
 import sys
 
 import disks
-from options import complain
+from holding import IN_USE, has_file, has_name
+from options import complain, word_in
 
 
 def read(path):
@@ -74,7 +75,28 @@ def place_for(saves, drive, path):
         disks.mode_at(path)
     except OSError as error:
         complain(f"{path} cannot be written: {error.strerror}")
+    if not has_name(path) or not has_file(path):
+        complain(f"{path}: {IN_USE}")
     return path
+
+
+def attached_words(attached, drive, path):
+    """The word by which the program has a file as the disk of a drive, beside those that are attached already. The program opens it, and
+    refuses it if it has to."""
+    option = f"--attach {drive}={path}"
+    if not path:
+        complain(f"{option}: expected the name of a file")
+    if drive in attached:
+        complain(f"{option}: drive {drive} has {attached[drive]}")
+    if not has_name(path):
+        complain(f"{path}: {IN_USE}")
+    attached[drive] = path
+    return [f"--attach{drive}={path}"]
+
+
+def synced_words(word):
+    """The word by which a write to such a file is done once the file system has it, if that is wanted."""
+    return ["--unsynced"] * (word_in("--sync", word, ("on", "off")) == "off")
 
 
 def refuse_missing(saves, setup, given):

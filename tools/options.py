@@ -141,6 +141,13 @@ def count_in(option, word, least):
     return int(word)
 
 
+def word_in(option, word, words):
+    """The word that an option was given, if it is one of two."""
+    if word not in words:
+        complain(f"{option} {word}: expected `{words[0]}` or `{words[1]}`")
+    return word
+
+
 def key_in(option, word):
     """The byte that a key sends, as the program's options name it."""
     named = re.fullmatch(r"\^([?-_a-z])", word)
